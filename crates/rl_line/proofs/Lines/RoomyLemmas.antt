@@ -1,5 +1,5 @@
 -- Texts for which a line has room: one where a part of it gives way, goes in, or moves.
-use Rattle.rl_line.proofs.Common.{◌∙◌, ◌≡◌, ℕ, ◌+◌, ◌-◌, ◌≤◌, ◌++◌, [], List, arith, ap, length, count_by, slice_range, take, drop, length-append, length-between, length-drop, length-take-le, take-append-drop, insert_slice, remove_range, replace_range, is_newline, string_bytes, string_capacity, subst, vec_capacity, HasRoom, IsLine, Line, RoomyLine, line_of}
+use Rattle.rl_line.proofs.Common.{common_steps, ◌∙◌, ◌≡◌, ℕ, ◌+◌, ◌-◌, ◌≤◌, ◌++◌, [], List, arith, ap, length, count_by, slice_range, take, drop, length-append, length-between, length-drop, length-take-le, take-append-drop, insert_slice, remove_range, replace_range, is_newline, string_bytes, string_capacity, subst, vec_capacity, HasRoom, IsLine, Line, RoomyLine, line_of}
 use Rattle.rl_line.specs.declared.roomy_line.RoomyLine.TheInside.{Inside}
 use Rattle.rl_base.proofs.Texts.TextLemmas.{removed-is_replaced}
 use Rattle.rl_line.proofs.Lines.LineStartLemmas.{length-table, newlines-append, newlines-replaced, newlines-slice}
@@ -30,10 +30,7 @@ HasRoom-inserted text part i r bytes starts = record { bytes = omega (arith, byt
 pub HasRoom-moved : (text left part : List ℕ) (i j front : ℕ) (r : RoomyLine) → i ≤ j → j ≤ length text → left ≡ remove_range text i j → part ≡ slice_range text i j → HasRoom text r
     → HasRoom (insert_slice left front part) r
 HasRoom-moved text left part i j front r order within gone moved h =
-    let same = gone ∙ removed-is_replaced text i j in
-    HasRoom-inserted left part front r
-    (omega (arith, h.bytes, ap length same, length-swapped text [] i j order within, ap length moved, length-between text i j within))
-    (omega (arith, h.starts, ap (count_by is_newline) same, newlines-replaced text [] i j order, ap (count_by is_newline) moved, newlines-slice text i j))
+    grind (arith, common_steps, removed-is_replaced, HasRoom-inserted, length-swapped, length-between, newlines-replaced, newlines-slice)
 
 -- the text without a range
 pub HasRoom-removed : (text : List ℕ) (i j : ℕ) (r : RoomyLine) → i ≤ j → j ≤ length text → HasRoom text r → HasRoom (replace_range text i j []) r
@@ -43,10 +40,7 @@ HasRoom-removed text i j r order within h =
 -- there is room for the text that is there
 pub HasRoom-own : (a : Inside) (r : RoomyLine) → IsLine (string_bytes a.text) a.starts.places.items a.starts.border a.pos a.limit
     → record { line = line_of (string_bytes a.text) a.pos a.limit a.can_growth; bytes = string_capacity a.text; starts = vec_capacity a.starts.places } ≡ r → HasRoom r.line.text r
-HasRoom-own a r is view = subst (λ (s : RoomyLine). HasRoom s.line.text s) view (record {
-  bytes = omega (arith, a.text.bytes.ok.0, a.text.bytes.ok.1);
-  starts = omega (arith, a.starts.places.ok.0, a.starts.places.ok.1, length-table _ _ _ is.table);
-})
+HasRoom-own a r is view = grind (arith, common_steps, length-table)
 
 -- ---- a part of a line, through the two values that a method opens
 pub same-line : (r s : RoomyLine) → r ≡ s → r.line ≡ s.line

@@ -1,6 +1,6 @@
 -- The steps of an indent: the parts that spaces go in by, the places after a change at the start of a line, and the
 -- lines that are left.
-use Rattle.rl_line.proofs.Common.{Some, ◌≡◌, ℕ, zero, suc, ◌+◌, ◌-◌, ◌*◌, sum, length-append, ◌/◌, ◌%◌, ◌<◌, ◌≤◌, Bool, true, false, List, [], ◌∷◌, ◌++◌, length, take, drop, slice_range, min, max, refl, sym, ap, ap₂, subst, ◌∙◌, arith, append_assoc, ltb-true, ltb-false, eqb, eqb-true, ne_eqb, get_or, drop-cons, ◌==◌, nat_lt, if◌then◌else◌, repeat, insert_slice, remove_range, replace_range, is_some, IsAscii, IsCharBoundary, IsUtf8, trim_start, nat_tests, length-take-le, drop-drop, append-nil, get_or-drop, get_or-take, take-append-drop, take-take, length-drop, sum_by-append, sum_by-cons, length-between, IsCharBoundary-end, IsCharBoundary-from_drop, IsAscii-nil, IsAscii-cons, same_Some, Event, InsertStr, Delete, apply, Direction, lines, last_line, line_number, text_of_line, start_of_line, end_of_line, greatest_boundary, Forward, Refusal, blanks, line_plan, lines_plan, spaces, parts, put_spaces, pushed, pulled, Plan, Step, after, Taken, Completed, Done, Halted, after_steps, single, Line, stepped}
+use Rattle.rl_line.proofs.Common.{common_steps, Some, ◌≡◌, ℕ, zero, suc, ◌+◌, ◌-◌, ◌*◌, sum, length-append, ◌/◌, ◌%◌, ◌<◌, ◌≤◌, Bool, true, false, List, [], ◌∷◌, ◌++◌, length, take, drop, slice_range, min, max, refl, sym, ap, ap₂, subst, ◌∙◌, arith, append_assoc, ltb-true, ltb-false, eqb, eqb-true, ne_eqb, get_or, drop-cons, ◌==◌, nat_lt, if◌then◌else◌, repeat, insert_slice, remove_range, replace_range, is_some, IsAscii, IsCharBoundary, IsUtf8, trim_start, nat_tests, length-take-le, drop-drop, append-nil, get_or-drop, get_or-take, take-append-drop, take-take, length-drop, sum_by-append, sum_by-cons, length-between, IsCharBoundary-end, IsCharBoundary-from_drop, IsAscii-nil, IsAscii-cons, same_Some, Event, InsertStr, Delete, apply, Direction, lines, last_line, line_number, text_of_line, start_of_line, end_of_line, greatest_boundary, Forward, Refusal, blanks, line_plan, lines_plan, spaces, parts, put_spaces, pushed, pulled, Plan, Step, after, Taken, Completed, Done, Halted, after_steps, single, Line, stepped}
 use Rattle.rl_base.proofs.Texts.LineLemmas.{count_of_lines, count-parts, end-from, lies, lines-after, lines_some, newlines-line, start-next, text-between}
 use Rattle.rl_base.proofs.Texts.TextLemmas.{drop-after, IsCharBoundary-before, IsCharBoundary-after, IsCharBoundary-before_removal, IsCharBoundary-at_removal, removed-is_replaced, greatest_boundary-is}
 use Rattle.rl_base.proofs.Texts.EventLemmas.{Deletes-from_IsSome, Inserts-from_IsSome}
@@ -43,11 +43,7 @@ length-spaces n = length-repeat n (32 ∷ []) ∙ (omega arith)
 -- the next step, where `place` is the cursor after it
 pub put_spaces-next : (left i cursor place : ℕ) (part : List ℕ) → 0 < left → part ≡ spaces (min left 32) → place ≡ pushed i (length part) cursor
     → put_spaces (parts left) i cursor ≡ (InsertStr i part, place) ∷ put_spaces (parts (left - length part)) i place
-put_spaces-next left i cursor place part some is at =
-    let len : length part ≡ min left 32 = ap length is ∙ length-spaces (min left 32) in
-    ap (λ ps. put_spaces ps i cursor) (parts-next left some)
-    ∙ ap₂ (λ (s : List ℕ) (k : ℕ). (InsertStr i s, pushed i k cursor) ∷ put_spaces (parts (left - k)) i (pushed i k cursor)) (sym is) (sym len)
-    ∙ ap (λ (k : ℕ). (InsertStr i part, k) ∷ put_spaces (parts (left - length part)) i k) (sym at)
+put_spaces-next left i cursor place part some is at = grind (arith, common_steps, length-spaces, parts-next)
 
 pub IsAscii-spaces : (n : ℕ) → IsAscii (spaces n)
 IsAscii-spaces zero = IsAscii-nil
@@ -148,17 +144,7 @@ newlines-spaces (suc n) = newlines-append (32 ∷ []) (spaces n) ∙ (omega (ari
 KeepsAfter-replaced : (text part : List ℕ) (i j q k : ℕ) → i ≤ j → j ≤ q → q ≤ length text → last_line (slice_range text i j) ≡ 0 → last_line part ≡ 0 → k ≡ i + length part + (q - j)
     → KeepsAfter text (replace_range text i j part) q k
 KeepsAfter-replaced text part i j q k order le inside none clean e =
-    record {
-      count = omega (arith, newlines-replaced text part i j order, none, clean);
-      rest = drop-after text i j q k part (omega arith) le (omega (arith, e));
-      within = omega (
-        arith,
-        length-append (take i text ++ part) (drop j text),
-        length-append (take i text) part,
-        length-take-le i text (omega arith),
-        length-drop j text,
-      );
-    }
+    grind (arith, common_steps, newlines-replaced, drop-after, length-append, length-take-le, length-drop)
 
 KeepsAfter-InsertStr : (text after : List ℕ) (i n q : ℕ) → i ≤ q → q ≤ length text → apply (InsertStr i (spaces n)) text ≡ Some after → KeepsAfter text after q (q + n)
 KeepsAfter-InsertStr text after i n q le inside h =

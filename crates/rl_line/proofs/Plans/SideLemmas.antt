@@ -1,5 +1,5 @@
 -- What a kill by a movement takes begins at the cursor, or ends there.
-use Rattle.rl_line.proofs.Common.{◌≡◌, ℕ, ◌+◌, ◌<◌, ◌≤◌, min, max, Bool, true, false, cond, length, Option, Some, None, refl, sym, arith, ltb-true, ltb-false, eqb-true, option_map, option_or, IfSome, List, ◌==◌, nat_lt, IsCharBoundary, IsUtf8, Range, prev_pos, HitLies, chosen_hit, prev_word, Direction, Forward, Backward, At, CharSearch, BeginningOfLine, EndOfLine, FirstNonBlank, BackwardWord, ForwardWord, ViCharSearch, BeginningOfBuffer, EndOfBuffer, Word, side_of_place, side_of_search, Line, between, first_nonblank, home, line_end, either_way, from_place, killed, newline_at, to_hit, to_place, unless_empty}
+use Rattle.rl_line.proofs.Common.{common_steps, ◌≡◌, ℕ, ◌+◌, ◌<◌, ◌≤◌, min, max, Bool, true, false, cond, length, Option, Some, None, refl, sym, arith, ltb-true, ltb-false, eqb-true, option_map, option_or, IfSome, List, ◌==◌, nat_lt, IsCharBoundary, IsUtf8, Range, prev_pos, HitLies, chosen_hit, prev_word, Direction, Forward, Backward, At, CharSearch, BeginningOfLine, EndOfLine, FirstNonBlank, BackwardWord, ForwardWord, ViCharSearch, BeginningOfBuffer, EndOfBuffer, Word, side_of_place, side_of_search, Line, between, first_nonblank, home, line_end, either_way, from_place, killed, newline_at, to_hit, to_place, unless_empty}
 use Rattle.rl_base.specs.declared.motion.CharSearch.TheVariants as to
 use Rattle.rl_base.proofs.Texts.LineLemmas.{start-before}
 use Rattle.rl_base.proofs.Clusters.SearchLemmas.{IsHitOf, chosen_hit-is}
@@ -55,10 +55,7 @@ either_way-side line place = from (nat_lt place line.cursor) refl
 
 -- the range of each movement
 pub BeginningOfLine-side : (line : Line) → line.cursor ≤ length line.text → IfSome (killed line BeginningOfLine) (LiesOn Backward line.cursor)
-BeginningOfLine-side line within =
-    or_else (LiesOn Backward line.cursor) (unless_empty (home line) line.cursor) (from_place line (prev_pos line.text line.cursor 1))
-    (unless (LiesOn Backward line.cursor) (home line == line.cursor) (between (home line) line.cursor) (refl, start-before line.text line.cursor within))
-    (from_place-side line (prev_pos line.text line.cursor 1) (prev_pos-before line.text line.cursor 1))
+BeginningOfLine-side line within = grind (arith, common_steps, start-before, from_place-side, prev_pos-before)
 
 pub EndOfLine-side : (line : Line) → IfSome (killed line EndOfLine) (LiesOn Forward line.cursor)
 EndOfLine-side line = from (line.cursor == line_end line) refl

@@ -1,5 +1,5 @@
 -- Entries in the list of the code: counting them, and closing groups.
-use Rattle.rl_line.proofs.Common.{◌≡◌, ℕ, ◌+◌, ◌-◌, ◌<◌, ◌≤◌, arith, suc, List, [], ◌∷◌, ◌++◌, length, take, drop, get_or, map, reverse, refl, sym, ap, ◌∙◌, ◌⊎◌, inl, inr, or-true, append-nil, map-append, reverse-append, drop_all, zero, max, slice_get, cond, IsSome, Bool, true, false, not, ◌||◌, Option, Some, None, option_to_list, Change, Entry, Begin, End, Changed, entry_of, last_of, redo_of, adds_end, end_one, end_times, ends_in_begin, is_begin, is_change, IsMatched, deep, same_Some, take-map}
+use Rattle.rl_line.proofs.Common.{common_steps, ◌≡◌, ℕ, ◌+◌, ◌-◌, ◌<◌, ◌≤◌, arith, suc, List, [], ◌∷◌, ◌++◌, length, take, drop, get_or, map, reverse, refl, sym, ap, ◌∙◌, ◌⊎◌, inl, inr, or-true, append-nil, map-append, reverse-append, drop_all, zero, max, slice_get, cond, IsSome, Bool, true, false, not, ◌||◌, Option, Some, None, option_to_list, Change, Entry, Begin, End, Changed, entry_of, last_of, redo_of, adds_end, end_one, end_times, ends_in_begin, is_begin, is_change, IsMatched, deep, same_Some, take-map}
 use Rattle.rl_line.proofs.Records.Counts.{ahead_len, back_len}
 use Rattle.rl_line.proofs.Records.CountLemmas.{last-counted, redo-counted}
 use Rattle.rl_line.proofs.Records.LastLemmas.{end_one-cases, end_one-past, ends-past, read-first, read-last}
@@ -69,9 +69,7 @@ deep-append d (Changed k c ∷ xs) ys = deep-append d xs ys
 -- with the entry at i
 pub deep-next : (xs : List Change) (i n : ℕ) (x : Change) → i < length xs → x ≡ get_or xs i x → n ≡ deep 0 (map entry_of (take i xs))
     → deep 0 (map entry_of (take (i + 1) xs)) ≡ deep n (entry_of x ∷ [])
-deep-next xs i n x lt is e =
-    ap (deep 0) (read-last entry_of xs i x x lt (sym is))
-    ∙ deep-append 0 (map entry_of (take i xs)) (entry_of x ∷ []) ∙ ap (λ d. deep d (entry_of x ∷ [])) (sym e)
+deep-next xs i n x lt is e = grind (arith, common_steps, read-last, deep-append)
 
 -- ---- counting ahead
 -- what is left to count where d groups are open: nothing where none is
@@ -96,10 +94,7 @@ pub record Counted (xs : List Change) (at d : ℕ) : Type 0 where
 
 next-unit : (xs : List Change) (at d : ℕ) (x : Change) → at < length xs → x ≡ get_or xs at x → Counted xs at d
     → (at + 1) + rest_len (deep d (entry_of x ∷ [])) (map entry_of (drop (at + 1) xs)) ≡ ahead_len 0 (map entry_of xs)
-next-unit xs at d x lt is c =
-    let rest = map entry_of (drop (at + 1) xs) in
-    let one : ahead_len d (map entry_of (drop at xs)) ≡ suc (rest_len (deep d (entry_of x ∷ [])) rest) = ap (ahead_len d) (read-first entry_of xs at x lt is) ∙ ahead-step d (entry_of x) rest in
-    omega (arith, one, c.unit)
+next-unit xs at d x lt is c = grind (arith, common_steps, read-first, ahead-step)
 
 -- one entry more, where groups are open after it
 pub Counted-next : (xs : List Change) (at d n : ℕ) (x : Change) → at < length xs → x ≡ get_or xs at x → Counted xs at d
@@ -114,9 +109,7 @@ Counted-next xs at d (suc n) x lt is c e small some = record {
 -- the unit ends where no group is open after an entry, or where no entry is left
 pub Counted-end : (xs : List Change) (at d : ℕ) (x : Change) → IsMatched (map entry_of xs) → at < length xs → x ≡ get_or xs at x → Counted xs at d
     → 0 ≡ deep d (entry_of x ∷ []) → at + 1 ≡ length (redo_of (map entry_of xs))
-Counted-end xs at d x m lt is c e =
-    let all = ap (λ k. (at + 1) + rest_len k (map entry_of (drop (at + 1) xs))) e ∙ next-unit xs at d x lt is c in
-    (omega arith) ∙ all ∙ redo-counted (map entry_of xs) m
+Counted-end xs at d x m lt is c e = grind (arith, common_steps, next-unit, redo-counted)
 
 pub Counted-all : (xs : List Change) (at d : ℕ) → length xs ≤ at → IsMatched (map entry_of xs) → Counted xs at d → at ≡ length (redo_of (map entry_of xs))
 Counted-all xs at d past m c =
@@ -174,9 +167,7 @@ closes-next count i es next all lt e h =
 
 -- where closing fewer groups adds an End, closing all does
 pub adds-more : (count i : ℕ) (es next : List Entry) → i < count → next ≡ end_one es → adds_end (count - (i + 1)) next ≡ true → adds_end (count - i) es ≡ true
-adds-more count i es next lt e h =
-    let k : suc (count - (i + 1)) ≡ count - i = omega arith in
-    ap (λ n. adds_end n es) (sym k) ∙ ap (λ l. not (ends_in_begin es) || adds_end (count - (i + 1)) l) (sym e) ∙ ap (λ b. not (ends_in_begin es) || b) h ∙ or-true (not (ends_in_begin es))
+adds-more count i es next lt e h = grind (arith, common_steps, or-true)
 
 -- so does closing one that is not empty
 pub adds-here : (n : ℕ) (es : List Entry) → 0 < n → ends_in_begin es ≡ false → adds_end n es ≡ true
@@ -214,9 +205,7 @@ none-last (y ∷ (z ∷ zs)) e =
     let none : z ∷ zs ≡ [] = none-last (z ∷ zs) (e ∙ ap (slice_get (y ∷ (z ∷ zs))) (two (length zs))) in cc
 
 pub last-alone : (n : ℕ) (xs : List Change) (x : Change) → n ≤ 1 → Some x ≡ slice_get xs (length xs - 1) → is_change (entry_of x) ≡ true → last_of n (map entry_of xs) ≡ entry_of x ∷ []
-last-alone n xs x few e is =
-    let p = last-split xs x e in
-    ap (λ ys. last_of n (map entry_of ys)) p.1 ∙ ap (last_of n) (map-append entry_of p.0 (x ∷ [])) ∙ last_of-change n (entry_of x) (map entry_of p.0) few is
+last-alone n xs x few e is = grind (arith, common_steps, last-split, map-append, last_of-change)
 
 pub next-alone : (xs : List Change) (x : Change) → Some x ≡ slice_get xs 0 → is_change (entry_of x) ≡ true → IsMatched (map entry_of xs) → redo_of (map entry_of xs) ≡ entry_of x ∷ []
 next-alone [] x e is m = cc

@@ -1,5 +1,5 @@
 -- The level: how many groups are open after each call, counted over the entries that it moves or drops alone.
-use Rattle.rl_line.proofs.Common.{Ahead, AtLevel, Back, Begin, Bool, BothMatched, Change, Changed, End, Entry, Event, IsMatched, List, Reaches, Record, Some, Way, [], ap, arith, begun, count_over, deep, drop, entries_after, entries_of, entry_of, false, get_or, inl, inr, is_change, joined, kept_of, last_of, length, length-map, length-take, level, map, map-append, mark, marks, max, moved, opens, recorded_after, redo_of, refl, subst, suc, sym, take, take-append-drop, touched, true, truncated, unit_of, units, with_closed, ℕ, ◌++◌, ◌+◌, ◌-◌, ◌<◌, ◌^◌, ◌∙◌, ◌∷◌, ◌≡◌, ◌≤◌, take_all}
+use Rattle.rl_line.proofs.Common.{common_steps, Ahead, AtLevel, Back, Begin, Bool, BothMatched, Change, Changed, End, Entry, Event, IsMatched, List, Reaches, Record, Some, Way, [], ap, arith, begun, count_over, deep, drop, entries_after, entries_of, entry_of, false, get_or, inl, inr, is_change, joined, kept_of, last_of, length, length-map, length-take, level, map, map-append, mark, marks, max, moved, opens, recorded_after, redo_of, refl, subst, suc, sym, take, take-append-drop, touched, true, truncated, unit_of, units, with_closed, ℕ, ◌++◌, ◌+◌, ◌-◌, ◌<◌, ◌^◌, ◌∙◌, ◌∷◌, ◌≡◌, ◌≤◌, take_all}
 use Rattle.rl_line.specs.Record.{record_step}
 use Rattle.rl_line.proofs.Records.CountLemmas.{level-counted}
 use Rattle.rl_line.proofs.Records.EntryLemmas.{deep-append, deep-next}
@@ -25,12 +25,7 @@ deep-after event es d =
 
 pub AtLevel-step : (event : Event) (n : ℕ) (r : Record) → AtLevel n r → AtLevel n (record_step r event)
 unfolding record_step
-AtLevel-step event n r a = record {
-  matched = BothMatched-step r event a.matched;
-  level =
-      let counted = recorded-cases (λ es. deep 0 es ≡ deep 0 r.recorded) event r (deep-after event r.recorded 0) (λ es p e. last_told-deep p es 0 ∙ e) in
-      a.level ∙ level-counted r.recorded a.matched.recorded ∙ sym counted ∙ sym (level-counted (recorded_after event r) (BothMatched-step r event a.matched).recorded);
-}
+AtLevel-step event n r a = grind (arith, common_steps, BothMatched-step, recorded-cases, deep-after, last_told-deep, level-counted)
 
 pub AtLevel-heard : (event : Event) (n : ℕ) (r now : Record) → now ≡ record_step r event → AtLevel n r → AtLevel n now
 AtLevel-heard event n r now e a = subst (AtLevel n) (sym e) (AtLevel-step event n r a)
@@ -127,9 +122,7 @@ pub record LevelAt (xs : List Change) (len at n : ℕ) : Type 0 where
 -- the entries after which the count stands are those before the last of them, and that one
 front-last : (xs : List Change) (len at : ℕ) (z x : Change) → len < at → at ≤ length xs → get_or xs (at - 1) z ≡ x
     → map entry_of (take at xs) ≡ map entry_of (take (at - 1) xs) ++ entry_of x ∷ []
-front-last xs len at z x lt within e =
-    let k : at ≡ (at - 1) + 1 = omega arith in
-    ap (λ m. map entry_of (take m xs)) k ∙ read-last entry_of xs (at - 1) z x (omega arith) e
+front-last xs len at z x lt within e = grind (arith, common_steps, read-last)
 
 pub opened-before : (xs : List Change) (len at n : ℕ) (z x : Change) → len < at → get_or xs (at - 1) z ≡ x → entry_of x ≡ Begin → LevelAt xs len at n
     → n ≡ suc (level (map entry_of (take (at - 1) xs)))
@@ -145,14 +138,7 @@ LevelAt-begin xs len at n z x lt e b l = record {
 
 pub LevelAt-end : (xs : List Change) (len at n : ℕ) (z x : Change) → IsMatched (map entry_of xs) → len < at → get_or xs (at - 1) z ≡ x → entry_of x ≡ End → LevelAt xs len at n
     → LevelAt xs len (at - 1) (n + 1)
-LevelAt-end xs len at n z x m lt e b l =
-    let is = front-last xs len at z x lt l.within e ∙ ap (λ f. map entry_of (take (at - 1) xs) ++ f ∷ []) b in
-    let one = level-end (map entry_of (take (at - 1) xs)) (subst IsMatched is (front-matched xs at m)) in
-    record {
-      within = omega (arith, l.within);
-      cut = omega (arith, l.within, lt);
-      level = omega (arith, l.level, ap level is, one);
-    }
+LevelAt-end xs len at n z x m lt e b l = grind (arith, common_steps, front-last, level-end, front-matched)
 
 pub level-change : (es : List Entry) (e : Entry) → is_change e ≡ true → level (es ++ e ∷ []) ≡ level es
 level-change es (Changed k c) h = ap opens (cut_more-append [] es (Changed k c ∷ []))
@@ -169,11 +155,7 @@ AtLevel-one way n l r e is one a =
 
 pub LevelAt-change : (xs : List Change) (len at n : ℕ) (z x : Change) → len < at → get_or xs (at - 1) z ≡ x → is_change (entry_of x) ≡ true → LevelAt xs len at n
     → LevelAt xs len (at - 1) n
-LevelAt-change xs len at n z x lt e b l = record {
-  within = omega (arith, l.within);
-  cut = omega (arith, l.within, lt);
-  level = l.level ∙ ap level (front-last xs len at z x lt l.within e) ∙ level-change (map entry_of (take (at - 1) xs)) (entry_of x) b;
-}
+LevelAt-change xs len at n z x lt e b l = grind (arith, common_steps, front-last, level-change)
 
 -- no count is past the list's length
 pub LevelAt-small : (xs : List Change) (len at n : ℕ) → IsMatched (map entry_of xs) → LevelAt xs len at n → n ≤ at

@@ -1,5 +1,5 @@
 -- Every operation keeps the marks matched, and a change in each closed group.
-use Rattle.rl_line.proofs.Common.{◌≡◌, ℕ, ◌+◌, ◌-◌, ◌≤◌, suc, arith, Bool, true, false, List, [], ◌∷◌, ◌++◌, length, take, drop, reverse, Some, refl, sym, ap, subst, ◌∙◌, inl, inr, append-nil, drop_all, take-append-drop, option_and_then, IsSome, zero, max, Event, Start, Stop, Cursors, Entry, Begin, End, Changed, Record, entries_of, entries_after, pending_after, UndoUnit, Open, Whole, units, opens, level, last_of, kept_of, redo_from, redo_of, end_one, ends_in_begin, is_begin, end_times, begun, undone, redone, truncated, with_closed, touched, mark, marks, IsMatched, BothMatched}
+use Rattle.rl_line.proofs.Common.{common_steps, ◌≡◌, ℕ, ◌+◌, ◌-◌, ◌≤◌, suc, arith, Bool, true, false, List, [], ◌∷◌, ◌++◌, length, take, drop, reverse, Some, refl, sym, ap, subst, ◌∙◌, inl, inr, append-nil, drop_all, take-append-drop, option_and_then, IsSome, zero, max, Event, Start, Stop, Cursors, Entry, Begin, End, Changed, Record, entries_of, entries_after, pending_after, UndoUnit, Open, Whole, units, opens, level, last_of, kept_of, redo_from, redo_of, end_one, ends_in_begin, is_begin, end_times, begun, undone, redone, truncated, with_closed, touched, mark, marks, IsMatched, BothMatched}
 use Rattle.rl_base.proofs.Texts.SwapLemmas.{some_is}
 use Rattle.rl_line.specs.Record.{record_step}
 use Rattle.rl_line.proofs.Records.LastLemmas.{after-cases, by_last, end_one-cases, ends-past}
@@ -68,11 +68,7 @@ level-is es fs h = level-flags (units es) ∙ ap length (cut_good es [] fs tt h)
 -- what stands before the last entry, and what it makes of the marks
 pub marks-last : (front : List Entry) (e : Entry) (fs : List Bool) → marks (front ++ (e ∷ [])) [] ≡ Some fs
     → (gs : List Bool) × (marks front [] ≡ Some gs) × (mark e gs ≡ Some fs)
-marks-last front e fs h =
-    let p = through (marks (e ∷ [])) (marks front []) fs (sym (marks-append front (e ∷ []) []) ∙ h) in
-    let q = through (marks []) (mark e p.0) fs p.2 in
-    let same : q.0 ≡ fs = let k = q.2 in cc in
-    (p.0, p.1, q.1 ∙ ap Some same)
+marks-last front e fs h = grind (arith, common_steps, marks-append)
 
 marks-other : (es : List Entry) (fs : List Bool) → ends_in_begin es ≡ false → marks es [] ≡ Some fs → fs ≡ touched fs
 marks-other es fs =

@@ -1,5 +1,5 @@
 -- Where the characters begin in a text in which a part gave way to another.
-use Rattle.rl_line.proofs.Common.{◌≡◌, ℕ, ◌+◌, ◌-◌, ◌<◌, ◌≤◌, ◌⊎◌, inl, inr, Bool, true, false, List, ◌++◌, length, length-append, append_assoc, take, drop, slice_range, refl, sym, ap, subst, ◌∙◌, arith, eq-or-lt_of_le, nat_tests, drop-append-add, take-add, take-append-add, drop-append-le, get_or-append_right, get_or_append_left, length-drop, length-take, length-take-le, take-append-drop, take-append-le, drop_split, IsCharBoundary-at_seam, IsCharBoundary-end, IsUtf8-append, IsUtf8-drop, replace_range, IsCharBoundary, IsUtf8}
+use Rattle.rl_line.proofs.Common.{common_steps, ◌≡◌, ℕ, ◌+◌, ◌-◌, ◌<◌, ◌≤◌, ◌⊎◌, inl, inr, Bool, true, false, List, ◌++◌, length, length-append, append_assoc, take, drop, slice_range, refl, sym, ap, subst, ◌∙◌, arith, eq-or-lt_of_le, nat_tests, drop-append-add, take-add, take-append-add, drop-append-le, get_or-append_right, get_or_append_left, length-drop, length-take, length-take-le, take-append-drop, take-append-le, drop_split, IsCharBoundary-at_seam, IsCharBoundary-end, IsUtf8-append, IsUtf8-drop, replace_range, IsCharBoundary, IsUtf8}
 use Rattle.rl_base.specs.Text.{is_boundary, stands_at}
 use Rattle.rl_base.proofs.Texts.TextLemmas.{is_boundary-means, is_boundary-true}
 
@@ -50,10 +50,7 @@ module _ (text : List ℕ) (i j : ℕ) (s : List ℕ) (u : IsUtf8 text) (v : IsU
 
   -- in the part
   pub patched-within : (k : ℕ) → i ≤ k → k - i ≤ length s → is_boundary patched k ≡ is_boundary s (k - i)
-  patched-within k le within =
-      ap (λ t. is_boundary t k) (append_assoc (take i text) s (drop j text))
-      ∙ boundary-past (take i text) (s ++ drop j text) k (omega (arith, front)) ∙ ap (λ n. is_boundary (s ++ drop j text) (k - n)) front
-      ∙ boundary-before s (drop j text) (k - i) (IsUtf8-drop text j u end) within
+  patched-within k le within = grind (arith, common_steps, append_assoc, boundary-past, boundary-before, IsUtf8-drop)
 
   -- after the part
   pub patched-after : (k : ℕ) → i ≤ k → length s ≤ k - i → is_boundary patched k ≡ is_boundary text ((k - i) - length s + j)
@@ -108,14 +105,7 @@ module _ (text : List ℕ) (i j : ℕ) (s : List ℕ) (u : IsUtf8 text) (v : IsU
 
     -- and gives way there as in the part
     pub patched-swap : (n : ℕ) (t : List ℕ) → there + n ≤ length s → replace_range text i j (replace_range s there (there + n) t) ≡ replace_range patched k (k + n) t
-    patched-swap n t within =
-        let head = take i text in
-        let a = take there s in
-        let b = drop (there + n) s in
-        ap (λ l. l ++ drop j text) (sym (append_assoc head (a ++ t) b)) ∙ append_assoc (head ++ (a ++ t)) b (drop j text)
-        ∙ ap (λ l. l ++ (b ++ drop j text)) (sym (append_assoc head a t))
-        ∙ ap (λ l. (l ++ t) ++ (b ++ drop j text)) (sym (patched-take (omega arith)))
-        ∙ ap (λ l. (take k patched ++ t) ++ l) (sym (patched-drop n within))
+    patched-swap n t within = grind (arith, common_steps, append_assoc, patched-take, patched-drop)
 
 -- how long it is at most
 pub length-replaced : (text : List ℕ) (i j : ℕ) (s : List ℕ) → i ≤ j → length (replace_range text i j s) ≤ length text + length s

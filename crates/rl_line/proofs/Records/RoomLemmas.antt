@@ -1,5 +1,5 @@
 -- Going over a record needs room only where a text on the way needs more than the first.
-use Rattle.rl_line.proofs.Common.{◌≡◌, ℕ, ◌+◌, ◌-◌, ◌^◌, ◌<◌, ◌≤◌, Bool, true, false, zero, suc, max, List, [], ◌∷◌, ◌++◌, length, length-append, count_by, map, drop, take, reverse, Option, Some, None, ◌⊎◌, inl, inr, refl, sym, ap, subst, ◌∙◌, arith, nat_tests, get_or-append, drop-map, map-append, reverse-append, Any-push, map-map, Any, IsSome, get_or, nat_lt, option_and_then, IsUtf8, Event, replay, is_newline, Change, Measure, Bytes, Newlines, Way, entry_to_undo, greatest_back_over, size_back, size_back_over, size_of, Line, NeedsRoom, Entry, Changed, bytes_ahead, bytes_back, event_of, inverse, new_text, old_text, unwind, line_back, texts_after, texts_ahead, texts_back, drop_all}
+use Rattle.rl_line.proofs.Common.{common_steps, ◌≡◌, ℕ, ◌+◌, ◌-◌, ◌^◌, ◌<◌, ◌≤◌, Bool, true, false, zero, suc, max, List, [], ◌∷◌, ◌++◌, length, length-append, count_by, map, drop, take, reverse, Option, Some, None, ◌⊎◌, inl, inr, refl, sym, ap, subst, ◌∙◌, arith, nat_tests, get_or-append, drop-map, map-append, reverse-append, Any-push, map-map, Any, IsSome, get_or, nat_lt, option_and_then, IsUtf8, Event, replay, is_newline, Change, Measure, Bytes, Newlines, Way, entry_to_undo, greatest_back_over, size_back, size_back_over, size_of, Line, NeedsRoom, Entry, Changed, bytes_ahead, bytes_back, event_of, inverse, new_text, old_text, unwind, line_back, texts_after, texts_ahead, texts_back, drop_all}
 use Rattle.rl_base.proofs.Texts.SwapLemmas.{Swaps, Swaps-Replace}
 use Rattle.rl_base.specs.Event.{apply}
 use Rattle.rl_line.proofs.Lines.LineStartLemmas.{newlines-append}
@@ -14,12 +14,7 @@ size-append Bytes xs ys = length-append xs ys
 size-append Newlines xs ys = newlines-append xs ys
 
 size-swapped : (k : Measure) (text after : List ℕ) (i : ℕ) (old new : List ℕ) → Swaps text after i old new → size_of k after ≡ (size_of k text - size_of k old) + size_of k new
-size-swapped k text after i old new s =
-    let was : size_of k text ≡ size_of k s.front + (size_of k old + size_of k s.rest) =
-    ap (size_of k) s.text_is ∙ size-append k s.front (old ++ s.rest) ∙ ap (λ n. size_of k s.front + n) (size-append k old s.rest) in
-    let is : size_of k after ≡ size_of k s.front + (size_of k new + size_of k s.rest) =
-    ap (size_of k) s.after_is ∙ size-append k s.front (new ++ s.rest) ∙ ap (λ n. size_of k s.front + n) (size-append k new s.rest) in
-    omega (arith, was, is)
+size-swapped k text after i old new s = grind (arith, common_steps, size-append)
 
 size-nothing : (k : Measure) (n : ℕ) → n ≡ (n - size_of k []) + size_of k []
 size-nothing Bytes n = omega arith
