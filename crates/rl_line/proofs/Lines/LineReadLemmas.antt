@@ -63,8 +63,7 @@ module _ (text : List ℕ) (k next : ℕ) (h : EndsAt text k next) where
   EndsAt-stop = IsCharBoundary-before_ascii text (next - 1) (omega (arith, h.stop, h.within)) (omega (arith, h.newline))
 
   pub EndsAt-start : IsUtf8 text → IsCharBoundary text next
-  EndsAt-start u =
-      subst (IsCharBoundary text) (omega (arith, h.stop)) (IsCharBoundary-after_ascii text (next - 1) u (omega (arith, h.stop, h.within)) (omega (arith, h.newline)))
+  EndsAt-start u = grind (arith, IsCharBoundary-after_ascii)
 
   pub EndsAt-after : next ≡ min (end_of_line text k + 1) (length text)
   EndsAt-after = omega (arith, h.stop, h.within)
@@ -114,7 +113,7 @@ module _ (test : ℕ → Bool) (xs : List ℕ) (m : ℕ) (some : m ≤ length xs
       ⊎_elim (λ less. at i (omega arith) ∙ low i (omega arith)) (λ past. absurd (both_ways _ (high j past l) (sym (at j l) ∙ passes))) (cases_lt j m)
 
   pub partition_point-is : (k : ℕ) → k ≤ length xs → IsPartitionPoint (λ s. test s ≡ true) (λ s. test s ≡ false) xs k → k ≡ m
-  partition_point-is k small at = grind (arith, common_steps, both_ways, cases_lt)
+  partition_point-is k small at = grind arith
 
 -- ---- the two parts of a table, in which the line of a place is looked up
 module _ (places text : List ℕ) (border pos : ℕ) (h : IsTable places border text) (within : pos ≤ length text) where
@@ -164,8 +163,7 @@ module _ (places text : List ℕ) (border pos : ℕ) (h : IsTable places border 
     fits = omega (arith, many, length-line_starts text, newlines-take text pos)
 
     read_rest : (i : ℕ) → i < length rest → get_or rest i 0 ≡ from_end (length text) (get_or (line_starts text) (border + i) 0)
-    read_rest i some =
-        get_or-between places border (length places) i 0 (omega (arith, rest-size)) ∙ read-from places text border (border + i) h (omega (arith, rest-size)) (omega arith)
+    read_rest i some = grind (arith, get_or-between, rest-size, read-from)
 
     low_rest : (i : ℕ) → i < here → leb left (get_or rest i 0) ≡ true
     low_rest i less = le-leb left _ (omega (arith, read_rest i (omega (arith, rest-size, fits)), started text pos within (border + i) (omega arith)))
@@ -194,14 +192,14 @@ pub range-past : (text : List ℕ) (k : ℕ) → last_line text < k → None ≡
 range-past text k past = sym (ap (option_map (λ line. between (start_of_line text k) (start_of_line text k + length line))) (slice_get_past (lines text) k (omega (arith, count_of_lines text))))
 
 pub range-is : (text : List ℕ) (k start stop : ℕ) → k ≤ last_line text → start ≡ start_of_line text k → stop ≡ end_of_line text k → Some (between start stop) ≡ range_of_line text k
-range-is text k start stop within e f = grind (arith, common_steps, slice_get-get_or, count_of_lines)
+range-is text k start stop within e f = grind (arith, slice_get-get_or, count_of_lines)
 
 -- a line that is there has a range, and the line of a place begins there or before
 pub range-some : (text : List ℕ) (k : ℕ) → k ≤ last_line text → range_of_line text k ≡ None → ⊥
-range-some text k within none = grind (arith, common_steps, range-is)
+range-some text k within none = grind (arith, range-is)
 
 pub range-before : (text : List ℕ) (pos k : ℕ) (r : Range ℕ) → pos ≤ length text → k ≡ line_number text pos → range_of_line text k ≡ Some r → r.start ≤ pos
-range-before text pos k r within e some = grind (arith, common_steps, range-is, count-parts, same_Some, start-before)
+range-before text pos k r within e some = grind (arith, start-before)
 
 pub ruleset borders = (leb-started, ltb-not_started, le-leb, length-line_starts, length-table, newlines-take)
 

@@ -71,7 +71,7 @@ pub length-starts_from_end : (text : List ℕ) → length (starts_from_end text)
 length-starts_from_end text = length-map (line_starts text) (from_end (length text)) ∙ length-line_starts text
 
 pub length-kept : (border : ℕ) (text : List ℕ) → length (kept_starts border text) ≡ count_by is_newline text
-length-kept border text = grind (arith, common_steps, length-append, length-take, length-drop, length-line_starts, length-starts_from_end)
+length-kept border text = grind (arith, length-append, length-take, length-drop, length-line_starts, length-starts_from_end)
 
 pub length-table : (places : List ℕ) (border : ℕ) (text : List ℕ) → IsTable places border text → length places ≡ count_by is_newline text
 length-table places border text h = ap length h.kept ∙ length-kept border text
@@ -128,13 +128,13 @@ parts text pos within =
 
 -- ---- a table whose border lies between two parts of its text
 drop-from_end : (xs ys : List ℕ) → drop (count_by is_newline xs) (starts_from_end (xs ++ ys)) ≡ starts_from_end ys
-drop-from_end xs ys = grind (arith, common_steps, length-append, after_newlines-append, map-append, drop_at, length-map, length-line_starts, from_end-moved)
+drop-from_end xs ys = grind (arith, common_steps, after_newlines-append, length-line_starts, from_end-moved)
 
 kept-between : (xs ys : List ℕ) → kept_starts (count_by is_newline xs) (xs ++ ys) ≡ line_starts xs ++ starts_from_end ys
-kept-between xs ys = grind (arith, common_steps, after_newlines-append, take_at, length-line_starts, drop-from_end)
+kept-between xs ys = grind (arith, common_steps, after_newlines-append, length-line_starts, drop-from_end)
 
 IsTable-between : (xs ys : List ℕ) → IsTable (line_starts xs ++ starts_from_end ys) (count_by is_newline xs) (xs ++ ys)
-IsTable-between xs ys = grind (arith, common_steps, kept-between, length-append, length-line_starts)
+IsTable-between xs ys = grind (arith, common_steps, kept-between, length-line_starts)
 
 -- ---- a range of a text gives way to a part where the border is
 module _ (places text part : List ℕ) (from to first gone : ℕ) (h : IsTable places first text) (order : from ≤ to) (within : to ≤ length text)
@@ -206,7 +206,7 @@ twice len (x ∷ xs) h =
 -- the part of a list between two places is turned
 turned : (f : ℕ → ℕ) (xs ys more : List ℕ) (a b : ℕ) → length xs ≡ a → length ys ≡ b - a
     → put_mid a (b - a) (xs ++ (ys ++ more)) (map f (slice_range (xs ++ (ys ++ more)) a b)) ≡ xs ++ (map f ys ++ more)
-turned f xs ys more a b len size = grind (arith, common_steps, drop_at, take_at)
+turned f xs ys more a b len size = grind (arith, common_steps)
 
 module _ (text : List ℕ) (low high : ℕ) (order : low ≤ high) (within : high ≤ length (line_starts text)) where
   abbrev len : ℕ
@@ -238,7 +238,7 @@ module _ (text : List ℕ) (low high : ℕ) (order : low ≤ high) (within : hig
   size = length-between (line_starts text) low high within
 
   pub border-down : put_mid low (high - low) (kept_starts high text) (map (from_end len) (slice_range (kept_starts high text) low high)) ≡ kept_starts low text
-  border-down = grind (arith, common_steps, kept-high, length-take-le, kept-low)
+  border-down = grind (arith, common_steps, kept-high, kept-low)
 
   pub border-up : put_mid low (high - low) (kept_starts low text) (map (from_end len) (slice_range (kept_starts low text) low high)) ≡ kept_starts high text
   border-up =
@@ -249,11 +249,11 @@ module _ (text : List ℕ) (low high : ℕ) (order : low ≤ high) (within : hig
 
 -- a table of n places, of which those from number k on, up to m, were written over
 written : (k m n : ℕ) (old new more : List ℕ) → length old ≡ n → k ≤ m → m ≤ n → length new ≡ m - k → take n (put_mid k (m - k) old new ++ more) ≡ put_mid k (m - k) old new
-written k m n old new more len le within size = grind (arith, common_steps, length-take-le, length-drop, length-append, take_at)
+written k m n old new more len le within size = grind (arith, common_steps)
 
 written-after : (k n : ℕ) (old new more : List ℕ) → length old ≡ n → k ≤ n → length new ≡ n - k
     → take n (put_mid k (length old - k) old new ++ more) ≡ take k old ++ new
-written-after k n old new more len le size = grind (arith, common_steps, length-take-le, length-append, take-append-le, take-put_mid)
+written-after k n old new more len le size = grind (arith, common_steps)
 
 IsTable-from : (places : List ℕ) (border : ℕ) (text : List ℕ) → places ≡ kept_starts border text → border ≤ count_by is_newline text → IsTable places border text
 IsTable-from places border text is within = record { kept = is; within = omega (arith, ap length is, length-kept border text) }
@@ -266,11 +266,10 @@ module _ (places now more text : List ℕ) (old border n : ℕ) (h : IsTable pla
   moved : (low high : ℕ) → low ≤ high → high ≤ n → border ≤ n → now ≡ map (from_end (length text)) (slice_range places low high)
       → put_mid low (high - low) (kept_starts old text) (map (from_end (length text)) (slice_range (kept_starts old text) low high)) ≡ kept_starts border text
       → IsTable (take n (put_mid low (high - low) places now ++ more)) border text
-  moved low high order top within is turns = grind (arith, common_steps, length-map, length-between, IsTable-from)
+  moved low high order top within is turns = grind (arith, common_steps)
 
   pub moved-down : border ≤ old → now ≡ map (from_end (length text)) (slice_range places border old) → IsTable (take n (put_mid border (old - border) places now ++ more)) border text
-  moved-down le is =
-      moved border old le (omega (arith, len, h.within)) (omega (arith, len, h.within)) is (border-down text border old le (omega (arith, len, h.within, all, length-line_starts text)))
+  moved-down le is = grind (arith, common_steps, border-down)
 
   pub moved-up : old ≤ border → border ≤ n → now ≡ map (from_end (length text)) (slice_range places old border) → IsTable (take n (put_mid old (border - old) places now ++ more)) border text
   moved-up le within is = moved old border le within within is (border-up text old border le (omega (arith, all, length-line_starts text)))
@@ -286,8 +285,7 @@ pub table-within : (places : List ℕ) (border : ℕ) (text : List ℕ) → IsTa
 table-within places border text h = subst (All (λ place. place ≤ length text)) (sym h.kept) (kept-within border text)
 
 pub slice-within : (places : List ℕ) (border low high : ℕ) (text : List ℕ) → IsTable places border text → All (λ place. place ≤ length text) (slice_range places low high)
-slice-within places border low high text h =
-    All-take (λ place. place ≤ length text) (high - low) _ (All-drop (λ place. place ≤ length text) low places (table-within places border text h))
+slice-within places border low high text h = grind (arith, common_steps, table-within)
 
 -- the table that is left where those from number `first` on were written over
 pub IsTable-written : (first n border : ℕ) (old new more all text : List ℕ) → length old ≡ n → first ≤ n → length new ≡ n - first → take first old ++ new ≡ all → IsTable all border text
@@ -300,10 +298,10 @@ module _ (places text : List ℕ) (border k : ℕ) (h : IsTable places border te
   many = omega (arith, h.within, length-table places border text h, length-line_starts text)
 
   pub read-before : k < border → get_or places k 0 ≡ get_or (line_starts text) k 0
-  read-before less = grind (arith, common_steps, get_or_append_left, length-take-le, get_or-take)
+  read-before less = grind (arith, common_steps)
 
   pub read-from : border ≤ k → get_or places k 0 ≡ from_end (length text) (get_or (line_starts text) k 0)
-  read-from past = grind (arith, common_steps, get_or-append_right, length-take-le, get_or-drop, get_or-map, length-table, length-line_starts)
+  read-from past = grind (arith, common_steps)
 
   pub read-within : get_or (line_starts text) k 0 ≤ length text
   read-within = All-get_or (λ s. s ≤ length text) (line_starts text) k 0 (omega (arith, length-table places border text h, length-line_starts text)) (starts-within text)
@@ -323,7 +321,7 @@ found-from n (suc m) i text left within =
     ∙ sym (ap (after_newlines (n + i)) (drop_more text i 0 (omega (arith, left))) ∙ after_newlines-cons (n + i) b (drop (i + 1) text))
 
 pub found : (n : ℕ) (text : List ℕ) → map (λ p. n + p) (places (is_byte 10) text) ≡ after_newlines n text
-found n text = grind (arith, common_steps, found-from)
+found n text = grind (arith, found-from)
 
 pub length-found : (text : List ℕ) → length (places (is_byte 10) text) ≡ count_by is_newline text
 length-found text = sym (length-map (places (is_byte 10) text) (λ p. 0 + p)) ∙ ap length (found 0 text) ∙ length-after_newlines 0 text
@@ -363,8 +361,7 @@ gap-less at gone come xs le one =
 
 pub gap-up : (at gone come len : ℕ) (xs more : List ℕ) → length xs ≡ len → at + gone ≤ len → gone < come → length more ≡ come - gone
     → let now = copy_within (xs ++ more) (at + gone) len (at + come) in (take at now ≡ take at xs) × (drop (at + come) now ≡ drop (at + gone) xs)
-gap-up at gone come len xs more size within less count =
-    grind (arith, common_steps, length-append, length-take-le, drop-append-le, take_at, length-drop, drop_all, append-nil, take-append-le, take-take, drop_at)
+gap-up at gone come len xs more size within less count = grind (arith, common_steps)
 
 pub ruleset tables = (IsTable-stays, length-table, newlines-front, newlines-replaced, newlines-take, take_all)
 

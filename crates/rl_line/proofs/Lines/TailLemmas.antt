@@ -21,8 +21,7 @@ module _ {X : Type 0} (all part written : List X) (a : ℕ) (same : written ≡ 
     rest = take (length t - e) (drop e t)
 
     pub closed : (moved : List X) → moved ≡ copy_within rest less (length rest) 0 → take (length all - less) (put_mid e (length t - e) t moved) ≡ replace_range all a (e + less) part
-    closed moved is =
-        grind (arith, common_steps, take_all, length-drop, drop-put_mid, take-put_mid, length-append, length-take, append_assoc, take_at, drop-drop)
+    closed moved is = grind (arith, common_steps, take-put_mid)
 
   -- what stands after the range moves up to the end, and then the part is written in its place
   module _ (going : ℕ) (longer : going ≤ length part) (within : a + length part ≤ length all) where

@@ -17,7 +17,7 @@ edit_word_plan-nothing line action e = ap (respell line action) (sym e)
 -- a word that is not empty is a text that the plan tells
 pub edit_word_plan-tells : (line : Line) (action : WordAction) (word : Range ℕ) (text : List ℕ) → Some word ≡ word_ahead line → text ≡ text_in line word → 0 < length text
     → 0 < bytes_of (edit_word_plan line action).steps
-edit_word_plan-tells line action word text e is some = grind (arith, common_steps)
+edit_word_plan-tells line action word text e is some = grind arith
 
 ascii-all : (s : List ℕ) → Decides (list_all is_ascii s) (IsAscii s)
 ascii-all [] = (λ h. IsAscii-nil, λ h. refl)
@@ -50,7 +50,7 @@ first_byte (c ∷ cs) first e = let one : first ≡ 1 = omega arith in (ap (λ n
 
 pub capitalized-ascii : (word front after upper lower made : List ℕ) (first : ℕ) → IsAscii word → first ≡ min 1 (length word) → front ≡ take first word → after ≡ drop first word
     → (IsAscii front → upper ≡ map to_ascii_uppercase front) → (IsAscii after → lower ≡ map to_ascii_lowercase after) → made ≡ upper ++ lower → made ≡ recased Capitalize word
-capitalized-ascii word front after upper lower made first a n f b up low is = grind (arith, common_steps, IsAscii-take, IsAscii-drop)
+capitalized-ascii word front after upper lower made first a n f b up low is = grind (arith, common_steps)
 
 -- ---- no mapping takes all of a text away
 string-some : (rows : List Row) (d c : ℕ) → 0 < length (by_strings (d ∷ []) rows c)
@@ -131,10 +131,6 @@ recased-none Capitalize word e =
 
 -- so a word that is not empty gives way to a text that is not
 pub respelled-none : (action : WordAction) (word : List ℕ) → IsUtf8 word → length (respelled action word) ≡ 0 → length word ≡ 0
-respelled-none action word u = from (list_all is_ascii word)
-  where
-    from : (b : Bool) → length (cond b (recased action word) (mapped action word)) ≡ 0 → length word ≡ 0
-    from true e = recased-none action word e
-    from false e = mapped-none action word u e
+respelled-none action word u = grind (arith, recased-none, mapped-none)
 
 pub ruleset words = (edit_word_plan-nothing, edit_word_plan-some, edit_word_plan-tells, IsCharBoundary-before_removal, IsCharBoundary-past_replacement, Done-as, Done-nothing, Done-steps, Stopped-as)

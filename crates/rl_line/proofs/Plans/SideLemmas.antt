@@ -43,27 +43,14 @@ hit-side (to.Backward c) pos hit h = (refl, omega arith)
 hit-side (to.BackwardAfter c) pos hit h = (refl, h)
 
 either_way-side : (line : Line) (place : ℕ) → IfSome (either_way line place) (LiesOn (side_of_place line place) line.cursor)
-either_way-side line place = from (nat_lt place line.cursor) refl
-  where
-    from : (b : Bool) → nat_lt place line.cursor ≡ b → IfSome (either_way line place) (LiesOn (cond b Backward Forward) line.cursor)
-    from true e =
-        let before : place < line.cursor = ltb-true place line.cursor e in
-        unless (LiesOn Backward line.cursor) _ (between (min place line.cursor) (max place line.cursor)) (omega arith, omega arith)
-    from false e =
-        let after : line.cursor ≤ place = ltb-false place line.cursor e in
-        unless (LiesOn Forward line.cursor) _ (between (min place line.cursor) (max place line.cursor)) (omega arith)
+either_way-side line place = grind arith
 
 -- the range of each movement
 pub BeginningOfLine-side : (line : Line) → line.cursor ≤ length line.text → IfSome (killed line BeginningOfLine) (LiesOn Backward line.cursor)
-BeginningOfLine-side line within = grind (arith, common_steps, start-before, from_place-side, prev_pos-before)
+BeginningOfLine-side line within = grind (arith, start-before)
 
 pub EndOfLine-side : (line : Line) → IfSome (killed line EndOfLine) (LiesOn Forward line.cursor)
-EndOfLine-side line = from (line.cursor == line_end line) refl
-  where
-    from : (b : Bool) → (line.cursor == line_end line) ≡ b
-        → IfSome (option_or (cond b None (Some (between line.cursor (line_end line)))) (newline_at line.text (line_end line))) (LiesOn Forward line.cursor)
-    from true e = unless (LiesOn Forward line.cursor) _ (between (line_end line) (line_end line + 1)) (sym (eqb-true line.cursor (line_end line) e))
-    from false e = refl
+EndOfLine-side line = grind arith
 
 pub FirstNonBlank-side : (line : Line) → IfSome (killed line FirstNonBlank) (LiesOn (side_of_place line (first_nonblank line)) line.cursor)
 FirstNonBlank-side line = either_way-side line (first_nonblank line)

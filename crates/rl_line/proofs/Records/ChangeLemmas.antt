@@ -87,11 +87,7 @@ unfolding stands_at
 stands_at-is text i s u b e = rw (is_utf8-from_IsUtf8 s u, is_boundary-true text i b, is_boundary-true text (i + length s) e) refl
 
 pub stands_at-not : (text : List ℕ) (i : ℕ) (s : List ℕ) → (IsCharBoundary text i → IsCharBoundary text (i + length s) → ⊥) → false ≡ stands_at text i s
-stands_at-not text i s h = from (stands_at text i s) refl
-  where
-    from : (b : Bool) → stands_at text i s ≡ b → false ≡ b
-    from false e = refl
-    from true e = let m = stands_at-means text i s e in absurd (h m.start m.end)
+stands_at-not text i s h = grind (arith, stands_at-means)
 
 -- ---- the order in which changes are gone over
 pub length-order : (way : Way) (xs : List Change) → length (order way xs) ≡ length xs
@@ -120,7 +116,7 @@ text_back-append asks (x ∷ xs) ys text =
 
 last_one : (asks : Bool) (way : Way) (xs : List Change) (m : ℕ) (x : Change) (now : List ℕ) → m < length xs → x ≡ get_or xs m x
     → text_back asks (map (entry_to_undo way) (take (m + 1) xs)) now ≡ option_and_then (text_back asks (map (entry_to_undo way) (take m xs))) (text_after asks (inverse (entry_to_undo way x)) now)
-last_one asks way xs m x now lt e = grind (arith, common_steps, read-last, text_back-append)
+last_one asks way xs m x now lt e = grind (arith, common_steps, text_back-append)
 
 pub GoesOver-next : (asks : Bool) (way : Way) (xs : List Change) (m : ℕ) (x : Change) (text now next : List ℕ) → m < length xs → x ≡ get_or xs m x → GoesOver asks way xs (m + 1) text now
     → apply (event_of (inverse (entry_to_undo way x))) now ≡ Some next → cursor_stands asks (inverse (entry_to_undo way x)) next ≡ true → GoesOver asks way xs m text next
@@ -171,7 +167,7 @@ cursor_stands-told true e text cursor b asked told test = test ∙ ap (λ o. opt
 -- ---- a text that goes over one entry, where the cursor is asked for
 pub leads-told : (e : Entry) (text now : List ℕ) (cursor : ℕ) → apply (event_of e) text ≡ Some now → cursor_told e ≡ Some cursor
     → is_some (text_after true e text) ≡ is_boundary now cursor
-leads-told e text now cursor h told = grind (arith, common_steps)
+leads-told e text now cursor h told = grind arith
 
 pub ruleset over_one = (cursor_stands-told, fits-is, mark-leaves, patch-makes, place-entry_to_undo)
 

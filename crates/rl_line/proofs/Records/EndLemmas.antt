@@ -29,7 +29,7 @@ Gathers-closed e es h l = by_units (reverse (units (e ∷ es))) refl
 
 -- what ends in a Begin has an open group
 not_open : (es : List Entry) → level es ≡ 0 → EndsOne es → ⊥
-not_open es l k = grind (arith, common_steps, cut_more-append)
+not_open es l k = grind (arith, cut_more-append)
 
 -- so what has none does not end in one
 ends-closed : (es : List Entry) → level es ≡ 0 → ends_in_begin es ≡ false
@@ -158,7 +158,7 @@ last-holds xs End m =
 
 pub last-entry-holds : (xs : List Change) (x : Change) → Some x ≡ slice_get xs (length xs - 1) → IsMatched (map entry_of xs)
     → has_change (last_of 1 (map entry_of xs)) ≡ not (is_begin (entry_of x))
-last-entry-holds xs x e m = grind (arith, common_steps, last-split, map-append, last-holds)
+last-entry-holds xs x e m = grind (arith, common_steps, last-split, last-holds)
 
 pub no-entry-holds : (xs : List Change) → None ≡ slice_get xs (length xs - 1) → has_change (last_of 1 (map entry_of xs)) ≡ false
 no-entry-holds xs e = ap (λ ys. has_change (last_of 1 (map entry_of ys))) (none-last xs e)

@@ -9,8 +9,7 @@ use Rattle.rl_line.proofs.Records.UnitLemmas.{last_of-change, redo_of-change}
 -- the entries before a place, the last first, with one entry more
 back-read : (xs : List Change) (m : ℕ) (z x : Change) → m < length xs → get_or xs m z ≡ x
     → reverse (map entry_of (take (m + 1) xs)) ≡ entry_of x ∷ reverse (map entry_of (take m xs))
-back-read xs m z x lt e =
-    ap reverse (read-last entry_of xs m z x lt e) ∙ reverse-append (map entry_of (take m xs)) (entry_of x ∷ [])
+back-read xs m z x lt e = grind (arith, common_steps)
 
 pub back_len-nil : (d k : ℕ) → back_len d k [] ≡ 0
 back_len-nil zero zero = refl
@@ -48,16 +47,7 @@ step-begin (suc d) k rs lt = let same : d ≡ suc d - 1 = omega arith in ap (λ 
 pub count-end : (xs : List Change) (at d k n : ℕ) → IsMatched (map entry_of xs) → (at ≡ 0) ⊎ ((d ≡ 0) × (k ≡ 0))
     → (length xs - at) + back_len d k (reverse (map entry_of (take at xs))) ≡ back_len 0 (max n 1) (reverse (map entry_of xs))
     → length xs - at ≡ length (last_of n (map entry_of xs))
-count-end xs at d k n m done h =
-    let none : back_len d k (reverse (map entry_of (take at xs))) ≡ 0 = elim done [ inl e ↦ at_start e | inr e ↦ all_taken e.0 e.1 ] in
-    let all : length xs - at ≡ back_len 0 (max n 1) (reverse (map entry_of xs)) = (omega arith) in
-    all ∙ last-counted n (map entry_of xs) m
-  where
-    at_start : at ≡ 0 → back_len d k (reverse (map entry_of (take at xs))) ≡ 0
-    at_start e = ap (λ a. back_len d k (reverse (map entry_of (take a xs)))) e ∙ back_len-nil d k
-
-    all_taken : d ≡ 0 → k ≡ 0 → back_len d k (reverse (map entry_of (take at xs))) ≡ 0
-    all_taken e f = ap (λ a. back_len a k (reverse (map entry_of (take at xs)))) e ∙ ap (λ a. back_len 0 a (reverse (map entry_of (take at xs)))) f
+count-end xs at d k n m done h = grind (arith, last-counted)
 
 -- ---- counting what is open
 pub deep-append : (d : ℕ) (xs ys : List Entry) → deep d (xs ++ ys) ≡ deep (deep d xs) ys
@@ -69,7 +59,7 @@ deep-append d (Changed k c ∷ xs) ys = deep-append d xs ys
 -- with the entry at i
 pub deep-next : (xs : List Change) (i n : ℕ) (x : Change) → i < length xs → x ≡ get_or xs i x → n ≡ deep 0 (map entry_of (take i xs))
     → deep 0 (map entry_of (take (i + 1) xs)) ≡ deep n (entry_of x ∷ [])
-deep-next xs i n x lt is e = grind (arith, common_steps, read-last, deep-append)
+deep-next xs i n x lt is e = grind (arith, common_steps, deep-append)
 
 -- ---- counting ahead
 -- what is left to count where d groups are open: nothing where none is
@@ -94,7 +84,7 @@ pub record Counted (xs : List Change) (at d : ℕ) : Type 0 where
 
 next-unit : (xs : List Change) (at d : ℕ) (x : Change) → at < length xs → x ≡ get_or xs at x → Counted xs at d
     → (at + 1) + rest_len (deep d (entry_of x ∷ [])) (map entry_of (drop (at + 1) xs)) ≡ ahead_len 0 (map entry_of xs)
-next-unit xs at d x lt is c = grind (arith, common_steps, read-first, ahead-step)
+next-unit xs at d x lt is c = grind (arith, common_steps)
 
 -- one entry more, where groups are open after it
 pub Counted-next : (xs : List Change) (at d n : ℕ) (x : Change) → at < length xs → x ≡ get_or xs at x → Counted xs at d
@@ -109,16 +99,10 @@ Counted-next xs at d (suc n) x lt is c e small some = record {
 -- the unit ends where no group is open after an entry, or where no entry is left
 pub Counted-end : (xs : List Change) (at d : ℕ) (x : Change) → IsMatched (map entry_of xs) → at < length xs → x ≡ get_or xs at x → Counted xs at d
     → 0 ≡ deep d (entry_of x ∷ []) → at + 1 ≡ length (redo_of (map entry_of xs))
-Counted-end xs at d x m lt is c e = grind (arith, common_steps, next-unit, redo-counted)
+Counted-end xs at d x m lt is c e = grind (arith, common_steps, redo-counted)
 
 pub Counted-all : (xs : List Change) (at d : ℕ) → length xs ≤ at → IsMatched (map entry_of xs) → Counted xs at d → at ≡ length (redo_of (map entry_of xs))
-Counted-all xs at d past m c =
-    let none : ahead_len d (map entry_of (drop at xs)) ≡ 0 = ap (λ ys. ahead_len d (map entry_of ys)) (drop_all at xs past) ∙ nothing d in
-    omega (arith, none, c.unit, redo-counted (map entry_of xs) m)
-  where
-    nothing : (d : ℕ) → ahead_len d [] ≡ 0
-    nothing zero = refl
-    nothing (suc d) = refl
+Counted-all xs at d past m c = grind (arith, drop_all, redo-counted)
 
 -- ---- closing groups
 abbrev pub begins : Option Change → Bool
@@ -156,8 +140,7 @@ end_one-popped (x ∷ xs) ys o e some h =
     takes_begin-off (map entry_of ys) (entry_of y.0) (sym (ends-past (map entry_of ys) (entry_of y.0) []) ∙ ap ends_in_begin (sym last) ∙ h) ∙ ap end_one (sym last)
 
 pub end_one-pushed : (xs ys : List Change) (x : Change) → ys ≡ xs ++ x ∷ [] → entry_of x ≡ End → ends_in_begin (map entry_of xs) ≡ false → map entry_of ys ≡ end_one (map entry_of xs)
-end_one-pushed xs ys x e end h =
-    ap (map entry_of) e ∙ map-append entry_of xs (x ∷ []) ∙ ap (λ (y : Entry). map entry_of xs ++ y ∷ []) end ∙ adds_end-after (map entry_of xs) h
+end_one-pushed xs ys x e end h = grind (arith, map-append, adds_end-after)
 
 -- one group less to close
 pub closes-next : (count i : ℕ) (es next all : List Entry) → i < count → next ≡ end_one es → end_times (count - i) es ≡ all → end_times (count - (i + 1)) next ≡ all
@@ -167,7 +150,7 @@ closes-next count i es next all lt e h =
 
 -- where closing fewer groups adds an End, closing all does
 pub adds-more : (count i : ℕ) (es next : List Entry) → i < count → next ≡ end_one es → adds_end (count - (i + 1)) next ≡ true → adds_end (count - i) es ≡ true
-adds-more count i es next lt e h = grind (arith, common_steps, or-true)
+adds-more count i es next lt e h = grind arith
 
 -- so does closing one that is not empty
 pub adds-here : (n : ℕ) (es : List Entry) → 0 < n → ends_in_begin es ≡ false → adds_end n es ≡ true
@@ -187,8 +170,7 @@ adds-off xs m (suc n) x lt e some h =
 
 pub adds-before : (xs : List Change) (m n : ℕ) (x : Change) → m < length xs → x ≡ get_or xs m x → 0 < n → is_begin (entry_of x) ≡ false
     → adds_end n (map entry_of (take (m + 1) xs)) ≡ true
-adds-before xs m n x lt e some h =
-    adds-here n _ some (ap ends_in_begin (read-last entry_of xs m x x lt (sym e)) ∙ ends-past (map entry_of (take m xs)) (entry_of x) [] ∙ h)
+adds-before xs m n x lt e some h = grind (arith, common_steps, adds-here, ends-past)
 
 -- ---- one change alone
 -- the last entry of the list
@@ -205,7 +187,7 @@ none-last (y ∷ (z ∷ zs)) e =
     let none : z ∷ zs ≡ [] = none-last (z ∷ zs) (e ∙ ap (slice_get (y ∷ (z ∷ zs))) (two (length zs))) in cc
 
 pub last-alone : (n : ℕ) (xs : List Change) (x : Change) → n ≤ 1 → Some x ≡ slice_get xs (length xs - 1) → is_change (entry_of x) ≡ true → last_of n (map entry_of xs) ≡ entry_of x ∷ []
-last-alone n xs x few e is = grind (arith, common_steps, last-split, map-append, last_of-change)
+last-alone n xs x few e is = grind (arith, common_steps, last-split, last_of-change)
 
 pub next-alone : (xs : List Change) (x : Change) → Some x ≡ slice_get xs 0 → is_change (entry_of x) ≡ true → IsMatched (map entry_of xs) → redo_of (map entry_of xs) ≡ entry_of x ∷ []
 next-alone [] x e is m = cc

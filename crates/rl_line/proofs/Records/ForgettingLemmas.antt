@@ -40,15 +40,11 @@ fits-heavy most bytes es bound heavy = rw (past-bound bytes (bytes_held es) boun
 -- the answer to whether they fit, from the two cases
 from-cases : (most bytes k : ℕ) (es : List Entry) → ((j : ℕ) → k ≤ j → fits most bytes (drop j es) ≡ true) → ((j : ℕ) → j < k → fits most bytes (drop j es) ≡ false)
     → (j : ℕ) → fits most bytes (drop j es) ≡ nat_le k j
-from-cases most bytes k es inside outside j = go (leb k j) refl
-  where
-    go : (b : Bool) → leb k j ≡ b → fits most bytes (drop j es) ≡ leb k j
-    go true h = inside j (leb-true k j h) ∙ sym h
-    go false h = outside j (leb-false k j h) ∙ sym h
+from-cases most bytes k es inside outside j = grind arith
 
 -- any number of bytes fits
 pub FitsFrom-any : (most bytes k : ℕ) (xs : List Change) → length xs ≤ unbounded → k ≡ length xs - most → bytes ≡ unbounded → FitsFrom most bytes (map entry_of xs) k
-FitsFrom-any most bytes k xs short e free = grind (arith, common_steps, length-map, from-cases, fits-any, length-drop, fits-long)
+FitsFrom-any most bytes k xs short e free = grind (arith, common_steps)
 
 -- from the place `at` on the bytes were counted, and so many more fit
 pub record Counted (most bytes first : ℕ) (xs : List Change) (at left : ℕ) : Type 0 where
@@ -59,24 +55,22 @@ pub record Counted (most bytes first : ℕ) (xs : List Change) (at left : ℕ) :
 
 -- no more than `most` entries are left
 pub FitsFrom-counted : (most bytes first at left : ℕ) (xs : List Change) → length xs ≤ unbounded → at ≤ first → Counted most bytes first xs at left → FitsFrom most bytes (map entry_of xs) at
-FitsFrom-counted most bytes first at left xs short end c =
-    grind (arith, common_steps, length-map, from-cases, fits-counted, length-drop, bytes-after, fits-long)
+FitsFrom-counted most bytes first at left xs short end c = grind (arith, common_steps, bytes-after)
 
 -- the entries from a place on hold what the one there does and what those after it do
 held-read : (xs : List Change) (at : ℕ) (x : Change) → 0 < at → get_or xs (at - 1) x ≡ x → at ≤ length xs
     → bytes_held (drop (at - 1) (map entry_of xs)) ≡ (length (old_text (entry_of x)) + length (new_text (entry_of x))) + bytes_held (drop at (map entry_of xs))
-held-read xs at x some e within = grind (arith, common_steps, drop-map, drop-cons)
+held-read xs at x some e within = grind (arith, common_steps, drop-map)
 
 -- an entry was counted
 pub Counted-next : (most bytes first at left size : ℕ) (xs : List Change) (x : Change) → first < at → size ≤ left → get_or xs (at - 1) x ≡ x
     → size ≡ length (old_text (entry_of x)) + length (new_text (entry_of x)) → Counted most bytes first xs at left → Counted most bytes first xs (at - 1) (left - size)
-Counted-next most bytes first at left size xs x lt le e s c = grind (arith, common_steps, held-read)
+Counted-next most bytes first at left size xs x lt le e s c = grind (arith, held-read)
 
 -- the one before does not fit any more
 pub FitsFrom-stopped : (most bytes first at left size : ℕ) (xs : List Change) (x : Change) → bytes < unbounded → first < at → left < size → get_or xs (at - 1) x ≡ x
     → size ≡ length (old_text (entry_of x)) + length (new_text (entry_of x)) → Counted most bytes first xs at left → FitsFrom most bytes (map entry_of xs) at
-FitsFrom-stopped most bytes first at left size xs x bound lt heavy e s c =
-    grind (arith, common_steps, length-map, held-read, from-cases, fits-counted, length-drop, bytes-after, fits-heavy)
+FitsFrom-stopped most bytes first at left size xs x bound lt heavy e s c = grind (arith, common_steps, held-read, bytes-after)
 
 -- ---- which units go
 -- what a list is, from its units, the oldest first
@@ -141,7 +135,7 @@ open-stays most bytes es m h = go (reverse (units es)) refl h
 -- a whole unit goes where it and what comes after it do not fit
 pub whole-goes : (most bytes : ℕ) (es : List Entry) → fits most bytes es ≡ false → OldestIsWhole es
     → kept_within most bytes es ≡ kept_within most bytes (drop (length (redo_of es)) es)
-whole-goes most bytes es h o = grind (arith, common_steps, whole-list)
+whole-goes most bytes es h o = grind (arith, whole-list)
 
 -- the units before the place `at` went
 pub record Forgetting (most bytes : ℕ) (xs : List Change) (at : ℕ) : Type 0 where
@@ -155,7 +149,7 @@ Forgetting-stops most bytes at xs e f = (omega (arith, f.within, length-map xs e
 
 pub Forgetting-fits : (most bytes first at : ℕ) (xs : List Change) → first ≤ at → FitsFrom most bytes (map entry_of xs) first → Forgetting most bytes xs at
     → ForgetsFirst most bytes (map entry_of xs) at
-Forgetting-fits most bytes first at xs le c f = grind (arith, common_steps, Forgetting-stops, fitting-stay, drop-map, le-leb)
+Forgetting-fits most bytes first at xs le c f = grind (arith, common_steps, fitting-stay, drop-map)
 
 -- the part of a list that is its oldest unit
 pub unit-is : (n : ℕ) (xs : List Change) → IsMatched (map entry_of xs) → n ≡ length (redo_of (map entry_of xs)) → map entry_of (take n xs) ≡ redo_of (map entry_of xs)
@@ -208,15 +202,14 @@ units_kept-opens most bytes (Whole es ∷ us) = from (fits most bytes (together 
     from false rest = rest
 
 kept-good : (most bytes : ℕ) (es : List Entry) → IsMatched es → AllGood (reverse (units_kept most bytes (reverse (units es))))
-kept-good most bytes es m =
-    AllGood-reverse (units_kept most bytes (reverse (units es))) (units_kept-good most bytes (reverse (units es)) (AllGood-reverse (units es) (units-good es m)))
+kept-good most bytes es m = grind (arith, AllGood-reverse, units_kept-good, units-good)
 
 -- the marks match, and as many groups are open
 pub IsMatched-kept : (most bytes : ℕ) (es : List Entry) → IsMatched es → IsMatched (kept_within most bytes es)
 IsMatched-kept most bytes es m = IsMatched-together (reverse (units_kept most bytes (reverse (units es)))) (kept-good most bytes es m)
 
 pub level-kept : (most bytes : ℕ) (es : List Entry) → IsMatched es → level (kept_within most bytes es) ≡ level es
-level-kept most bytes es m = grind (arith, common_steps, good_cuts, kept-good, append-nil, opens-reverse, units_kept-opens)
+level-kept most bytes es m = grind (arith, common_steps, good_cuts, kept-good, opens-reverse, units_kept-opens)
 
 -- from the Begin of an open group on all stays
 kept-from_open : (most bytes : ℕ) (us vs : List UndoUnit) → (stay : List UndoUnit) × (units_kept most bytes (us ++ Open ∷ vs) ≡ stay ++ Open ∷ vs)
@@ -248,7 +241,7 @@ group-stays most bytes front inside m =
     )
 
 pub AtLevel-forgotten : (most bytes n : ℕ) (r : Record) → AtLevel n r → AtLevel n (forgotten most bytes r)
-AtLevel-forgotten most bytes n r a = grind (arith, common_steps, IsMatched-kept, level-kept)
+AtLevel-forgotten most bytes n r a = grind (arith, IsMatched-kept, level-kept)
 
 -- a list that lost its first entries
 pub removed-front : (n : ℕ) (xs ys : List Change) → ys ≡ remove_range xs 0 n → map entry_of ys ≡ drop n (map entry_of xs)
@@ -257,7 +250,7 @@ removed-front n xs ys e = ap (map entry_of) e ∙ sym (drop-map entry_of n xs)
 -- where the record is cut then
 pub dropped-first : (n count : ℕ) (r : Record) (es now : List Entry) (fresh : Freshness) → n ≤ length es → cut_at n es fresh ≡ r → count ≤ length r.recorded → now ≡ drop count es
     → (n - count ≤ length now) × (cut_at (n - count) now fresh ≡ record r { recorded = drop count r.recorded })
-dropped-first n count r es now fresh within v few e = grind (arith, common_steps, length-take-le, drop-take, drop-drop, length-drop)
+dropped-first n count r es now fresh within v few e = grind (arith, common_steps, drop-take)
 
 pub forgotten-is : (most bytes count : ℕ) (r : Record) (es : List Entry) → es ≡ r.recorded → ForgetsFirst most bytes es count
     → record r { recorded = drop count r.recorded } ≡ forgotten most bytes r
@@ -300,14 +293,13 @@ gone-kept most bytes es = ap (λ gone. gone ++ kept_within most bytes es) (gone-
 
 -- what went is matched by itself, and leaves no group open
 gone-good : (most bytes : ℕ) (es : List Entry) → IsMatched es → AllGood (reverse (went most bytes (reverse (units es))).0)
-gone-good most bytes es m = grind (arith, common_steps, AllGood-reverse, AllGood-left, units-good)
+gone-good most bytes es m = grind (arith, AllGood-reverse, AllGood-left, units-good)
 
 pub gone-matched : (most bytes : ℕ) (es : List Entry) → IsMatched es → IsMatched (gone_within most bytes es)
-gone-matched most bytes es m =
-    subst IsMatched (sym (gone-is most bytes es)) (IsMatched-together (reverse (went most bytes (reverse (units es))).0) (gone-good most bytes es m))
+gone-matched most bytes es m = grind (arith, gone-is, IsMatched-together, gone-good)
 
 pub gone-level : (most bytes : ℕ) (es : List Entry) → IsMatched es → level (gone_within most bytes es) ≡ 0
-gone-level most bytes es m = grind (arith, common_steps, gone-is, good_cuts, gone-good, append-nil, opens-reverse)
+gone-level most bytes es m = grind (arith, common_steps, gone-is, good_cuts, gone-good, opens-reverse)
 
 -- what is left fits, or begins with the Begin of an open group
 pub kept-fits : (most bytes : ℕ) (us : List UndoUnit) → (fits most bytes (together (reverse (units_kept most bytes us))) ≡ true) ⊎ (0 < opens us)
@@ -321,7 +313,7 @@ kept-fits most bytes (Whole es ∷ us) = from (fits most bytes (together (revers
     from false h rest = rest
 
 pub left-fits : (most bytes : ℕ) (es : List Entry) → level es ≡ 0 → fits most bytes (kept_within most bytes es) ≡ true
-left-fits most bytes es none = grind (arith, common_steps, kept-fits, opens-reverse)
+left-fits most bytes es none = grind (arith, kept-fits, opens-reverse)
 
 -- what is left replays from the text that what went led to
 pub left-replays : (most bytes : ℕ) (es : List Entry) (start text : List ℕ) → replay_entries es start ≡ Some text

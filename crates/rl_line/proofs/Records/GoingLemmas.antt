@@ -35,4 +35,4 @@ mark-stays (Changed k c) cursor p = cc
 mark-stays mark cursor p = refl
 
 pub over-mark : (e : Entry) (line : Line) → place e ≡ None → length line.text ≤ line.limit → IsSome (line_back (e ∷ []) line) → line_back (e ∷ []) line ≡ Some line
-over-mark e line none within follows = grind (arith, common_steps, mark-leaves, max-eq_left, one-back, mark-stays, one-stands)
+over-mark e line none within follows = grind (arith, mark-leaves)

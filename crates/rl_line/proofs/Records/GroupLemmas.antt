@@ -156,10 +156,10 @@ Inside front r = InsideOf front r.recorded
 
 pub Inside-event : (event : Event) (front : List Entry) (r : Record) → Inside front r → Inside front (record_step r event)
 unfolding record_step
-Inside-event event front r k = grind (arith, common_steps, recorded-cases, entries_after-inside, IsMatched-after, last_told-begin, last_told-marks)
+Inside-event event front r k = grind (arith, entries_after-inside, IsMatched-after, last_told-begin, last_told-marks)
 
 pub Inside-begun : (front : List Entry) (r : Record) → Inside front r → Inside front (begun r)
-Inside-begun front r k = grind (arith, common_steps, append_assoc, IsMatched-begin)
+Inside-begun front r k = grind (arith, common_steps, IsMatched-begin)
 
 pub Inside-steps : (steps : List InGroup) (front : List Entry) (r : Record) → Inside front r → Inside front (after_in_group steps r)
 Inside-steps [] front r k = k

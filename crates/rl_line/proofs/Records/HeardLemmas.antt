@@ -27,7 +27,7 @@ cursor-gone e line next h = ap (λ (l : Line). l.cursor) (Fits-from (event_of e)
 -- ---- the steps lead the line where the entries do
 -- a mark leaves a line whose text keeps to its limit
 by_a_mark : (line next : Line) → length line.text ≤ line.limit → stepped line line.text line.cursor ≡ next → next ≡ line
-by_a_mark line next within is = grind (arith, common_steps)
+by_a_mark line next within is = grind arith
 
 pub after-steps_ahead : (es : List Entry) (line now : Line) → IsCharBoundary line.text line.cursor → length line.text ≤ line.limit → line_ahead es line ≡ Some now
     → after (steps_ahead line.cursor es) line ≡ Some now
@@ -70,8 +70,7 @@ cursor_past-ahead (e ∷ es) line now h =
     let p = through (line_ahead es) (line_after e line) now h in ap (λ k. cursor_past k es) (sym (cursor-gone e line p.0 p.1)) ∙ cursor_past-ahead es p.0 now p.2
 
 pub cursor_past_back-one_more : (e : Entry) (es : List Entry) (cursor : ℕ) → cursor_past_back cursor (e ∷ es) ≡ cursor_after (cursor_past_back cursor es) (inverse e)
-cursor_past_back-one_more e es cursor =
-    ap (cursor_past cursor) (turned-cons e es) ∙ cursor_past-append (map inverse (reverse es)) (inverse e) cursor
+cursor_past_back-one_more e es cursor = grind (arith, turned-cons, cursor_past-append)
 
 steps_ahead-append : (es ds : List Entry) (cursor : ℕ) → steps_ahead cursor (es ++ ds) ≡ steps_ahead cursor es ++ steps_ahead (cursor_past cursor es) ds
 steps_ahead-append [] ds cursor = refl
@@ -83,7 +82,7 @@ steps_ahead-append (mark ∷ es) ds cursor = steps_ahead-append es ds cursor
 -- the way back over entries is that over the last ones, and then over those before them
 steps_back-parts : (more : List Entry) (e : Entry) (es : List Entry) (cursor : ℕ)
     → steps_back cursor (more ++ e ∷ es) ≡ steps_back cursor es ++ steps_ahead (cursor_past_back cursor es) (inverse e ∷ map inverse (reverse more))
-steps_back-parts more e es cursor = grind (arith, common_steps, reverse-append, append_assoc, map-append, steps_ahead-append)
+steps_back-parts more e es cursor = grind (arith, common_steps, steps_ahead-append)
 
 same_room : (text : List ℕ) → NeedsRoom text text → ⊥
 same_room text (inl longer) = omega (arith, longer)
@@ -128,7 +127,7 @@ module _ {L : Type 0} (step : L → Event → L) where
   ahead-one_more : (es : List Entry) (e : Entry) (line now : Line) (l : L) → line_ahead es line ≡ Some now
       → listener_after step line.cursor (steps_ahead line.cursor (es ++ e ∷ [])) l
       ≡ listener_after step now.cursor (steps_ahead now.cursor (e ∷ [])) (listener_after step line.cursor (steps_ahead line.cursor es) l)
-  ahead-one_more es e line now l h = grind (arith, common_steps, steps_ahead-append, heard-past, cursor_past-ahead)
+  ahead-one_more es e line now l h = grind (arith, steps_ahead-append, heard-past, cursor_past-ahead)
 
   pub back-past : (e : Entry) (es : List Entry) (cursor : ℕ) (l : L)
       → listener_after step cursor (steps_back cursor (e ∷ es)) l
@@ -175,7 +174,7 @@ module _ {L : Type 0} (step : L → Event → L) where
   pub back-one_more : (e : Entry) (es : List Entry) (line now : Line) (l : L) → line_back es line ≡ Some now
       → listener_after step line.cursor (steps_back line.cursor (e ∷ es)) l
       ≡ listener_after step now.cursor (steps_ahead now.cursor (inverse e ∷ [])) (listener_after step line.cursor (steps_back line.cursor es) l)
-  back-one_more e es line now l h = grind (arith, common_steps, turned-cons, ahead-one_more, line_back-ahead)
+  back-one_more e es line now l h = grind (arith, common_steps, ahead-one_more, line_back-ahead)
 
 pub ruleset heard_one = (HeardInPart-one, place-entry_to_undo, place_after-is)
 

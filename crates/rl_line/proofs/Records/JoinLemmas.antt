@@ -31,8 +31,7 @@ told-last-of cursors xs n x y le some is e =
     l.now ∙ ap (λ z. l.front ++ z ∷ []) e ∙ sym (ap (last_told cursors) l.was ∙ last_told-past cursors l.front (entry_of x) [])
 
 pub told-others : (xs : List Change) (n : ℕ) (y : Change) → 0 < n → drop n (map entry_of (set xs (n - 1) y)) ≡ drop n (map entry_of xs)
-told-others xs n y some =
-    drop-map entry_of n (set xs (n - 1) y) ∙ ap (map entry_of) (drop-set-lt n xs (n - 1) y (omega arith)) ∙ sym (drop-map entry_of n xs)
+told-others xs n y some = grind (arith, drop-map, drop-set-lt)
 
 -- one that stands for the same entry
 same-at : (xs : List Change) (k : ℕ) (x y : Change) → x ≡ get_or xs k x → entry_of y ≡ entry_of x → map entry_of (set xs k y) ≡ map entry_of xs
@@ -60,8 +59,7 @@ step-Replace r i s t = refl
 
 heard-is : (event : Event) (r : Record) (es : List Entry) (fresh : Freshness) → record_step r event ≡ heard event r → entries_after event r.recorded ≡ es → freshness_of event r.recorded ≡ fresh
     → record_step r event ≡ record { recorded = es; pending = []; fresh = fresh }
-heard-is event r es fresh step e f =
-    step ∙ ap (λ l. record { recorded = l; pending = []; fresh = freshness_of event r.recorded }) e ∙ ap (λ g. record { recorded = es; pending = []; fresh = g }) f
+heard-is event r es fresh step e f = grind arith
 
 pub joins : (event : Event) (r : Record) (xs : List Change) (n : ℕ) (fresh told : Freshness) (x y : Change) → record_step r event ≡ heard event r → n ≤ length xs → cut_at n (map entry_of xs) fresh ≡ r
     → 0 < n → x ≡ get_or xs (n - 1) x → TakesIn event (entry_of x) (entry_of y) (Some told) → settled told (cut_at n (map entry_of (set xs (n - 1) y)) fresh) ≡ record_step r event
@@ -79,7 +77,7 @@ joins-not event r xs n fresh x y step le v some is t =
     (ap (λ es. cut_at n es fresh) (same-at xs (n - 1) x y is t.1) ∙ v, heard-is event r _ _ step apart.0 apart.1)
 
 pub joins-nothing : (event : Event) (r : Record) (es : List Entry) (n : ℕ) (fresh : Freshness) → record_step r event ≡ heard event r → cut_at n es fresh ≡ r → n ≡ 0 → Joins event r r false
-joins-nothing event r es n fresh step v none = grind (arith, common_steps, heard-is)
+joins-nothing event r es n fresh step v none = grind arith
 
 pub stays-err : (xs : List Change) (n : ℕ) (fresh : Freshness) (r : Record) (x y : Change) → cut_at n (map entry_of xs) fresh ≡ r → x ≡ get_or xs (n - 1) x → entry_of y ≡ entry_of x
     → cut_at n (map entry_of (set xs (n - 1) y)) fresh ≡ r
@@ -92,29 +90,20 @@ unfolding record_step
 step-Cursors r before after = refl
 
 pub told-stale : (r : Record) (before after : ℕ) → r.fresh ≡ Stale → r ≡ record_step r (Cursors before after)
-told-stale r before after e = grind (arith, common_steps, step-Cursors)
+told-stale r before after e = grind (arith, step-Cursors)
 
 pub told-nothing : (r : Record) (es : List Entry) (n before after : ℕ) (fresh : Freshness) → cut_at n es fresh ≡ r → n ≡ 0 → cut_at n es Stale ≡ record_step r (Cursors before after)
-told-nothing r es n before after fresh v none =
-    let empty : r.recorded ≡ [] = ap (λ (s : Record). s.recorded) (sym v) ∙ ap (λ k. take k es) none in
-    ap (λ (s : Record). record { recorded = s.recorded; pending = s.pending; fresh = Stale }) v
-    ∙ ap (λ l. record { recorded = l; pending = r.pending; fresh = Stale }) (nothing-told r.fresh empty) ∙ sym (step-Cursors r before after)
-  where
-    nothing-told : (fresh : Freshness) {es : List Entry} → es ≡ [] → es ≡ entries_told fresh before after es
-    nothing-told Stale e = refl
-    nothing-told Added e = e ∙ ap (last_told (before, after)) (sym e)
-    nothing-told (Joined first) e = e ∙ ap (last_told (first, after)) (sym e)
+told-nothing r es n before after fresh v none = grind (arith, step-Cursors)
 
 pub told-last : (r : Record) (xs : List Change) (n before after first : ℕ) (fresh : Freshness) (x y : Change) → n ≤ length xs → cut_at n (map entry_of xs) fresh ≡ r → 0 < n
     → x ≡ get_or xs (n - 1) x → entry_of y ≡ with_cursors (first, after) (entry_of x) → ((es : List Entry) → last_told (first, after) es ≡ entries_told fresh before after es)
     → cut_at n (map entry_of (set xs (n - 1) y)) Stale ≡ record_step r (Cursors before after)
-told-last r xs n before after first fresh x y le v some is e told = grind (arith, common_steps, told-last-of, told-others, step-Cursors)
+told-last r xs n before after first fresh x y le v some is e told = grind (arith, told-last-of, told-others, step-Cursors)
 
 -- an entry that is added, and none
 pub added-entry : (xs now : List Change) (n k : ℕ) (e : Change) (fresh : Freshness) (told : Freshness) (r : Record) → n ≤ length xs → cut_at n (map entry_of xs) fresh ≡ r
     → now ≡ take n xs ++ e ∷ [] → k ≡ n + 1 → (k ≤ length now) × (cut_at k (map entry_of now) told ≡ added (entry_of e) told r)
-added-entry xs now n k e fresh told r le v is at =
-    grind (arith, common_steps, map-append, take-map, length-append, length-take-le, length-map, take_all, drop_all)
+added-entry xs now n k e fresh told r le v is at = grind (arith, common_steps, take-map)
 
 -- ---- events that join nothing
 joins_nothing : (event : Event) → ((e : Entry) → joined event e ≡ None) → (es : List Entry) → IsApart event es
@@ -152,7 +141,7 @@ fresh-InsertStr-nothing es i s e =
     ap (λ (t : List ℕ). freshness_of (InsertStr i t) es) (nil_from_length s e) ∙ (joins_nothing (InsertStr i []) (λ e. refl) es).1
 
 pub inserts-nothing : (r : Record) (i : ℕ) (s : List ℕ) → (length s == 0) ≡ true → settled Stale r ≡ record_step r (InsertStr i s)
-inserts-nothing r i s e = grind (arith, common_steps, eqb-true, heard-is, step-InsertStr, after-InsertStr-nothing, fresh-InsertStr-nothing)
+inserts-nothing r i s e = grind (arith, step-InsertStr, after-InsertStr-nothing, fresh-InsertStr-nothing)
 
 text-Entry : (s : List ℕ) (e : Entry) → (length s == 0) ≡ false → (if length s == 0 then [] else e ∷ []) ≡ e ∷ []
 text-Entry s e some = ap (λ (b : Bool). if b then [] else e ∷ []) some
@@ -181,7 +170,7 @@ fresh-Delete-nothing es i s side e =
     ap (λ (t : List ℕ). freshness_of (Delete i t side) es) (nil_from_length s e) ∙ (joins_nothing (Delete i [] side) (joined-nothing i side) es).1
 
 pub deletes-nothing : (r : Record) (i : ℕ) (s : List ℕ) (side : Direction) → (length s == 0) ≡ true → settled Stale r ≡ record_step r (Delete i s side)
-deletes-nothing r i s side e = grind (arith, common_steps, eqb-true, heard-is, step-Delete, after-Delete-nothing, fresh-Delete-nothing)
+deletes-nothing r i s side e = grind (arith, step-Delete, after-Delete-nothing, fresh-Delete-nothing)
 
 -- an event that did not join adds its entry
 pub adds-InsertChar : (r now : Record) (i c : ℕ) → Joins (InsertChar i c) r now false → added (Changed Insertion (untold i [] (encode_utf8 c))) Added now ≡ record_step r (InsertChar i c)
@@ -191,12 +180,12 @@ adds-InsertChar r now i c j = ap (added (Changed Insertion (untold i [] (encode_
 pub adds-Delete : (r now : Record) (i : ℕ) (s t : List ℕ) (side : Direction) → (length s == 0) ≡ false → t ≡ s → Joins (Delete i s side) r now false
     → added (Changed Deletion (untold i t [])) Added now ≡ record_step r (Delete i s side)
 unfolding entries_of
-adds-Delete r now i s t side some e j = grind (arith, common_steps, text-Entry)
+adds-Delete r now i s t side some e j = grind arith
 
 pub adds-Replace : (r now : Record) (i : ℕ) (s t a b : List ℕ) → a ≡ s → b ≡ t → Joins (Replace i s t) r now false
     → added (Changed Replacement (untold i a b)) Added now ≡ record_step r (Replace i s t)
 unfolding entries_of
-adds-Replace r now i s t a b e f j = grind (arith, common_steps)
+adds-Replace r now i s t a b e f j = grind arith
 
 -- ---- the side from which a text is taken is not recorded
 same-side : (i : ℕ) (s : List ℕ) (side : Direction) (es : List Entry)
@@ -208,7 +197,7 @@ same-side i s side (e ∷ (d ∷ ds)) = let rest = same-side i s side (d ∷ ds)
 
 pub record_step-side : (i : ℕ) (s : List ℕ) (side : Direction) (r : Record) → record_step r (Delete i s Forward) ≡ record_step r (Delete i s side)
 unfolding record_step
-record_step-side i s side r = grind (arith, common_steps, same-side)
+record_step-side i s side r = grind (arith, same-side)
 
 pub ruleset alone = (record_step-Start, record_step-Stop, record_step-side)
 

@@ -25,7 +25,7 @@ deep-after event es d =
 
 pub AtLevel-step : (event : Event) (n : ℕ) (r : Record) → AtLevel n r → AtLevel n (record_step r event)
 unfolding record_step
-AtLevel-step event n r a = grind (arith, common_steps, BothMatched-step, recorded-cases, deep-after, last_told-deep, level-counted)
+AtLevel-step event n r a = grind (arith, BothMatched-step, deep-after, last_told-deep, level-counted)
 
 pub AtLevel-heard : (event : Event) (n : ℕ) (r now : Record) → now ≡ record_step r event → AtLevel n r → AtLevel n now
 AtLevel-heard event n r now e a = subst (AtLevel n) (sym e) (AtLevel-step event n r a)
@@ -122,12 +122,11 @@ pub record LevelAt (xs : List Change) (len at n : ℕ) : Type 0 where
 -- the entries after which the count stands are those before the last of them, and that one
 front-last : (xs : List Change) (len at : ℕ) (z x : Change) → len < at → at ≤ length xs → get_or xs (at - 1) z ≡ x
     → map entry_of (take at xs) ≡ map entry_of (take (at - 1) xs) ++ entry_of x ∷ []
-front-last xs len at z x lt within e = grind (arith, common_steps, read-last)
+front-last xs len at z x lt within e = grind (arith, common_steps)
 
 pub opened-before : (xs : List Change) (len at n : ℕ) (z x : Change) → len < at → get_or xs (at - 1) z ≡ x → entry_of x ≡ Begin → LevelAt xs len at n
     → n ≡ suc (level (map entry_of (take (at - 1) xs)))
-opened-before xs len at n z x lt e b l =
-    l.level ∙ ap level (front-last xs len at z x lt l.within e ∙ ap (λ f. map entry_of (take (at - 1) xs) ++ f ∷ []) b) ∙ level-begin (map entry_of (take (at - 1) xs))
+opened-before xs len at n z x lt e b l = grind (arith, common_steps, level-begin)
 
 pub LevelAt-begin : (xs : List Change) (len at n : ℕ) (z x : Change) → len < at → get_or xs (at - 1) z ≡ x → entry_of x ≡ Begin → LevelAt xs len at n → LevelAt xs len (at - 1) (n - 1)
 LevelAt-begin xs len at n z x lt e b l = record {
@@ -138,7 +137,7 @@ LevelAt-begin xs len at n z x lt e b l = record {
 
 pub LevelAt-end : (xs : List Change) (len at n : ℕ) (z x : Change) → IsMatched (map entry_of xs) → len < at → get_or xs (at - 1) z ≡ x → entry_of x ≡ End → LevelAt xs len at n
     → LevelAt xs len (at - 1) (n + 1)
-LevelAt-end xs len at n z x m lt e b l = grind (arith, common_steps, front-last, level-end, front-matched)
+LevelAt-end xs len at n z x m lt e b l = grind (arith, common_steps, level-end, front-matched)
 
 pub level-change : (es : List Entry) (e : Entry) → is_change e ≡ true → level (es ++ e ∷ []) ≡ level es
 level-change es (Changed k c) h = ap opens (cut_more-append [] es (Changed k c ∷ []))
@@ -155,12 +154,11 @@ AtLevel-one way n l r e is one a =
 
 pub LevelAt-change : (xs : List Change) (len at n : ℕ) (z x : Change) → len < at → get_or xs (at - 1) z ≡ x → is_change (entry_of x) ≡ true → LevelAt xs len at n
     → LevelAt xs len (at - 1) n
-LevelAt-change xs len at n z x lt e b l = grind (arith, common_steps, front-last, level-change)
+LevelAt-change xs len at n z x lt e b l = grind (arith, common_steps, level-change)
 
 -- no count is past the list's length
 pub LevelAt-small : (xs : List Change) (len at n : ℕ) → IsMatched (map entry_of xs) → LevelAt xs len at n → n ≤ at
-LevelAt-small xs len at n m l =
-    omega (arith, l.level, level-within (map entry_of (take at xs)) (front-matched xs at m), length-map (take at xs) entry_of, length-take at xs)
+LevelAt-small xs len at n m l = grind (arith, level-within, front-matched, length-map, length-take)
 
 pub LevelAt-done : (xs : List Change) (len at n : ℕ) → at ≤ len → LevelAt xs len at n → n ≡ level (take len (map entry_of xs))
 LevelAt-done xs len at n le l = l.level ∙ ap level (first-view len at xs (omega (arith, l.within, l.cut, le)))

@@ -68,7 +68,7 @@ level-is es fs h = level-flags (units es) ∙ ap length (cut_good es [] fs tt h)
 -- what stands before the last entry, and what it makes of the marks
 pub marks-last : (front : List Entry) (e : Entry) (fs : List Bool) → marks (front ++ (e ∷ [])) [] ≡ Some fs
     → (gs : List Bool) × (marks front [] ≡ Some gs) × (mark e gs ≡ Some fs)
-marks-last front e fs h = grind (arith, common_steps, marks-append)
+marks-last front e fs h = grind (arith, marks-append)
 
 marks-other : (es : List Entry) (fs : List Bool) → ends_in_begin es ≡ false → marks es [] ≡ Some fs → fs ≡ touched fs
 marks-other es fs =

@@ -74,7 +74,7 @@ moved-cut Ahead n count r m e =
 -- the same of the code's numbers
 pub moved-at : (way : Way) (n len count recorded : ℕ) (was r now : Record) → was ≡ r → BothMatched was → len ≡ length was.recorded → count ≡ length (unit_of way n r) → recorded ≡ count_over way len count
     → now ≡ cut_at recorded (was.recorded ++ was.pending) Stale → now ≡ moved way n r
-moved-at way n len count recorded was r now v m l e f is = grind (arith, common_steps, moved-cut)
+moved-at way n len count recorded was r now v m l e f is = grind (arith, moved-cut)
 
 pub unit-within : (way : Way) (n count : ℕ) (r : Record) → BothMatched r → count ≡ length (unit_of way n r) → count_over way (length r.recorded) count ≤ length r.recorded + length r.pending
 unit-within Back n count r m e = omega arith
@@ -138,7 +138,6 @@ marks-lead Ahead es line none at = marks-ahead es line none at
 
 -- the first entries of a list, where there are so many
 pub first-view : (len n : ℕ) (xs : List Change) → n ≡ min len (length xs) → map entry_of (take n xs) ≡ take len (map entry_of xs)
-first-view len n xs e =
-    sym (take-map entry_of n xs) ∙ ap (λ k. take k (map entry_of xs)) (e ∙ ap (min len) (sym (length-map xs entry_of))) ∙ take_min len (map entry_of xs)
+first-view len n xs e = grind (arith, common_steps, take-map)
 
 pub ruleset parts_of_lists = (first-view, pending-part, recorded-part)

@@ -13,7 +13,7 @@ IsMatched-on (Whole es ∷ vs) g o = IsMatched-append es (on vs) (some_is (marks
 
 -- a closed unit at the front is what a redo puts back
 redo_of-front : (es rest : List Entry) → Settles es → IsMatched rest → redo_of (es ++ rest) ≡ es
-redo_of-front es rest s h = grind (arith, common_steps, units-append, reverse-append)
+redo_of-front es rest s h = grind (arith, common_steps, units-append)
 
 -- the record after so many redos
 abbrev redone_times : ℕ → Record → Record
@@ -24,7 +24,7 @@ abbrev lists : List Entry → List Entry → Record
 lists r p = record { recorded = r; pending = p; fresh = Stale }
 
 redo_one : (es kept rest : List Entry) → Settles es → IsMatched rest → redone (lists kept (es ++ rest)) ≡ lists (kept ++ es) rest
-redo_one es kept rest s h = grind (arith, common_steps, redo_of-front, drop_at)
+redo_one es kept rest s h = grind (arith, common_steps, redo_of-front)
 
 -- redos put back closed units one by one, the oldest first
 redo_all : (vs : List UndoUnit) (kept rest : List Entry) → AllGood vs → opens vs ≡ 0 → IsMatched rest

@@ -14,7 +14,7 @@ size-append Bytes xs ys = length-append xs ys
 size-append Newlines xs ys = newlines-append xs ys
 
 size-swapped : (k : Measure) (text after : List ℕ) (i : ℕ) (old new : List ℕ) → Swaps text after i old new → size_of k after ≡ (size_of k text - size_of k old) + size_of k new
-size-swapped k text after i old new s = grind (arith, common_steps, size-append)
+size-swapped k text after i old new s = grind (arith, common_steps)
 
 size-nothing : (k : Measure) (n : ℕ) → n ≡ (n - size_of k []) + size_of k []
 size-nothing Bytes n = omega arith

@@ -25,7 +25,7 @@ place_after-stands mark text now cursor u at h = let e : text ≡ now = cc in su
 
 -- what a text that goes on with its cursor is
 text_after-means : (e : Entry) (text now : List ℕ) → text_after true e text ≡ Some now → (apply (event_of e) text ≡ Some now) × (cursor_stands true e now ≡ true)
-text_after-means e text now h = grind (arith, common_steps, if_some)
+text_after-means e text now h = grind arith
 
 -- so does one with a cursor that was told, where that stands
 cursor_after-stands : (e : Entry) (text now : List ℕ) (cursor : ℕ) → IsUtf8 text → IsCharBoundary text cursor → text_after true e text ≡ Some now
@@ -82,7 +82,7 @@ pub record IsBack (way : Way) (xs : List Change) (n : ℕ) (start now : Line) : 
 -- the last of the entries that are left
 rest_split : (way : Way) (xs : List Change) (m : ℕ) (x : Change) (now : Line) → m < length xs → x ≡ get_or xs m x
     → line_back (map (entry_to_undo way) (take (m + 1) xs)) now ≡ option_and_then (line_back (map (entry_to_undo way) (take m xs))) (back_one (entry_to_undo way x) now)
-rest_split way xs m x now lt e = grind (arith, common_steps, read-last, line_back-append)
+rest_split way xs m x now lt e = grind (arith, common_steps, line_back-append)
 
 -- the entries from m on are that at m and those after it
 pub entries_from : (way : Way) (xs : List Change) (m : ℕ) (x : Change) → m < length xs → x ≡ get_or xs m x
@@ -91,7 +91,7 @@ entries_from way = read-first (entry_to_undo way)
 
 -- before the first of them
 pub IsBack-none : (way : Way) (xs : List Change) (start : Line) → IsSome (line_back (map (entry_to_undo way) xs) start) → IsBack way xs (length xs) start start
-IsBack-none way xs start h = grind (arith, common_steps, drop_all, take_all)
+IsBack-none way xs start h = grind (arith, common_steps)
 
 pub IsBack-fits : (way : Way) (xs : List Change) (m : ℕ) (x : Change) (start now : Line) → m < length xs → x ≡ get_or xs m x → IsBack way xs (m + 1) start now
     → IsSome (line_back (entry_to_undo way x ∷ []) now)
@@ -147,16 +147,7 @@ line_back-IsSome es line u at h =
 
 -- and a line that goes back has a text that does
 line_after-text_after : (e : Entry) (line next : Line) → line_after e line ≡ Some next → text_after true e line.text ≡ Some next.text
-line_after-text_after e line next h =
-    let f = Fits-from (event_of e) (cursor_after line.cursor e) line next h in
-    let text : f.text ≡ next.text = ap (λ (l : Line). l.text) (sym f.is) in
-    ap (option_and_then (λ t. cond (cursor_stands true e t) (Some t) None)) f.makes
-    ∙ ap (λ b. cond b (Some f.text) None) (told (cursor_told e) (is_boundary-true f.text (cursor_after line.cursor e) f.stands)) ∙ ap Some text
-  where
-    told : (o : Option ℕ) → is_boundary (Fits-from (event_of e) (cursor_after line.cursor e) line next h).text (unwrap_or o (place_after line.cursor e)) ≡ true
-        → option_map_or (is_boundary (Fits-from (event_of e) (cursor_after line.cursor e) line next h).text) o true ≡ true
-    told None b = refl
-    told (Some k) b = b
+line_after-text_after e line next h = grind arith
 
 pub line_back-text_back : (es : List Entry) (line now : Line) → line_back es line ≡ Some now → text_back true es line.text ≡ Some now.text
 line_back-text_back [] line now h = let e : line ≡ now = cc in ap (λ (l : Line). Some l.text) e
@@ -166,7 +157,7 @@ line_back-text_back (e ∷ es) line now h =
 
 -- and a line that goes back has the text that is unwound
 line_after-text : (e : Entry) (line next : Line) → line_after e line ≡ Some next → apply (event_of e) line.text ≡ Some next.text
-line_after-text e line next h = grind (arith, common_steps, standing-is)
+line_after-text e line next h = grind arith
 
 pub line_back-unwind : (es : List Entry) (line now : Line) → line_back es line ≡ Some now → unwind es line.text ≡ Some now.text
 line_back-unwind [] line now h = let e : line ≡ now = cc in ap (λ (l : Line). Some l.text) e
@@ -183,18 +174,12 @@ line_ahead-replay (e ∷ es) line now h =
 
 -- so the two ask the same
 pub line_back-is_some : (es : List Entry) (line : Line) → IsUtf8 line.text → IsCharBoundary line.text line.cursor → is_some (text_back true es line.text) ≡ is_some (line_back es line)
-line_back-is_some es line u at = from (text_back true es line.text) (line_back es line) (line_back-IsSome es line u at) (λ now h. subst IsSome (sym (line_back-text_back es line now h)) refl)
-  where
-    from : (o : Option (List ℕ)) (p : Option Line) → (IsSome o → IsSome p) → ((now : Line) → p ≡ Some now → IsSome o) → is_some o ≡ is_some p
-    from None None there back = refl
-    from None (Some now) there back = back now refl
-    from (Some t) None there back = sym (there refl)
-    from (Some t) (Some now) there back = refl
+line_back-is_some es line u at = grind (arith, line_back-IsSome, line_back-text_back)
 
 -- where the entries before a mark leave text and cursor, the mark does too
 left_by_a_mark : (line mid now : Line) → (mid.text ≡ line.text) × (mid.cursor ≡ line.cursor) → if_standing (stepped mid mid.text mid.cursor) ≡ Some now
     → (now.text ≡ line.text) × (now.cursor ≡ line.cursor)
-left_by_a_mark line mid now after is = grind (arith, common_steps, standing-is)
+left_by_a_mark line mid now after is = grind arith
 
 pub line_back-marks : (es : List Entry) (line now : Line) → has_change es ≡ false → line_back es line ≡ Some now → (now.text ≡ line.text) × (now.cursor ≡ line.cursor)
 unfolding apply
@@ -241,8 +226,7 @@ marks-take (suc len) (mark ∷ es) none = marks-take len es none
 
 -- and the first entries lead to the text as all do
 pub marks-replay : (len : ℕ) (es : List Entry) (text : List ℕ) → has_change es ≡ false → agree (unwind es text) (unwind (take len es) text) ≡ true
-marks-replay len es text none =
-    ap (λ o. agree o (unwind (take len es) text)) (marks-unwind es text none) ∙ ap (agree (Some text)) (marks-unwind (take len es) text (marks-take len es none)) ∙ (bytes_eq-Decides text text).1 refl
+marks-replay len es text none = grind (arith, marks-unwind, marks-take, bytes_eq-Decides)
 
 -- no length on the way is past the greatest
 pub size_back_over-within : (k : Measure) (m : ℕ) (es : List Entry) (n : ℕ) → size_back_over k (drop m es) n ≤ greatest_back_over k es n

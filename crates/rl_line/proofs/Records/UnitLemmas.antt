@@ -87,7 +87,7 @@ pub record Gathers (b : Bool) (inner : List Entry) : Type 0 where
   pub ahead_within : (d : ℕ) (rs : List Entry) → ahead_len (suc d) (inner ++ rs) ≡ length inner + ahead_len (suc d) rs
 
 pub Gathers-nil : Gathers false []
-Gathers-nil = grind (arith, common_steps, zero-add)
+Gathers-nil = grind arith
 
 touched_twice : (b : Bool) (fs : List Bool) → cond b (touched (touched fs)) (touched fs) ≡ touched fs
 touched_twice true [] = refl
@@ -114,7 +114,7 @@ Gathers-more b es inner s g = record {
 }
 
 group_back : (inner rs : List Entry) → reverse (Begin ∷ (inner ++ (End ∷ []))) ++ rs ≡ End ∷ (reverse inner ++ (Begin ∷ rs))
-group_back inner rs = grind (arith, common_steps, reverse-append, append_assoc)
+group_back inner rs = grind (arith, common_steps)
 
 group_len : (inner : List Entry) (n m : ℕ) → n ≡ length inner + suc m → suc n ≡ length (Begin ∷ (inner ++ (End ∷ []))) + m
 group_len inner n m e = let l = length-append inner (End ∷ []) in omega arith
