@@ -1,5 +1,5 @@
 -- The places right after the newlines of a text: of two joined, how many there are, and where they lie; and the table of them with a border: where it lies between two parts of the text, where it moves, and where a range gives way to a part.
-use borrow.Rule.Slice.PartMut.{put_mid, post_of}
+use borrow.Rule.Slice.PartMut.{put_mid}
 use Rattle.rl_line.proofs.Common.{common_steps, ◌≡◌, ℕ, zero, suc, ◌+◌, ◌-◌, ◌<◌, ◌≤◌, ◌&&◌, ◌==◌, nat_le, Bool, true, false, cond, List, [], ◌∷◌, ◌++◌, map, filter, length, get_or, set, take, drop, take-add, append_assoc, append-nil, length-append, length-drop, slice_range, All, count_by, refl, sym, ap, ap₂, subst, ◌∙◌, arith, ne_eqb, and_parts, cond_both, eqb-true, leb-true, nil_from_length, take-append-drop, length-take, length-take-le, length-map, map-append, map_push, get_or-take, get_or-drop, get_or-map, get_or_append_left, get_or_at, get_or-append_right, take-take, take-append-le, take-map, take_at, drop-drop, drop-map, drop-append-le, drop_at, drop_all, drop_more, set_at, sum_by-cons, sum_by-append, length-between, All-nil, All-cons, All-head, All-tail, All-get_or, All-weaker, All-append, All-map, All-take, All-drop, take-put_mid, encode_ascii, inside_one, enumerate_from, replace_range, copy_within, insert, remove, encode_utf8, is_byte, places, is_newline, line_number, after_newlines, line_starts, from_end, starts_from_end, kept_starts, IsTable, take_all, length-replicate, eqb-false}
 use Rattle.memchr.specs.Find.{places_from}
 
@@ -247,16 +247,10 @@ module _ (text : List ℕ) (low high : ℕ) (order : low ≤ high) (within : hig
       ∙ turned (from_end len) start (map (from_end len) passed) rest low high (length-take-le low (line_starts text) (omega arith)) (length-map passed (from_end len) ∙ size)
       ∙ ap (λ l. start ++ (l ++ rest)) (twice len passed there) ∙ sym kept-high
 
--- a table of n places, of which those from number k on, up to m, were written over
-written : (k m n : ℕ) (old new more : List ℕ) → length old ≡ n → k ≤ m → m ≤ n → length new ≡ m - k → take n (put_mid k (m - k) old new ++ more) ≡ put_mid k (m - k) old new
-written k m n old new more len le within size = grind (arith, common_steps)
-
+-- a table of n places, of which those from number k on were written over
 written-after : (k n : ℕ) (old new more : List ℕ) → length old ≡ n → k ≤ n → length new ≡ n - k
     → take n (put_mid k (length old - k) old new ++ more) ≡ take k old ++ new
 written-after k n old new more len le size = grind (arith, common_steps)
-
-IsTable-from : (places : List ℕ) (border : ℕ) (text : List ℕ) → places ≡ kept_starts border text → border ≤ count_by is_newline text → IsTable places border text
-IsTable-from places border text is within = record { kept = is; within = omega (arith, ap length is, length-kept border text) }
 
 module _ (places now more text : List ℕ) (old border n : ℕ) (h : IsTable places old text) (len : length places ≡ n) where
   all : n ≡ count_by is_newline text
@@ -294,9 +288,6 @@ IsTable-written first n border old new more all text len le size is h = subst (�
 
 -- ---- a start is read
 module _ (places text : List ℕ) (border k : ℕ) (h : IsTable places border text) (some : k < length places) where
-  many : border ≤ length (line_starts text)
-  many = omega (arith, h.within, length-table places border text h, length-line_starts text)
-
   pub read-before : k < border → get_or places k 0 ≡ get_or (line_starts text) k 0
   read-before less = grind (arith, common_steps)
 

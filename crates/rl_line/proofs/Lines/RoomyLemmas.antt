@@ -1,5 +1,5 @@
 -- Texts for which a line has room: one where a part of it gives way, goes in, or moves.
-use Rattle.rl_line.proofs.Common.{common_steps, ◌∙◌, ◌≡◌, ℕ, ◌+◌, ◌-◌, ◌≤◌, ◌++◌, [], List, arith, ap, length, count_by, slice_range, take, drop, length-append, length-between, length-drop, length-take-le, take-append-drop, insert_slice, remove_range, replace_range, is_newline, string_bytes, string_capacity, subst, vec_capacity, HasRoom, IsLine, Line, RoomyLine, line_of}
+use Rattle.rl_line.proofs.Common.{common_steps, ◌≡◌, ℕ, ◌+◌, ◌-◌, ◌≤◌, ◌++◌, [], List, arith, ap, length, count_by, slice_range, take, drop, length-append, length-drop, length-take-le, take-append-drop, insert_slice, remove_range, replace_range, is_newline, string_bytes, string_capacity, vec_capacity, HasRoom, IsLine, Line, RoomyLine, line_of}
 use Rattle.rl_line.specs.declared.roomy_line.RoomyLine.TheInside.{Inside}
 use Rattle.rl_base.proofs.Texts.TextLemmas.{removed-is_replaced}
 use Rattle.rl_line.proofs.Lines.LineStartLemmas.{length-table, newlines-append, newlines-replaced, newlines-slice}

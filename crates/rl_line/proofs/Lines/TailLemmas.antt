@@ -1,9 +1,6 @@
 -- What the two moves of a tail leave of the whole list.
-use Rattle.rl_line.proofs.Common.{common_steps, ℕ, List, [], ◌≡◌, ◌+◌, ◌-◌, ◌≤◌, ◌++◌, ◌∙◌, ap, sym, arith, length, take, drop, length-append, length-take, length-drop, copy_within, replace_range, append_assoc, append-nil, take_all, take_at, take-take, drop-drop, drop_at, drop_all, between_is, take-put_mid, take-put_mid_below, drop-put_mid}
+use Rattle.rl_line.proofs.Common.{common_steps, ℕ, List, [], ◌≡◌, ◌+◌, ◌-◌, ◌≤◌, ◌++◌, ◌∙◌, ap, sym, arith, length, take, drop, length-append, length-take, length-drop, copy_within, replace_range, append_assoc, append-nil, take_all, take-take, drop-drop, drop_at, drop_all, between_is, take-put_mid, take-put_mid_below}
 use borrow.Rule.Slice.PartMut.{put_mid}
-
-from_front : (n : ℕ) → 0 + n ≡ n
-from_front n = omega arith
 
 from_none : (n : ℕ) → n - 0 ≡ n
 from_none n = omega arith

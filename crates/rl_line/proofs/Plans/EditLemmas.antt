@@ -40,12 +40,7 @@ pub length-repeat : (n : ℕ) (s : List ℕ) → length (repeat n s) ≡ length 
 length-repeat zero s = omega arith
 length-repeat (suc n) s = omega (arith, length-append s (repeat n s), length-repeat n s)
 
--- a text that needs room in another's place is longer, or has more newlines
-pub longer_or_more : (more a b c d : ℕ) → more ≡ a - b → 0 < more + (c - d) → (b < a) ⊎ (d < c)
-longer_or_more zero a b c d e h = inr (omega (arith, e, h))
-longer_or_more (suc n) a b c d e h = inl (omega (arith, e))
-
--- and is not empty
+-- a text that needs room in another's place is longer, or has more newlines, and is not empty
 pub some_part : (s t : List ℕ) → (length s < length t) ⊎ (count_by is_newline s < count_by is_newline t) → 0 < length t
 some_part s t (inl longer) = omega (arith, longer)
 some_part s t (inr more) = omega (arith, more, count_by-le-length is_newline t)

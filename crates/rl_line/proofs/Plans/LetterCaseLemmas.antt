@@ -1,5 +1,5 @@
 -- The plan of an edit of a word, by its cases.
-use Rattle.rl_line.proofs.Common.{common_steps, ◌≡◌, ℕ, ◌+◌, ◌<◌, ◌&&◌, ◌==◌, Bool, not, cond, All, Decides, List, [], ◌∷◌, ◌++◌, drop, length, length-append, map, flat_map, min, take, take-append-drop, true, false, Some, None, chars, encode_utf8_all, IsUtf8, IsCharBoundary, arith, refl, sym, ap, ap₂, subst, ◌∙◌, suc, Row, by_runs, lowercase_runs, lowercase_strings, uppercase_runs, uppercase_strings, length-map, nil_from_length, All-head, IsCharBoundary-start, IsUtf8-drop, IsUtf8-take, encodes-chars, length-le-encodes, unwrap_or, is_in_word_after, lowercase_before, lowercase_chars, starts_with_cased, is_grapheme_break, bytes_in, clusters, end_of_cluster, nat_tests, IsAscii-drop, IsAscii-take, IsAscii-cons, IsAscii-nil, is_ascii, to_ascii_lowercase, to_ascii_uppercase, list_all, IsAscii, Range, WordAction, Capitalize, Lowercase, Uppercase, Line, nothing, answering, exchange_plan, edit_word_plan, mapped, recased, respell, respelled, word_ahead, text_in}
+use Rattle.rl_line.proofs.Common.{common_steps, ◌≡◌, ℕ, ◌+◌, ◌<◌, ◌&&◌, ◌==◌, Bool, not, cond, All, Decides, List, [], ◌∷◌, ◌++◌, drop, length, length-append, map, flat_map, min, take, take-append-drop, true, false, Some, None, chars, encode_utf8_all, IsUtf8, IsCharBoundary, arith, refl, sym, ap, subst, ◌∙◌, suc, Row, by_runs, lowercase_runs, lowercase_strings, uppercase_runs, uppercase_strings, length-map, nil_from_length, All-head, IsCharBoundary-start, IsUtf8-drop, IsUtf8-take, encodes-chars, length-le-encodes, unwrap_or, is_in_word_after, lowercase_before, lowercase_chars, starts_with_cased, is_grapheme_break, bytes_in, clusters, end_of_cluster, nat_tests, IsAscii-cons, IsAscii-nil, is_ascii, to_ascii_lowercase, to_ascii_uppercase, list_all, IsAscii, Range, WordAction, Capitalize, Lowercase, Uppercase, Line, nothing, answering, exchange_plan, edit_word_plan, mapped, recased, respell, respelled, word_ahead, text_in}
 use Rattle.std.specs.Char.Unicode.Rows.{by_strings}
 use Rattle.std.specs.Char.Unicode.ToLowercase.{to_lowercase}
 use Rattle.std.specs.Char.Unicode.ToUppercase.{to_uppercase}
@@ -44,10 +44,6 @@ edit_word_plan-some line action word text made p q e is ascii others at to =
     ap (respell line action) (sym e) ∙ (λ i. answering true (exchange_plan line word (sym at i) (sym put i) (sym stop i)))
 
 -- a capitalized ASCII word: its first byte is raised, the others are lowered
-first_byte : (word : List ℕ) (first : ℕ) → first ≡ min 1 (length word) → (take first word ≡ take 1 word) × (drop first word ≡ drop 1 word)
-first_byte [] first e = let none : first ≡ 0 = omega arith in (rw none refl, rw none refl)
-first_byte (c ∷ cs) first e = let one : first ≡ 1 = omega arith in (ap (λ n. take n (c ∷ cs)) one, ap (λ n. drop n (c ∷ cs)) one)
-
 pub capitalized-ascii : (word front after upper lower made : List ℕ) (first : ℕ) → IsAscii word → first ≡ min 1 (length word) → front ≡ take first word → after ≡ drop first word
     → (IsAscii front → upper ≡ map to_ascii_uppercase front) → (IsAscii after → lower ≡ map to_ascii_lowercase after) → made ≡ upper ++ lower → made ≡ recased Capitalize word
 capitalized-ascii word front after upper lower made first a n f b up low is = grind (arith, common_steps)

@@ -1,5 +1,5 @@
 -- Exchanging two ranges: the plan by its halves, and the places between them.
-use Rattle.rl_line.proofs.Common.{common_steps, HasRoom, RoomyLine, count_by, is_newline, ◌≡◌, ℕ, ◌+◌, ◌-◌, ◌≤◌, [], ◌∷◌, ◌++◌, List, length, take, drop, append_assoc, None, Bool, cond, true, false, slice_range, sym, ap, ap₂, subst, ◌∙◌, arith, length-between, option_and_then, length-take-le, drop-take, drop-append-le, insert_slice, remove_range, replace_range, IsCharBoundary, IsUtf8, Range, Forward, InsertStr, Delete, Line, Plan, Step, nothing, single, followed_by, answering, exchange_plan, text_in, are_two, clusters_around, end_of_cluster, exchanged_text, first_word, meeting_place, second_word, only_move, pull_back_plan, pulled_back, swap_plan, transpose_chars_plan, transpose_words_plan}
+use Rattle.rl_line.proofs.Common.{HasRoom, RoomyLine, count_by, is_newline, ◌≡◌, ℕ, ◌+◌, ◌-◌, ◌≤◌, [], ◌∷◌, ◌++◌, List, length, take, drop, append_assoc, None, Bool, cond, true, false, slice_range, sym, ap, ap₂, subst, ◌∙◌, arith, length-between, option_and_then, length-take-le, drop-take, drop-append-le, insert_slice, remove_range, replace_range, IsCharBoundary, IsUtf8, Range, Forward, InsertStr, Delete, Line, Plan, Step, nothing, single, followed_by, answering, exchange_plan, text_in, are_two, clusters_around, end_of_cluster, exchanged_text, first_word, meeting_place, second_word, only_move, pull_back_plan, pulled_back, swap_plan, transpose_chars_plan, transpose_words_plan}
 use Rattle.rl_line.proofs.Lines.LineStartLemmas.{newlines-replaced, newlines-slice}
 use Rattle.rl_line.proofs.Lines.RoomyLemmas.{length-swapped, HasRoom-moved}
 use Rattle.rl_base.proofs.Texts.TextLemmas.{slice-before, take-before, removed-is_replaced, IsCharBoundary-before, IsCharBoundary-at_removal, IsCharBoundary-past_replacement, IsCharBoundary-after, IsUtf8-replaced}

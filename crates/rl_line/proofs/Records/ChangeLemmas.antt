@@ -4,7 +4,7 @@ use Rattle.rl_base.specs.Event.{apply}
 use Rattle.rl_base.specs.Text.{fits_at, stands_at}
 use Rattle.rl_base.proofs.Texts.TextLemmas.{is_boundary-means, is_boundary-true, stands_at-means}
 use Rattle.rl_base.proofs.Texts.EventLemmas.{Replaces-from_IsSome}
-use Rattle.rl_line.proofs.Records.LastLemmas.{map-reverse, read-last}
+use Rattle.rl_line.proofs.Records.LastLemmas.{map-reverse}
 use Rattle.rl_line.proofs.Records.RecordLemmas.{then_both, then_some}
 use Rattle.rl_line.proofs.Records.PatchLemmas.{length-replaced, patched-stands, patched-swap}
 

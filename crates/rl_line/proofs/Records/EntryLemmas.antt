@@ -2,7 +2,7 @@
 use Rattle.rl_line.proofs.Common.{common_steps, ◌≡◌, ℕ, ◌+◌, ◌-◌, ◌<◌, ◌≤◌, arith, suc, List, [], ◌∷◌, ◌++◌, length, take, drop, get_or, map, reverse, refl, sym, ap, ◌∙◌, ◌⊎◌, inl, inr, or-true, append-nil, map-append, reverse-append, drop_all, zero, max, slice_get, cond, IsSome, Bool, true, false, not, ◌||◌, Option, Some, None, option_to_list, Change, Entry, Begin, End, Changed, entry_of, last_of, redo_of, adds_end, end_one, end_times, ends_in_begin, is_begin, is_change, IsMatched, deep, same_Some, take-map}
 use Rattle.rl_line.proofs.Records.Counts.{ahead_len, back_len}
 use Rattle.rl_line.proofs.Records.CountLemmas.{last-counted, redo-counted}
-use Rattle.rl_line.proofs.Records.LastLemmas.{end_one-cases, end_one-past, ends-past, read-first, read-last}
+use Rattle.rl_line.proofs.Records.LastLemmas.{end_one-cases, end_one-past, ends-past, read-last}
 use Rattle.rl_line.proofs.Records.RecordLemmas.{value_of}
 use Rattle.rl_line.proofs.Records.UnitLemmas.{last_of-change, redo_of-change}
 
@@ -10,11 +10,6 @@ use Rattle.rl_line.proofs.Records.UnitLemmas.{last_of-change, redo_of-change}
 back-read : (xs : List Change) (m : ℕ) (z x : Change) → m < length xs → get_or xs m z ≡ x
     → reverse (map entry_of (take (m + 1) xs)) ≡ entry_of x ∷ reverse (map entry_of (take m xs))
 back-read xs m z x lt e = grind (arith, common_steps)
-
-pub back_len-nil : (d k : ℕ) → back_len d k [] ≡ 0
-back_len-nil zero zero = refl
-back_len-nil zero (suc k) = refl
-back_len-nil (suc d) k = refl
 
 -- one entry less to go
 pub count-step : (xs : List Change) (at d k d' k' total : ℕ) (z x : Change) → 0 < at → at ≤ length xs → get_or xs (at - 1) z ≡ x
@@ -66,15 +61,6 @@ deep-next xs i n x lt is e = grind (arith, common_steps, deep-append)
 abbrev pub rest_len : ℕ → List Entry → ℕ
 rest_len zero rs = 0
 rest_len (suc d) rs = ahead_len (suc d) rs
-
-ahead-step : (d : ℕ) (e : Entry) (rs : List Entry) → ahead_len d (e ∷ rs) ≡ suc (rest_len (deep d (e ∷ [])) rs)
-ahead-step zero Begin rs = refl
-ahead-step (suc d) Begin rs = refl
-ahead-step zero End rs = refl
-ahead-step (suc zero) End rs = refl
-ahead-step (suc (suc d)) End rs = let one : suc d ≡ suc (suc d) - 1 = omega arith in ap (λ k. suc (rest_len k rs)) one
-ahead-step zero (Changed k c) rs = refl
-ahead-step (suc d) (Changed k c) rs = refl
 
 -- the first `at` entries were counted: so many groups are open after them, and the whole unit has as many entries as these and what is left of it
 pub record Counted (xs : List Change) (at d : ℕ) : Type 0 where

@@ -22,25 +22,11 @@ within-none bound n free = rw (le-leb unbounded bound free) refl
 within-few : (bound n : ℕ) → n ≤ bound → is_within bound n ≡ true
 within-few bound n few = rw (le-leb n bound few) (or-true (leb unbounded bound))
 
-past-bound : (bound n : ℕ) → bound < unbounded → bound < n → is_within bound n ≡ false
-past-bound bound n some many = rw (lt-leb unbounded bound some, lt-leb n bound many) refl
-
 pub fits-any : (most bytes : ℕ) (es : List Entry) → length es ≤ most → unbounded ≤ bytes → fits most bytes es ≡ true
 fits-any most bytes es few free = rw (within-few most (length es) few, within-none bytes (bytes_held es) free) refl
 
 pub fits-counted : (most bytes : ℕ) (es : List Entry) → length es ≤ most → bytes_held es ≤ bytes → fits most bytes es ≡ true
 fits-counted most bytes es few light = rw (within-few most (length es) few, within-few bytes (bytes_held es) light) refl
-
-pub fits-long : (most bytes : ℕ) (es : List Entry) → most < unbounded → most < length es → fits most bytes es ≡ false
-fits-long most bytes es some long = rw (past-bound most (length es) some long) refl
-
-pub fits-heavy : (most bytes : ℕ) (es : List Entry) → bytes < unbounded → bytes < bytes_held es → fits most bytes es ≡ false
-fits-heavy most bytes es bound heavy = rw (past-bound bytes (bytes_held es) bound heavy) (and-false (is_within most (length es)))
-
--- the answer to whether they fit, from the two cases
-from-cases : (most bytes k : ℕ) (es : List Entry) → ((j : ℕ) → k ≤ j → fits most bytes (drop j es) ≡ true) → ((j : ℕ) → j < k → fits most bytes (drop j es) ≡ false)
-    → (j : ℕ) → fits most bytes (drop j es) ≡ nat_le k j
-from-cases most bytes k es inside outside j = grind arith
 
 -- any number of bytes fits
 pub FitsFrom-any : (most bytes k : ℕ) (xs : List Change) → length xs ≤ unbounded → k ≡ length xs - most → bytes ≡ unbounded → FitsFrom most bytes (map entry_of xs) k

@@ -1,11 +1,11 @@
 -- Groups: where an End stands its group stands before it, and a group without a change leaves no trace.
-use Rattle.rl_line.proofs.Common.{common_steps, ◌≡◌, ℕ, ◌+◌, suc, Bool, true, false, List, [], ◌∷◌, ◌++◌, length, drop, Option, Some, None, refl, sym, ap, subst, ◌∙◌, arith, append-nil, append_assoc, add-zero, or-true, or_assoc, IsSome, zero, not, ◌||◌, Event, Entry, Begin, End, Changed, Record, entries_after, entries_of, joined, last_told, UndoUnit, Open, Whole, close, units, together, opens, level, has_change, is_change, end_one, end_times, ends_in_begin, adds_end, begun, ended, marks, mark, IsMatched, GroupAt, InGroup, Hears, Begins, after_in_group}
+use Rattle.rl_line.proofs.Common.{common_steps, ◌≡◌, ℕ, ◌+◌, suc, Bool, true, false, List, [], ◌∷◌, ◌++◌, length, drop, Option, Some, None, refl, sym, ap, subst, ◌∙◌, arith, append-nil, append_assoc, add-zero, or-true, or_assoc, IsSome, zero, not, ◌||◌, Event, Entry, Begin, End, Changed, Record, entries_after, entries_of, joined, UndoUnit, Open, Whole, close, units, together, opens, level, has_change, is_change, end_one, end_times, ends_in_begin, adds_end, begun, ended, marks, mark, IsMatched, GroupAt, InGroup, Hears, Begins, after_in_group}
 use Rattle.rl_line.specs.Record.{record_step}
 use Rattle.rl_line.proofs.Records.LastLemmas.{after-past, end_one-begin, ends-past, ends_in}
 use Rattle.rl_line.proofs.Records.RecordLemmas.{joins, value_of}
 use Rattle.rl_line.proofs.Records.UnitLemmas.{AllGood, AllGood-left, together-append, Settles, flags_on, cut_good, cut_more-append, good_cuts, units-good, together-units, IsMatched-front, IsMatched-together}
 use Rattle.rl_line.proofs.Records.MatchLemmas.{marks-last, level-is, IsMatched-after, IsMatched-begin}
-use Rattle.rl_line.proofs.Records.ToldLemmas.{recorded-cases, last_told-marks, last_told-begin}
+use Rattle.rl_line.proofs.Records.ToldLemmas.{last_told-marks, last_told-begin}
 
 pub has_change-append : (xs ys : List Entry) → has_change (xs ++ ys) ≡ has_change xs || has_change ys
 has_change-append [] ys = refl

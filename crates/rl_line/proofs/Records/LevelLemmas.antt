@@ -3,12 +3,12 @@ use Rattle.rl_line.proofs.Common.{common_steps, Ahead, AtLevel, Back, Begin, Boo
 use Rattle.rl_line.specs.Record.{record_step}
 use Rattle.rl_line.proofs.Records.CountLemmas.{level-counted}
 use Rattle.rl_line.proofs.Records.EntryLemmas.{deep-append, deep-next}
-use Rattle.rl_line.proofs.Records.LastLemmas.{after-cases, read-last}
+use Rattle.rl_line.proofs.Records.LastLemmas.{after-cases}
 use Rattle.rl_line.proofs.Records.MoveLemmas.{first-view, unit-within, GoesAs-all, GoesOver-of, marks-over, moved-at, unit-reaches}
 use Rattle.rl_line.proofs.Records.MatchLemmas.{AllGood-take, BothMatched-begun, BothMatched-closed, BothMatched-redone, BothMatched-step, BothMatched-truncated, BothMatched-undone, Lower-end_times, Redoes-of, length-touched, level-is, marks-last}
 use Rattle.rl_line.proofs.Records.RecordLemmas.{joins, none_or_one, value_of}
 use Rattle.rl_line.proofs.Records.UnitLemmas.{IsMatched-front, IsMatched-together, cut_more-append, kept-last, opens-append, units-append, units-good}
-use Rattle.rl_line.proofs.Records.ToldLemmas.{recorded-cases, last_told-deep}
+use Rattle.rl_line.proofs.Records.ToldLemmas.{last_told-deep}
 
 -- ---- an event
 deep-entries_of : (event : Event) (d : ℕ) → deep d (entries_of event) ≡ d
@@ -118,11 +118,6 @@ pub record LevelAt (xs : List Change) (len at n : ℕ) : Type 0 where
   pub within : at ≤ length xs
   pub cut : length xs - at ≤ length xs - len
   pub level : n ≡ level (map entry_of (take at xs))
-
--- the entries after which the count stands are those before the last of them, and that one
-front-last : (xs : List Change) (len at : ℕ) (z x : Change) → len < at → at ≤ length xs → get_or xs (at - 1) z ≡ x
-    → map entry_of (take at xs) ≡ map entry_of (take (at - 1) xs) ++ entry_of x ∷ []
-front-last xs len at z x lt within e = grind (arith, common_steps)
 
 pub opened-before : (xs : List Change) (len at n : ℕ) (z x : Change) → len < at → get_or xs (at - 1) z ≡ x → entry_of x ≡ Begin → LevelAt xs len at n
     → n ≡ suc (level (map entry_of (take (at - 1) xs)))

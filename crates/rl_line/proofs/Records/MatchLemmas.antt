@@ -1,9 +1,9 @@
 -- Every operation keeps the marks matched, and a change in each closed group.
-use Rattle.rl_line.proofs.Common.{common_steps, ◌≡◌, ℕ, ◌+◌, ◌-◌, ◌≤◌, suc, arith, Bool, true, false, List, [], ◌∷◌, ◌++◌, length, take, drop, reverse, Some, refl, sym, ap, subst, ◌∙◌, inl, inr, append-nil, drop_all, take-append-drop, option_and_then, IsSome, zero, max, Event, Start, Stop, Cursors, Entry, Begin, End, Changed, Record, entries_of, entries_after, pending_after, UndoUnit, Open, Whole, units, opens, level, last_of, kept_of, redo_from, redo_of, end_one, ends_in_begin, is_begin, end_times, begun, undone, redone, truncated, with_closed, touched, mark, marks, IsMatched, BothMatched}
+use Rattle.rl_line.proofs.Common.{◌≡◌, ℕ, ◌+◌, ◌-◌, ◌≤◌, suc, arith, Bool, true, false, List, [], ◌∷◌, ◌++◌, length, take, drop, reverse, Some, refl, sym, ap, subst, ◌∙◌, inl, inr, append-nil, drop_all, take-append-drop, option_and_then, IsSome, zero, max, Event, Start, Stop, Cursors, Entry, Begin, End, Changed, Record, entries_of, entries_after, pending_after, UndoUnit, Open, Whole, units, opens, level, last_of, kept_of, redo_from, redo_of, end_one, ends_in_begin, is_begin, end_times, begun, undone, redone, truncated, with_closed, touched, mark, marks, IsMatched, BothMatched}
 use Rattle.rl_base.proofs.Texts.SwapLemmas.{some_is}
 use Rattle.rl_line.specs.Record.{record_step}
 use Rattle.rl_line.proofs.Records.LastLemmas.{after-cases, by_last, end_one-cases, ends-past}
-use Rattle.rl_line.proofs.Records.RecordLemmas.{IsSome-through, joins, none_or_one, through, value_of}
+use Rattle.rl_line.proofs.Records.RecordLemmas.{IsSome-through, joins, none_or_one, value_of}
 use Rattle.rl_line.proofs.Records.UnitLemmas.{oldest, AllGood, flags_on, marks-append, IsMatched-front, IsMatched-append, IsMatched-together, AllGood-left, AllGood-right, units-good, kept-last, cut_good}
 use Rattle.rl_line.proofs.Records.ToldLemmas.{recorded-cases, last_told-marks}
 

@@ -1,5 +1,5 @@
 -- The record that the code's list of entries stands for, and what an event, an undo and a redo make of it.
-use Rattle.rl_line.proofs.Common.{common_steps, IsMatched, Ahead, All, All-drop, All-map, All-take, Back, Bool, BothMatched, Change, Entry, Freshness, GoesOver, IsCharBoundary, IsOfKind, IsSome, Line, List, Reaches, Record, Some, Stale, StandsStill, Way, [], ap, append_assoc, arith, count_over, cut_at, drop, drop-map, drop_at, entries_to_undo, entry_of, entry_to_undo, false, get_or, has_change, inverse, kept_of, last_of, length, length-append, length-map, line_ahead, line_back, line_over, map, min, moved, redo_of, refl, reverse, steps_back, steps_over, subst, sym, take, take-map, take_at, take_min, take_rest, texts_back, texts_over, unit_of, ℕ, ◌++◌, ◌+◌, ◌-◌, ◌<◌, ◌^◌, ◌∙◌, ◌∷◌, ◌≡◌, ◌≤◌}
+use Rattle.rl_line.proofs.Common.{common_steps, IsMatched, Ahead, All, All-drop, All-map, All-take, Back, Bool, BothMatched, Change, Entry, Freshness, GoesOver, IsCharBoundary, IsOfKind, IsSome, Line, List, Reaches, Record, Some, Stale, StandsStill, Way, [], ap, append_assoc, arith, count_over, cut_at, drop, drop-map, drop_at, entries_to_undo, entry_of, entry_to_undo, false, get_or, has_change, inverse, kept_of, last_of, length, length-append, length-map, line_ahead, line_back, line_over, map, min, moved, redo_of, refl, reverse, steps_back, steps_over, subst, sym, take, take-map, take_at, take_rest, texts_back, texts_over, unit_of, ℕ, ◌++◌, ◌+◌, ◌-◌, ◌<◌, ◌^◌, ◌∙◌, ◌∷◌, ◌≡◌, ◌≤◌}
 use Rattle.rl_line.proofs.Records.RoomLemmas.{texts_ahead-back}
 use Rattle.rl_line.proofs.Records.HeardLemmas.{steps_ahead-back}
 use Rattle.rl_line.specs.declared.change.Change.TheVariants as made

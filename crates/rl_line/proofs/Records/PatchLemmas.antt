@@ -1,5 +1,5 @@
 -- Where the characters begin in a text in which a part gave way to another.
-use Rattle.rl_line.proofs.Common.{common_steps, ◌≡◌, ℕ, ◌+◌, ◌-◌, ◌<◌, ◌≤◌, ◌⊎◌, inl, inr, Bool, true, false, List, ◌++◌, length, length-append, append_assoc, take, drop, slice_range, refl, sym, ap, subst, ◌∙◌, arith, eq-or-lt_of_le, nat_tests, drop-append-add, take-add, take-append-add, drop-append-le, get_or-append_right, get_or_append_left, length-drop, length-take, length-take-le, take-append-drop, take-append-le, drop_split, IsCharBoundary-at_seam, IsCharBoundary-end, IsUtf8-append, IsUtf8-drop, replace_range, IsCharBoundary, IsUtf8}
+use Rattle.rl_line.proofs.Common.{common_steps, ◌≡◌, ℕ, ◌+◌, ◌-◌, ◌<◌, ◌≤◌, Bool, true, false, List, ◌++◌, length, length-append, append_assoc, take, drop, slice_range, refl, sym, ap, subst, ◌∙◌, arith, nat_tests, drop-append-add, take-add, take-append-add, drop-append-le, get_or-append_right, get_or_append_left, length-drop, length-take, length-take-le, take-append-drop, take-append-le, drop_split, IsCharBoundary-at_seam, IsUtf8-append, IsUtf8-drop, replace_range, IsCharBoundary, IsUtf8}
 use Rattle.rl_base.specs.Text.{is_boundary, stands_at}
 use Rattle.rl_base.proofs.Texts.TextLemmas.{is_boundary-means, is_boundary-true}
 

@@ -1,5 +1,5 @@
 -- As many redos as an undo took units give back the record and the text.
-use Rattle.rl_line.proofs.Common.{common_steps, ◌≡◌, ℕ, suc, Bool, List, [], ◌∷◌, ◌++◌, length, drop, reverse, Some, refl, sym, ap, subst, ◌∙◌, arith, append-nil, append_assoc, drop_at, reverse-append, reverse-reverse, length-reverse, option_and_then, zero, max, IsUtf8, Line, Entry, Record, replay_entries, UndoUnit, Open, Whole, units, together, opens, last_of, kept_of, last_units, redo_from, redo_of, undone, redone, marks, IsMatched, BothMatched, line_ahead, Undone, Redos, Stale}
+use Rattle.rl_line.proofs.Common.{common_steps, ◌≡◌, ℕ, suc, Bool, List, [], ◌∷◌, ◌++◌, length, reverse, Some, refl, sym, ap, subst, ◌∙◌, arith, append-nil, append_assoc, reverse-reverse, length-reverse, option_and_then, zero, max, IsUtf8, Line, Entry, Record, replay_entries, UndoUnit, Open, Whole, units, together, opens, last_of, kept_of, last_units, redo_of, undone, redone, marks, IsMatched, BothMatched, line_ahead, Undone, Redos, Stale}
 use Rattle.rl_line.proofs.Records.RecordLemmas.{replay-append, replay-unwind}
 use Rattle.rl_line.proofs.Records.UndoLemmas.{line_ahead-replay, line_back-unwind}
 use Rattle.rl_line.proofs.Records.UnitLemmas.{AllGood, Settles, kept-last, opens-reverse, units-good, units-append, IsMatched-append, on, together-reverse, AllGood-reverse}

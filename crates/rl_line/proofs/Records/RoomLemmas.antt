@@ -2,16 +2,11 @@
 use Rattle.rl_line.proofs.Common.{common_steps, ◌≡◌, ℕ, ◌+◌, ◌-◌, ◌^◌, ◌<◌, ◌≤◌, Bool, true, false, zero, suc, max, List, [], ◌∷◌, ◌++◌, length, length-append, count_by, map, drop, take, reverse, Option, Some, None, ◌⊎◌, inl, inr, refl, sym, ap, subst, ◌∙◌, arith, nat_tests, get_or-append, drop-map, map-append, reverse-append, Any-push, map-map, Any, IsSome, get_or, nat_lt, option_and_then, IsUtf8, Event, replay, is_newline, Change, Measure, Bytes, Newlines, Way, entry_to_undo, greatest_back_over, size_back, size_back_over, size_of, Line, NeedsRoom, Entry, Changed, bytes_ahead, bytes_back, event_of, inverse, new_text, old_text, unwind, line_back, texts_after, texts_ahead, texts_back, drop_all}
 use Rattle.rl_base.proofs.Texts.SwapLemmas.{Swaps, Swaps-Replace}
 use Rattle.rl_base.specs.Event.{apply}
-use Rattle.rl_line.proofs.Lines.LineStartLemmas.{newlines-append}
 use Rattle.rl_line.proofs.Records.RecordLemmas.{through, unwind-IsUtf8, value_of}
 use Rattle.rl_line.proofs.Records.TurnLemmas.{turned-cons, turned-turned}
 use Rattle.rl_line.proofs.Records.UndoLemmas.{entries_from, line_back-unwind, size_back_over-within, IsBack-none, IsBack-fits, IsBack-next}
 use Rattle.rl_line.proofs.Records.ChangeLemmas.{GoesOver-astray, GoesOver-next, GoesOver-not, longer-by, length-order}
 use Rattle.rl_line.proofs.Records.HeardLemmas.{back-one_more, cursor-gone}
-
-size-append : (k : Measure) (xs ys : List ℕ) → size_of k (xs ++ ys) ≡ size_of k xs + size_of k ys
-size-append Bytes xs ys = length-append xs ys
-size-append Newlines xs ys = newlines-append xs ys
 
 size-swapped : (k : Measure) (text after : List ℕ) (i : ℕ) (old new : List ℕ) → Swaps text after i old new → size_of k after ≡ (size_of k text - size_of k old) + size_of k new
 size-swapped k text after i old new s = grind (arith, common_steps)

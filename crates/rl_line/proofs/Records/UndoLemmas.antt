@@ -1,12 +1,12 @@
 -- A line that goes over changes of its record, back or ahead.
-use Rattle.rl_line.proofs.Common.{common_steps, le_refl, ◌≡◌, ℕ, ◌+◌, ◌<◌, ◌≤◌, zero, suc, List, [], ◌∷◌, ◌++◌, length, take, drop, get_or, map, reverse, Option, Some, None, false, refl, sym, ap, subst, ◌∙◌, arith, append_assoc, true, length-append, bytes_eq-Decides, drop_all, take_all, map-append, reverse-append, IsCharBoundary-at_seam, option_and_then, IsSome, is_some, cond, unwrap_or, option_map_or, same_Some, IsCharBoundary, IsUtf8, is_boundary, Change, Line, stepped, if_standing, Entry, Changed, agree, event_of, inverse, replay_entries, unwind, Way, has_change, cursor_after, cursor_told, place_after, line_after, line_ahead, line_back, cursor_stands, Measure, entry_to_undo, text_after, text_back, size_back_over, greatest_back_over}
+use Rattle.rl_line.proofs.Common.{common_steps, ◌≡◌, ℕ, ◌+◌, ◌<◌, ◌≤◌, zero, suc, List, [], ◌∷◌, ◌++◌, length, take, drop, get_or, map, reverse, Option, Some, None, false, refl, sym, ap, subst, ◌∙◌, arith, append_assoc, true, length-append, bytes_eq-Decides, map-append, reverse-append, IsCharBoundary-at_seam, option_and_then, IsSome, is_some, unwrap_or, option_map_or, same_Some, IsCharBoundary, IsUtf8, is_boundary, Change, Line, stepped, if_standing, Entry, Changed, agree, event_of, inverse, replay_entries, unwind, Way, has_change, cursor_after, cursor_told, place_after, line_after, line_ahead, line_back, cursor_stands, Measure, entry_to_undo, text_after, text_back, size_back_over, greatest_back_over}
 use Rattle.rl_base.proofs.Texts.SwapLemmas.{apply-IsUtf8, Swaps, Swaps-Replace}
 use Rattle.rl_base.specs.Event.{apply}
-use Rattle.rl_base.proofs.Texts.TextLemmas.{is_boundary-means, is_boundary-true}
-use Rattle.rl_line.proofs.Plans.PlanLemmas.{Fits-from, after_step-is, standing, standing-is}
-use Rattle.rl_line.proofs.Records.LastLemmas.{read-first, read-last}
+use Rattle.rl_base.proofs.Texts.TextLemmas.{is_boundary-means}
+use Rattle.rl_line.proofs.Plans.PlanLemmas.{Fits-from, after_step-is, standing}
+use Rattle.rl_line.proofs.Records.LastLemmas.{read-first}
 use Rattle.rl_line.proofs.Records.TurnLemmas.{has_change-turned}
-use Rattle.rl_line.proofs.Records.RecordLemmas.{if_some, through, value_of, IsSome-through, inverse-inverse, then_both, then_some}
+use Rattle.rl_line.proofs.Records.RecordLemmas.{through, value_of, IsSome-through, inverse-inverse, then_both, then_some}
 
 -- one entry back
 abbrev back_one : Entry → Line → Option Line

@@ -1,5 +1,5 @@
 -- Units: they make up the list, each by itself is one unit, and lists with matched marks cut apart.
-use Rattle.rl_line.proofs.Common.{common_steps, drop_at, ◌≡◌, ℕ, ◌+◌, ◌≤◌, suc, zero-add, add-zero, length-append, reverse, Bool, true, false, cond, List, [], ◌∷◌, ◌++◌, length, take, drop, Option, Some, None, refl, sym, ap, subst, ◌∙◌, arith, append_assoc, append-nil, or-true, take-append-drop, reverse-append, reverse-reverse, option_and_then, IsSome, ◌||◌, max, Entry, Begin, End, Changed, UndoUnit, Open, Whole, entries, close, add_entry, cut_more, units, together, opens, last_of, kept_of, redo_from, redo_of, is_change, touched, mark, marks, IsMatched}
+use Rattle.rl_line.proofs.Common.{common_steps, drop_at, ◌≡◌, ℕ, ◌+◌, ◌≤◌, suc, add-zero, length-append, reverse, Bool, true, false, cond, List, [], ◌∷◌, ◌++◌, length, take, drop, Option, Some, None, refl, sym, ap, subst, ◌∙◌, arith, append_assoc, append-nil, or-true, take-append-drop, reverse-append, reverse-reverse, option_and_then, IsSome, ◌||◌, max, Entry, Begin, End, Changed, UndoUnit, Open, Whole, entries, close, add_entry, cut_more, units, together, opens, last_of, kept_of, redo_from, redo_of, is_change, touched, mark, marks, IsMatched}
 use Rattle.rl_line.proofs.Records.Counts.{back_len, ahead_len}
 use Rattle.rl_line.proofs.Records.RecordLemmas.{value_of, IsSome-through, then_both}
 
