@@ -26,3 +26,4 @@ pub mod WayLemmas
 pub mod WalkLemmas
 pub mod ForgettingLemmas
 pub mod RedoLemmas
+pub mod Laws

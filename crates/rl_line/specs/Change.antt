@@ -67,3 +67,7 @@ greatest_back_over m (e ∷ es) n = max (greatest_back_over m es n) (size_back_o
 -- on the way over entries a text of so many bytes gets longer, or its table of so many newlines does
 abbrev pub Outgrows : List Entry → ℕ → ℕ → Type 0
 Outgrows es bytes newlines = (bytes < greatest_back_over Bytes es bytes) ⊎ (newlines < greatest_back_over Newlines es newlines)
+
+-- a text does, or its table
+abbrev pub TextOutgrows : List Entry → List ℕ → Type 0
+TextOutgrows es text = Outgrows es (length text) (count_by is_newline text)

@@ -1,5 +1,5 @@
 -- The plans of the edits that put a text in, or take a given range out.
-use Rattle.std.specs.Prelude.{ℕ, ◌+◌, ◌-◌, ◌*◌, ◌≤◌, Bool, not, ◌==◌, ◌&&◌, ◌||◌, nat_lt, List, length, take, slice_range, min, encode_utf8, Option, Some, None, if◌then◌else◌}
+use Rattle.std.specs.Prelude.{ℕ, Result, ◌+◌, ◌-◌, ◌*◌, ◌≤◌, Bool, not, ◌==◌, ◌&&◌, ◌||◌, nat_lt, List, length, take, slice_range, min, encode_utf8, Option, Some, None, if◌then◌else◌}
 use Rattle.std.specs.List.{repeat, insert_slice, remove_range}
 use Rattle.std.specs.Str.{IsCharBoundary}
 use Rattle.std.specs.declared.ops.Range.{Range}
@@ -7,9 +7,10 @@ use Rattle.rl_base.specs.Event.{Event, InsertChar, InsertStr, Delete, Replace}
 use Rattle.rl_base.specs.Text.{greatest_boundary}
 use Rattle.rl_base.specs.declared.listeners.Direction.{Direction}
 use Rattle.rl_base.specs.declared.listeners.Direction.TheVariants.{Forward}
+use Rattle.rl_base.specs.declared.listeners.Refusal.{Refusal}
 use Rattle.rl_line.specs.Line.{Line, stepped, between}
 use Rattle.rl_line.specs.Ranges.{text_in}
-use Rattle.rl_line.specs.Plan.{Step, Plan, nothing, of_step, single, followed_by}
+use Rattle.rl_line.specs.Plan.{Completion, Step, StepOutcome, Plan, Takes, nothing, nothing_more, of_step, single, followed_by}
 
 -- a length that the line may not have: it may not grow, and the length is past its limit
 abbrev pub too_long : Line → ℕ → Bool
@@ -76,6 +77,10 @@ yank_pop_plan line z s =
 abbrev pub replace_plan : Line → ℕ → ℕ → List ℕ → Plan (Unit {0})
 replace_plan line i j s = single (Replace i (slice_range line.text i j) s) (i + length s) tt
 
+-- the same of a range
+abbrev pub replacement_plan : Line → Range ℕ → List ℕ → Plan (Unit {0})
+replacement_plan line r s = replace_plan line r.start r.end s
+
 -- a range goes, which leaves the cursor at p, and then s comes in at its place, which leaves it at q
 abbrev pub exchange_plan : Line → Range ℕ → ℕ → List ℕ → ℕ → Plan (Unit {0})
 exchange_plan line r p s q = followed_by (Delete r.start (text_in line r) Forward) p (single (InsertStr r.start s) q tt)
@@ -89,3 +94,13 @@ abbrev pub update_plan : Line → List ℕ → ℕ → Plan (Unit {0})
 update_plan line s q =
     let cut = cut_to_limit line s in
     exchange_plan line (between 0 (length line.text)) 0 cut (min q (length cut))
+
+-- what the steps of an edit come to
+module _ {L B : Type 0} (step : L → Event → L) (refused : L → Event → Refusal → L → Type 0) where
+  -- a range goes, with a cursor after it; that takes no memory
+  abbrev pub DeletesRange : Range ℕ → Direction → ℕ → Line → Line → L → L → Result B Refusal → Type 0
+  DeletesRange r side cursor old new before now result = StepOutcome step refused nothing_more (delete_step old r side cursor) old new before now result
+
+  -- a text is exchanged for a range, by `exchange_plan`
+  abbrev pub Exchanges : Takes → Range ℕ → ℕ → List ℕ → ℕ → Line → Line → L → L → Result B Refusal → Type 0
+  Exchanges takes r p s q old new before now result = Completion step refused takes (exchange_plan old r p s q) old new before now result

@@ -1,6 +1,6 @@
 -- What an edit does: its steps, each one event and the cursor after it, the cursor at the end, and its answer.
 use Rattle.std.specs.Prelude.{◌≡◌, ℕ, ◌<◌, map, List, [], ◌∷◌, ◌++◌, length, encode_utf8, ◌+◌, Option, Some, option_and_then, ◌⊎◌, Result, MatchResult}
-use Rattle.rl_base.specs.Event.{Event, InsertChar, InsertStr, Delete, Replace, Cursors}
+use Rattle.rl_base.specs.Event.{Event, InsertChar, InsertStr, Delete, Replace, Cursors, replay}
 use Rattle.rl_base.specs.declared.listeners.Refusal.{Refusal}
 use Rattle.rl_base.specs.declared.listeners.Refusal.TheVariants.{NoMemory}
 use Rattle.rl_line.specs.Line.{Line, NeedsRoom, after_step}
@@ -17,6 +17,10 @@ pub record Plan (A : Type 0) : Type 0 where
 -- the events of steps
 abbrev pub events_of : List Step → List Event
 events_of steps = map (λ (s : Step). s.0) steps
+
+-- the events of the steps, replayed on the old text, give the new one
+abbrev pub AreReplay : List Step → Line → Line → Type 0
+AreReplay steps old new = replay (events_of steps) old.text ≡ Some new.text
 
 -- no step
 abbrev pub nothing : {A : Type 0} → Line → A → Plan A

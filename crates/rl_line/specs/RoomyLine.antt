@@ -9,6 +9,10 @@ pub record RoomyLine : Type 0 where
   pub bytes : ℕ
   pub starts : ℕ
 
+-- a line, with memory for so much
+abbrev pub roomy_of : Line → ℕ → ℕ → RoomyLine
+roomy_of line bytes starts = record { line = line; bytes = bytes; starts = starts }
+
 -- there is memory for a text and its table
 pub record HasRoom (text : List ℕ) (roomy : RoomyLine) : Type 0 where
   pub bytes : length text ≤ roomy.bytes

@@ -9,7 +9,7 @@ use Rattle.rl_base.specs.declared.listeners.Refusal.TheVariants.{NoMemory}
 use Rattle.rl_line.specs.declared.change.Way.{Way}
 use Rattle.rl_line.specs.declared.change.Way.TheVariants.{Back, Ahead}
 use Rattle.rl_line.specs.Line.{Line, NeedsRoom, after_step}
-use Rattle.rl_line.specs.Plan.{Step}
+use Rattle.rl_line.specs.Plan.{Step, listener_after}
 use Rattle.rl_line.specs.Record.{Entry, Begin, End, Changed, Record, bytes_ahead, bytes_back, cursors_of, event_of, events_ahead, events_back, inverse, past, replay_entries, unwind}
 use Rattle.rl_line.specs.Units.{last_of, redo_of, has_change, undone, redone}
 
@@ -55,6 +55,13 @@ steps_ahead cursor (Changed kind swap ∷ es) =
 -- the steps by which it goes back, the last entry first
 abbrev pub steps_back : ℕ → List Entry → List Step
 steps_back cursor es = steps_ahead cursor (map inverse (reverse es))
+
+-- the listener after it was told of the way over entries: back, and ahead
+abbrev pub listener_back : {L : Type 0} → (L → Event → L) → ℕ → List Entry → L → L
+listener_back step cursor es before = listener_after step cursor (steps_back cursor es) before
+
+abbrev pub listener_ahead : {L : Type 0} → (L → Event → L) → ℕ → List Entry → L → L
+listener_ahead step cursor es before = listener_after step cursor (steps_ahead cursor es) before
 
 -- where entries are taken back in a copy of a text, that takes memory only where there is a change, and the text, or one on the
 -- way, is not empty
@@ -106,7 +113,11 @@ pub record Redone (old new : Record) (line line' : Line) (answer : Bool) : Type 
 abbrev pub StandsStill : Line → Line → Type 0
 StandsStill line line' = (line'.text ≡ line.text) × (line'.cursor ≡ line.cursor)
 
--- memory is out for a text on the way, which needs more room than the line's text has, and nothing changed
+-- memory is out for a text on the way, which needs more room than the line's text has, and the line is as it was
+abbrev pub LineOutOfRoom : Line → Line → List (List ℕ) → Refusal → Type 0
+LineOutOfRoom line line' texts why = (why ≡ NoMemory) × (line' ≡ line) × Any (NeedsRoom line.text) texts
+
+-- the same, and so is the record
 abbrev pub OutOfRoom : Record → Record → Line → Line → List (List ℕ) → Refusal → Type 0
 OutOfRoom old new line line' texts why = (why ≡ NoMemory) × (new ≡ old) × (line' ≡ line) × Any (NeedsRoom line.text) texts
 
@@ -128,6 +139,9 @@ line_over Ahead es line = line_ahead es line
 abbrev pub steps_over : Way → ℕ → List Entry → List Step
 steps_over Back cursor es = steps_back cursor es
 steps_over Ahead cursor es = steps_ahead cursor es
+
+abbrev pub listener_over : {L : Type 0} → (L → Event → L) → Way → ℕ → List Entry → L → L
+listener_over step way cursor es before = listener_after step cursor (steps_over way cursor es) before
 
 abbrev pub texts_over : Way → List Entry → List ℕ → List (List ℕ)
 texts_over Back es text = texts_back es text

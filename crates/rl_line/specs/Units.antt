@@ -177,3 +177,7 @@ after_in_group (Begins ∷ steps) r = after_in_group steps (begun r)
 -- the record after a group was begun, and these events
 abbrev pub in_group : List Event → Record → Record
 in_group events r = after_in_group (map Hears events) (begun r)
+
+-- the entries from the begin of that group on
+abbrev pub group_of : List Event → Record → List Entry
+group_of events r = drop (length r.recorded) (in_group events r).recorded

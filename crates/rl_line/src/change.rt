@@ -10,7 +10,7 @@ ghost use Rattle.rl_line.specs.Plan.{NeverRefuses, listener_after};
 ghost use Rattle.rl_line.specs.Record.{bytes_back, cursors_of, entry_of, event_of, freshness_joined, inverse, new_text, old_text, with_cursors};
 ghost use Rattle.rl_line.specs.Undo.{Reaches, count_over, cursor_after, cursor_told, cursor_stands, line_back, steps_ahead};
 ghost use Rattle.rl_line.specs.Units.{is_begin, is_change};
-ghost use Rattle.rl_line.specs.Change.{Outgrows, TakesIn, text_after, text_back, place, entry_to_undo, greatest_back_over, order, size_back, size_of, entries_to_undo};
+ghost use Rattle.rl_line.specs.Change.{Outgrows, TakesIn, TextOutgrows, text_after, text_back, place, entry_to_undo, greatest_back_over, order, size_back, size_of, entries_to_undo};
 ghost use Rattle.rl_line.specs.declared.change.Measure.TheVariants.{Bytes, Newlines};
 ghost use Rattle.rl_base.specs.Lines.{is_newline};
 
@@ -226,6 +226,7 @@ impl Change {
     }
 
     // Whether the cursor stands between two characters of a text that went over the change, if that is asked and it was told.
+    #[tactic(auto, using(crate::proofs::Records::ChangeLemmas::over_one))]
     fn stands(&self, text: &Patched, way: Way, asks: bool) -> bool
         ensures { result ≡ cursor_stands asks (inverse (entry_to_undo way self.now)) text.now }
     {
@@ -239,6 +240,7 @@ impl Change {
     }
 
     // Goes over the change in a text, if it fits there. Answers whether it does.
+    #[tactic(auto, using(crate::proofs::Records::ChangeLemmas::over_one))]
     fn patch(&self, text: &mut Patched, way: Way) -> Result<bool, Refusal>
         ensures fits { IfOk result (λ fits. fits ≡ is_some (apply (event_of (inverse (entry_to_undo way self.now))) text.old)) }
         ensures done { IfOk result (λ fits. fits ≡ true → apply (event_of (inverse (entry_to_undo way self.now))) text.old ≡ Some text.new) }
@@ -272,6 +274,7 @@ impl Change {
     }
 
     // Whether a text can go over the change.
+    #[tactic(auto, using(crate::proofs::Records::ChangeLemmas::over_one))]
     fn fits(&self, text: &str, way: Way) -> bool
         requires { IsUtf8 (old_text (entry_to_undo way self.now)) }
         ensures { result ≡ is_some (apply (event_of (inverse (entry_to_undo way self.now))) text.now) }
@@ -366,7 +369,7 @@ pub(crate) fn find_room_over(
     ensures line { line.new.line ≡ line.old.line }
     ensures room { OnOk result (greatest_back_over Bytes (entries_to_undo way changes.now) (length line.old.line.text) ≤ line.new.bytes) }
     ensures table { OnOk result (greatest_back_over Newlines (entries_to_undo way changes.now) (count_by is_newline line.old.line.text) ≤ line.new.starts) }
-    ensures err { IfErr result (λ r. (r ≡ NoMemory) × Outgrows (entries_to_undo way changes.now) (length line.old.line.text) (count_by is_newline line.old.line.text)) }
+    ensures err { IfErr result (λ r. (r ≡ NoMemory) × TextOutgrows (entries_to_undo way changes.now) line.old.line.text) }
 {
     let growth = growth_over(changes, way, line.len(), line.newlines())?;
     line.find_room(growth.bytes, growth.newlines)?;
@@ -411,6 +414,7 @@ fn growth_over(
 
 /// A text that went over the changes. None if one of them does not fit, or if `asks` is set and a cursor that was told
 /// would not stand between two characters.
+#[tactic(auto, using(crate::proofs::Records::RoomLemmas::over_all))]
 pub(crate) fn patch_over<'t>(
     alloc: Global,
     text: &'t str,

@@ -1,5 +1,5 @@
 //! The record of the changes of a line, which undoes them, in groups where they were made in groups, and redoes them.
-ghost use Rattle.std.specs.Prelude.{◌≡◌, ◌<◌, ◌≤◌, ℕ, [], ◌∷◌, map, min, true, false, is_some, length, All, Any, IsSome, Some, IfOk, IfErr, IfSome, OnOk, OnErr};
+ghost use Rattle.std.specs.Prelude.{◌≡◌, ◌<◌, ◌≤◌, ℕ, [], ◌∷◌, map, min, true, false, is_some, length, All, IsSome, Some, IfOk, IfErr, IfSome, OnOk, OnErr};
 ghost use Rattle.std.specs.Option.{option_map};
 ghost use Rattle.std.specs.String.{string_bytes};
 ghost use Rattle.rl_base.specs.Event.{InsertChar, InsertStr, Delete, Replace};
@@ -9,10 +9,9 @@ ghost use Rattle.rl_base.specs.declared.listeners.Refusal.TheVariants.{NoMemory}
 ghost use Rattle.rl_line.specs.declared.change.Freshness.TheVariants.{Stale};
 ghost use Rattle.rl_line.specs.Forgetting.{forgotten};
 ghost use Rattle.rl_line.specs.Change.{entries_to_undo};
-ghost use Rattle.rl_line.specs.Line.{NeedsRoom};
-ghost use Rattle.rl_line.specs.Plan.{NeverRefuses, listener_after};
+ghost use Rattle.rl_line.specs.Plan.{NeverRefuses};
 ghost use Rattle.rl_line.specs.Record.{IsOfKind, Record, entry_of, last_insert, record_step, replays_to};
-ghost use Rattle.rl_line.specs.Undo.{CopiesBack, GoesOver, OutOfRoom, Redone, StandsStill, TriesAhead, TriesBack, Undone, line_ahead, line_back, line_over, steps_ahead, steps_back, steps_over, texts_ahead, texts_back, texts_over, unit_of};
+ghost use Rattle.rl_line.specs.Undo.{CopiesBack, GoesOver, LineOutOfRoom, OutOfRoom, Redone, StandsStill, TriesAhead, TriesBack, Undone, line_ahead, line_back, line_over, listener_ahead, listener_back, listener_over, texts_ahead, texts_back, texts_over, unit_of};
 ghost use Rattle.rl_line.specs.Units.{BothMatched, IsMatched, adds_end, begun, ended, ended_one, has_change, is_change, last_of, level, redo_of, truncated, with_closed};
 
 mod foretelling;
@@ -90,6 +89,7 @@ impl Changeset {
 
     /// Whether a redo would find a change: one waits to be redone. It looks at the begins of groups that wait before
     /// that change, and at no other entry.
+    #[tactic(auto, using(crate::proofs::Records::EndLemmas::holds))]
     pub fn has_redo(&self) -> bool
         ensures { result ≡ has_change (redo_of self.now.pending) }
     {
@@ -98,6 +98,7 @@ impl Changeset {
 
     /// Opens a group, whose changes are undone and redone together once it is closed. Answers how many entries
     /// stand before it, a mark that `truncate` takes.
+    #[tactic(auto, using(crate::proofs::Records::LevelLemmas::levels))]
     pub fn begin(&mut self) -> Result<usize, Refusal>
         ensures done { IfOk result (λ answer. (answer ≡ length self.old.recorded) × (self.new ≡ begun self.old)) }
         ensures err { IfErr result (λ r. (r ≡ NoMemory) × (self.new ≡ self.old) × (self.old.pending ≡ [])) }
@@ -211,7 +212,7 @@ impl Changeset {
         requires hears { NeverRefuses L.refused }
         ensures done { IfOk result (λ answer. Undone n self.old self.new line.old line.new answer) }
         ensures unmoved { IfOk result (λ answer. answer ≡ false → StandsStill line.old line.new) }
-        ensures told { OnOk result (listener.new ≡ listener_after L.step line.old.cursor (steps_back line.old.cursor (last_of n self.old.recorded)) listener.old) }
+        ensures told { OnOk result (listener.new ≡ listener_back L.step line.old.cursor (last_of n self.old.recorded) listener.old) }
         ensures err { IfErr result (OutOfRoom self.old self.new line.old line.new (texts_back (last_of n self.old.recorded) line.old.text)) }
         ensures kept { OnErr result (listener.new ≡ listener.old) }
     {
@@ -246,7 +247,7 @@ impl Changeset {
         requires hears { NeverRefuses L.refused }
         ensures done { IfOk result (λ answer. Redone self.old self.new line.old line.new answer) }
         ensures unmoved { IfOk result (λ answer. answer ≡ false → StandsStill line.old line.new) }
-        ensures told { OnOk result (listener.new ≡ listener_after L.step line.old.cursor (steps_ahead line.old.cursor (redo_of self.old.pending)) listener.old) }
+        ensures told { OnOk result (listener.new ≡ listener_ahead L.step line.old.cursor (redo_of self.old.pending) listener.old) }
         ensures err { IfErr result (OutOfRoom self.old self.new line.old line.new (texts_ahead (redo_of self.old.pending) line.old.text)) }
         ensures kept { OnErr result (listener.new ≡ listener.old) }
     {
@@ -266,7 +267,7 @@ impl Changeset {
         requires hears { NeverRefuses L.refused }
         ensures done { IfOk result (GoesOver way n self.old self.new line.old line.new) }
         ensures unmoved { IfOk result (λ answer. answer ≡ false → StandsStill line.old line.new) }
-        ensures told { OnOk result (listener.new ≡ listener_after L.step line.old.cursor (steps_over way line.old.cursor (unit_of way n self.old)) listener.old) }
+        ensures told { OnOk result (listener.new ≡ listener_over L.step way line.old.cursor (unit_of way n self.old) listener.old) }
         ensures err { IfErr result (OutOfRoom self.old self.new line.old line.new (texts_over way (unit_of way n self.old) line.old.text)) }
         ensures kept { OnErr result (listener.new ≡ listener.old) }
     {
@@ -281,6 +282,7 @@ impl Changeset {
 
     // The same of any units. It stands apart, since mostly one change alone is undone.
     #[inline(never)]
+    #[tactic(auto, using(crate::proofs::Records::LevelLemmas::moves_of_units))]
     fn go_over_units<L: ChangeListener>(
         &mut self,
         line: &mut LineBuffer,
@@ -292,7 +294,7 @@ impl Changeset {
         requires hears { NeverRefuses L.refused }
         ensures done { IfOk result (GoesOver way n self.old self.new line.old line.new) }
         ensures unmoved { IfOk result (λ answer. answer ≡ false → StandsStill line.old line.new) }
-        ensures told { OnOk result (listener.new ≡ listener_after L.step line.old.cursor (steps_over way line.old.cursor (unit_of way n self.old)) listener.old) }
+        ensures told { OnOk result (listener.new ≡ listener_over L.step way line.old.cursor (unit_of way n self.old) listener.old) }
         ensures err { IfErr result (OutOfRoom self.old self.new line.old line.new (texts_over way (unit_of way n self.old) line.old.text)) }
         ensures kept { OnErr result (listener.new ≡ listener.old) }
     {
@@ -346,6 +348,7 @@ impl Changeset {
 
     /// Keeps the first `len` entries, all if there are fewer, and drops the others and what was undone. A
     /// group that loses its end is open again.
+    #[tactic(auto, using(crate::proofs::Records::LevelLemmas::levels))]
     pub fn truncate(&mut self, len: usize)
         ensures { self.new ≡ truncated len self.old }
     {
@@ -360,6 +363,7 @@ impl Changeset {
     // Inlined, so that it is a comparison then. If nothing is left recorded, the next change joins nothing, and
     // cursors that are told go to none, whatever `fresh` says.
     #[inline(always)]
+    #[tactic(auto, using(crate::proofs::Records::ForgettingLemmas::none_forgotten))]
     pub fn forget(&mut self, entries: usize, bytes: usize)
         ensures { self.new ≡ forgotten entries bytes self.old }
     {
@@ -392,6 +396,7 @@ impl Changeset {
 
     /// Whether all recorded changes can be taken back from the line's text, the last first, and each cursor that was
     /// told stands between two characters then. So an undo of any number of units can.
+    #[tactic(auto, using(crate::proofs::Records::LeadLemmas::leads))]
     pub fn can_undo(&self, line: &LineBuffer) -> Result<bool, Refusal>
         ensures ok { IfOk result (λ answer. answer ≡ is_some (line_back self.now.recorded line.now)) }
         ensures units { IfOk result (λ answer. answer ≡ true → (n : ℕ) → IsSome (line_back (last_of n self.now.recorded) line.now)) }
@@ -413,6 +418,7 @@ impl Changeset {
 
     /// Whether all undone changes can be made again on the line's text, the last undone first, and each cursor that
     /// was told stands between two characters then. So a redo can.
+    #[tactic(auto, using(crate::proofs::Records::LeadLemmas::leads))]
     pub fn can_redo(&self, line: &LineBuffer) -> Result<bool, Refusal>
         ensures ok { IfOk result (λ answer. answer ≡ is_some (line_ahead self.now.pending line.now)) }
         ensures unit { IfOk result (λ answer. answer ≡ true → IsSome (line_ahead (redo_of self.now.pending) line.now)) }
@@ -433,6 +439,7 @@ impl Changeset {
 
     /// Whether the first `len` entries lead to the line's text by themselves, so that `truncate` may drop the
     /// others: both they and all entries can be taken back from it, to the same text.
+    #[tactic(auto, using(crate::proofs::Records::WayLemmas::led_back))]
     pub fn replays_to(&self, len: usize, line: &LineBuffer) -> Result<bool, Refusal>
         ensures ok { IfOk result (λ answer. answer ≡ replays_to len self.now line.now.text) }
         ensures err { IfErr result (λ r. (r ≡ NoMemory) × CopiesBack self.now.recorded line.now.text) }
@@ -464,8 +471,8 @@ fn go_over_all<L: ChangeListener>(
     requires follows { IsSome (line_back (entries_to_undo way changes.now) line.old) }
     requires hears { NeverRefuses L.refused }
     ensures ok { OnOk result (line_back (entries_to_undo way changes.now) line.old ≡ Some line.new) }
-    ensures told { OnOk result (listener.new ≡ listener_after L.step line.old.cursor (steps_back line.old.cursor (entries_to_undo way changes.now)) listener.old) }
-    ensures err { IfErr result (λ r. (r ≡ NoMemory) × (line.new ≡ line.old) × Any (NeedsRoom line.old.text) (texts_back (entries_to_undo way changes.now) line.old.text)) }
+    ensures told { OnOk result (listener.new ≡ listener_back L.step line.old.cursor (entries_to_undo way changes.now) listener.old) }
+    ensures err { IfErr result (LineOutOfRoom line.old line.new (texts_back (entries_to_undo way changes.now) line.old.text)) }
     ensures kept { OnErr result (listener.new ≡ listener.old) }
 {
     match way {

@@ -68,12 +68,14 @@ impl Entries {
         self.recorded
     }
 
+    #[tactic(auto, using(crate::proofs::Records::MoveLemmas::parts_of_lists))]
     pub(crate) fn recorded(&self) -> &[Change]
         ensures { map entry_of result.now ≡ self.now.recorded }
     {
         &self.list[..self.recorded]
     }
 
+    #[tactic(auto, using(crate::proofs::Records::MoveLemmas::parts_of_lists))]
     pub(crate) fn pending(&self) -> &[Change]
         ensures { map entry_of result.now ≡ self.now.pending }
     {
@@ -89,6 +91,7 @@ impl Entries {
 
     /// Records that a character was put in.
     #[inline(always)]
+    #[tactic(auto, using(crate::proofs::Records::JoinLemmas::adds))]
     pub(crate) fn insert_char(&mut self, idx: usize, c: char) -> Result<(), Refusal>
         ensures done { OnOk result (self.new ≡ record_step self.old (InsertChar idx c)) }
         ensures err { IfErr result (λ r. (r ≡ NoMemory) × (self.new ≡ self.old)) }
@@ -114,6 +117,7 @@ impl Entries {
     }
 
     /// Records that a text was put in.
+    #[tactic(auto, using(crate::proofs::Records::JoinLemmas::adds))]
     pub(crate) fn insert_str(&mut self, idx: usize, string: &str) -> Result<(), Refusal>
         ensures done { OnOk result (self.new ≡ record_step self.old (InsertStr idx string.now)) }
         ensures err { IfErr result (λ r. (r ≡ NoMemory) × (self.new ≡ self.old) × (0 < length string.now)) }
@@ -128,6 +132,7 @@ impl Entries {
     }
 
     /// Records that a text was taken out, from whichever side of the cursor.
+    #[tactic(auto, using(crate::proofs::Records::JoinLemmas::adds))]
     pub(crate) fn delete(&mut self, idx: usize, string: &str) -> Result<(), Refusal>
         ensures done { OnOk result (self.new ≡ record_step self.old (Delete idx string.now Forward)) }
         ensures err { IfErr result (λ r. (r ≡ NoMemory) × (self.new ≡ self.old) × (0 < length string.now)) }
@@ -145,6 +150,7 @@ impl Entries {
     }
 
     /// Records that a text was replaced by another.
+    #[tactic(auto, using(crate::proofs::Records::JoinLemmas::adds))]
     pub(crate) fn replace(&mut self, idx: usize, old: &str, new: &str) -> Result<(), Refusal>
         ensures done { OnOk result (self.new ≡ record_step self.old (Replace idx old.now new.now)) }
         ensures err { IfErr result (λ r. (r ≡ NoMemory) × (self.new ≡ self.old)) }
@@ -301,6 +307,7 @@ impl Entries {
 }
 
 /// Keeps the first `len` entries. Mostly these are all, and then it costs no call.
+#[tactic(auto, using(crate::proofs::Records::EntryLemmas::at_the_end))]
 fn keep(entries: &mut Vec<Change>, len: usize)
     ensures items { map entry_of entries.new.items ≡ take len (map entry_of entries.old.items) }
     ensures len { vec_len entries.new ≤ vec_len entries.old }
@@ -312,6 +319,7 @@ fn keep(entries: &mut Vec<Change>, len: usize)
 }
 
 /// The first entries, all if there are fewer.
+#[tactic(auto, using(crate::proofs::Records::MoveLemmas::parts_of_lists))]
 pub(crate) fn first(entries: &[Change], len: usize) -> &[Change]
     ensures { map entry_of result.now ≡ take len (map entry_of entries.now) }
 {
@@ -319,6 +327,7 @@ pub(crate) fn first(entries: &[Change], len: usize) -> &[Change]
 }
 
 /// How many groups are open after the entries, if none is open before them.
+#[tactic(auto, using(crate::proofs::Records::LevelLemmas::levels_counted))]
 pub(crate) fn level(entries: &[Change]) -> usize
     requires { IsMatched (map entry_of entries.now) }
     ensures { result ≡ level (map entry_of entries.now) }
@@ -345,6 +354,7 @@ fn level_after(entry: &Change, level: usize) -> usize
 
 /// How many groups are open after the first `len` entries, all if there are fewer. It counts back from the last
 /// entry, after which `last` are open.
+#[tactic(auto, using(crate::proofs::Records::LevelLemmas::levels_at))]
 pub(crate) fn level_at(entries: &[Change], len: usize, last: usize) -> usize
     requires matched { IsMatched (map entry_of entries.now) }
     requires last { last ≡ level (map entry_of entries.now) }
@@ -364,6 +374,7 @@ pub(crate) fn level_at(entries: &[Change], len: usize, last: usize) -> usize
 }
 
 /// Whether closing `count` groups adds an End: it does if one of them is not empty.
+#[tactic(auto, using(crate::proofs::Records::EntryLemmas::at_the_end))]
 fn adds_end(entries: &[Change], count: usize) -> bool
     ensures { result ≡ adds_end count (map entry_of entries.now) }
 {
@@ -406,6 +417,7 @@ fn close_groups(entries: &mut Vec<Change>, count: usize)
 }
 
 // Closes the group that was opened last: removes a Begin at the end, or adds an End.
+#[tactic(auto, using(crate::proofs::Records::EntryLemmas::at_the_end))]
 fn close_last(entries: &mut Vec<Change>)
     requires { ends_in_begin (map entry_of entries.old.items) ≡ false → vec_len entries.old < vec_capacity entries.old }
     ensures entries { map entry_of entries.new.items ≡ end_one (map entry_of entries.old.items) }
@@ -423,6 +435,7 @@ fn close_last(entries: &mut Vec<Change>)
 }
 
 // Whether the last entry is a Begin.
+#[tactic(auto, using(crate::proofs::Records::EntryLemmas::at_the_end))]
 fn ends_in_begin(entries: &[Change]) -> bool
     ensures { result ≡ ends_in_begin (map entry_of entries.now) }
 {
@@ -434,6 +447,7 @@ fn ends_in_begin(entries: &[Change]) -> bool
 
 /// The change that makes up the last `n` units, or the last unit if `n` is 0, if they are one change alone.
 #[inline(always)]
+#[tactic(auto, using(crate::proofs::Records::EntryLemmas::at_the_end))]
 pub(crate) fn last_alone(entries: &[Change], n: RepeatCount) -> Option<&Change>
     ensures { IfSome result (λ change. (is_change (entry_of change.now) ≡ true) × (last_of n (map entry_of entries.now) ≡ entry_of change.now ∷ [])) }
 {
@@ -446,6 +460,7 @@ pub(crate) fn last_alone(entries: &[Change], n: RepeatCount) -> Option<&Change>
 
 /// The change that makes up the next unit to redo, of undone entries, if that unit is one change alone.
 #[inline(always)]
+#[tactic(auto, using(crate::proofs::Records::EntryLemmas::at_the_end))]
 pub(crate) fn next_alone(entries: &[Change]) -> Option<&Change>
     requires { IsMatched (map entry_of entries.now) }
     ensures { IfSome result (λ change. (is_change (entry_of change.now) ≡ true) × (redo_of (map entry_of entries.now) ≡ entry_of change.now ∷ [])) }
@@ -455,6 +470,7 @@ pub(crate) fn next_alone(entries: &[Change]) -> Option<&Change>
 }
 
 /// Whether there is a change in the last unit. Only the Begin of an open group has none.
+#[tactic(auto, using(crate::proofs::Records::EndLemmas::holds))]
 pub(crate) fn last_has_change(entries: &[Change]) -> bool
     requires { IsMatched (map entry_of entries.now) }
     ensures { result ≡ has_change (last_of 1 (map entry_of entries.now)) }
@@ -500,6 +516,7 @@ fn last_len(entries: &[Change], n: RepeatCount) -> usize
 }
 
 /// How many entries the next unit to redo has, of undone entries.
+#[tactic(auto, using(crate::proofs::Records::EntryLemmas::at_the_end))]
 pub(crate) fn next_len(entries: &[Change]) -> usize
     requires { IsMatched (map entry_of entries.now) }
     ensures { result ≡ length (redo_of (map entry_of entries.now)) }
@@ -548,6 +565,7 @@ pub(crate) fn has_change(entries: &[Change]) -> bool
 
 /// Whether a line can go over the entries that way, and each cursor that was told stands between two characters then. One
 /// entry is compared with the text; several, if there is a change among them, are tried on a copy of the part that they touch.
+#[tactic(auto, using(crate::proofs::Records::LeadLemmas::led))]
 pub(crate) fn lead(
     alloc: Global,
     line: &LineBuffer,

@@ -9,6 +9,7 @@ use crate::entries::{level, next_len};
 
 /// How many entries the oldest units have that go where no more than `most` entries are to stay, with no more than
 /// `bytes` bytes. It stops at the begin of an open group.
+#[tactic(auto, using(crate::proofs::Records::ForgettingLemmas::went_so_far))]
 pub(crate) fn oldest_len(entries: &[Change], most: usize, bytes: usize) -> usize
     requires { IsMatched (map entry_of entries.now) }
     ensures { ForgetsFirst most bytes (map entry_of entries.now) result }

@@ -1,4 +1,6 @@
 //! The laws of the record: what undo, redo, groups and forgetting come to, over any entries.
+#![tactic(auto, using(crate::proofs::Records::Laws::laws))]
+
 ghost use Rattle.std.specs.Prelude.{◌≡◌, ◌≤◌, ◌↔◌, ℕ, List, Bool, [], ◌∷◌, ◌++◌, min, suc, true, false, drop, length, IsSome, Some};
 ghost use Rattle.std.specs.Str.{IsCharBoundary, IsUtf8};
 ghost use Rattle.rl_base.specs.Event.{Event};
@@ -7,7 +9,7 @@ ghost use Rattle.rl_line.specs.Line.{Line};
 ghost use Rattle.rl_line.specs.Plan.{after};
 ghost use Rattle.rl_line.specs.Record.{Begin, Entry, End, Record, replay_entries, unwind};
 ghost use Rattle.rl_line.specs.Undo.{Redone, Redos, StandAfter, StandBefore, Undone, line_ahead, line_back, steps_ahead, steps_back};
-ghost use Rattle.rl_line.specs.Units.{BothMatched, GroupAt, InGroup, IsMatched, adds_end, after_in_group, begun, ended, ended_one, has_change, in_group, kept_of, last_of, last_units, level, opens, redo_of};
+ghost use Rattle.rl_line.specs.Units.{BothMatched, GroupAt, InGroup, IsMatched, adds_end, after_in_group, begun, ended, ended_one, group_of, has_change, in_group, kept_of, last_of, last_units, level, opens, redo_of};
 
 /// Where entries lead from one text to another, unwinding them leads back from that to the first, and conversely.
 pub fn unwinding_is_replaying()
@@ -66,13 +68,13 @@ pub fn empty_group_leaves_the_record()
 /// undo of one keeps what was recorded before; otherwise the group leaves no trace.
 pub fn group_is_closed_alone()
     ensures answer { (r : Record) (events : List Event) → IsMatched r.recorded
-        → adds_end (min 1 (level (in_group events r).recorded)) (in_group events r).recorded ≡ has_change (drop (length r.recorded) (in_group events r).recorded) }
+        → adds_end (min 1 (level (in_group events r).recorded)) (in_group events r).recorded ≡ has_change (group_of events r) }
     ensures unit { (r : Record) (events : List Event) → IsMatched r.recorded
-        → has_change (drop (length r.recorded) (in_group events r).recorded) ≡ true
-        → (last_of 1 (ended_one (in_group events r)).recorded ≡ drop (length r.recorded) (in_group events r).recorded ++ End ∷ [])
+        → has_change (group_of events r) ≡ true
+        → (last_of 1 (ended_one (in_group events r)).recorded ≡ group_of events r ++ End ∷ [])
         × (kept_of 1 (ended_one (in_group events r)).recorded ≡ r.recorded) }
     ensures nothing { (r : Record) (events : List Event) → IsMatched r.recorded
-        → has_change (drop (length r.recorded) (in_group events r).recorded) ≡ false
+        → has_change (group_of events r) ≡ false
         → (ended_one (in_group events r)).recorded ≡ r.recorded }
     ensures level { (r : Record) (events : List Event) → IsMatched r.recorded
         → level (ended_one (in_group events r)).recorded ≡ level r.recorded }

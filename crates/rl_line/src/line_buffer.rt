@@ -1,17 +1,17 @@
 //! The line: its text, its cursor, and the few steps through which every change of its text goes.
-ghost use Rattle.std.specs.Prelude.{◌≡◌, List, [], ◌∷◌, ◌+◌, ◌^◌, ◌<◌, ◌≤◌, ◌↔◌, true, false, length, max, encode_utf8, Any, IsTrue, IsSome, Some, IfOk, IfErr, OnOk, OnErr};
+ghost use Rattle.std.specs.Prelude.{◌≡◌, List, [], ◌∷◌, ◌+◌, ◌^◌, ◌<◌, ◌≤◌, ◌↔◌, true, false, length, max, encode_utf8, IsTrue, IsSome, Some, IfOk, IfErr, OnOk, OnErr};
 ghost use Rattle.std.specs.Str.{IsCharBoundary, IsUtf8};
 ghost use Rattle.std.specs.String.{string_bytes};
 ghost use Rattle.std.specs.List.{insert_slice, remove_range, replace_range};
-ghost use Rattle.rl_base.specs.Event.{InsertChar, InsertStr, replay};
+ghost use Rattle.rl_base.specs.Event.{InsertChar, InsertStr};
 ghost use Rattle.rl_base.specs.declared.listeners.Refusal.TheVariants.{NoMemory};
-ghost use Rattle.rl_line.specs.Line.{Line, NeedsRoom, stepped};
-ghost use Rattle.rl_line.specs.Plan.{NeverRefuses, Step, StepOutcome, Taken, after, events_of, listener_after, nothing_more, room_by_step};
-ghost use Rattle.rl_line.specs.Undo.{line_back, steps_back, texts_back};
+ghost use Rattle.rl_line.specs.Line.{Line, stepped};
+ghost use Rattle.rl_line.specs.Plan.{AreReplay, NeverRefuses, Step, StepOutcome, Taken, after, room_by_step};
+ghost use Rattle.rl_line.specs.Undo.{LineOutOfRoom, line_back, listener_back, texts_back};
 ghost use Rattle.rl_line.specs.Change.{entry_to_undo, entries_to_undo};
 ghost use Rattle.rl_line.specs.Record.{entry_of};
 ghost use Rattle.rl_line.specs.Units.{is_change};
-ghost use Rattle.rl_line.specs.Edits.{delete_step, replace_step};
+ghost use Rattle.rl_line.specs.Edits.{DeletesRange, replace_step};
 ghost use Rattle.rl_line.specs.LineRanges.{IsRange};
 
 mod deletions;
@@ -36,9 +36,10 @@ use std::ops::Range;
 
 /// The steps that an edit took, replayed on the old text, give the new one: all steps of an edit that was done, and the first
 /// ones of one that was halted.
+#[tactic(auto, using(crate::proofs::Plans::PlanLemmas::steps_taken))]
 pub fn steps_are_a_replay<L: DeleteListener>()
-    ensures steps { (steps : List Step) (old new : Line) → after steps old ≡ Some new → replay (events_of steps) old.text ≡ Some new.text }
-    ensures taken { (steps : List Step) (old new : Line) (before now : L) → Taken L.step steps old new before now → replay (events_of steps) old.text ≡ Some new.text }
+    ensures steps { (steps : List Step) (old new : Line) → after steps old ≡ Some new → AreReplay steps old new }
+    ensures taken { (steps : List Step) (old new : Line) (before now : L) → Taken L.step steps old new before now → AreReplay steps old new }
 {}
 
 /// The length in bytes that a line of an editor is made for.
@@ -113,6 +114,7 @@ impl LineBuffer {
     }
 
     /// The text.
+    #[tactic(auto, using(crate::proofs::Lines::RoomyLemmas::views))]
     pub fn as_str(&self) -> &str
         ensures { result.now ≡ self.now.text }
     {
@@ -120,6 +122,7 @@ impl LineBuffer {
     }
 
     /// The text, with the line used up.
+    #[tactic(auto, using(crate::proofs::Lines::RoomyLemmas::views))]
     pub fn into_string(self) -> String
         ensures { string_bytes result ≡ self.text }
     {
@@ -135,6 +138,7 @@ impl LineBuffer {
     }
 
     /// The byte place of the cursor.
+    #[tactic(auto, using(crate::proofs::Lines::RoomyLemmas::views))]
     pub fn pos(&self) -> usize
         ensures place { result ≡ self.now.cursor }
         ensures boundary { IsCharBoundary self.now.text result }
@@ -146,6 +150,7 @@ impl LineBuffer {
     }
 
     /// The length of the text, in bytes.
+    #[tactic(auto, using(crate::proofs::Lines::RoomyLemmas::views))]
     pub fn len(&self) -> usize
         ensures len { result ≡ length self.now.text }
         ensures fits { result < 2 ^ 63 }
@@ -154,6 +159,7 @@ impl LineBuffer {
     }
 
     /// The limit on the text's length, in bytes.
+    #[tactic(auto, using(crate::proofs::Lines::RoomyLemmas::views))]
     pub fn limit(&self) -> usize
         ensures limit { result ≡ self.now.limit }
         ensures within { length self.now.text ≤ result }
@@ -186,6 +192,7 @@ impl LineBuffer {
     }
 
     /// Moves the cursor to a byte place, which `as_str().is_char_boundary` tests.
+    #[tactic(auto, using(crate::proofs::Lines::RoomyLemmas::views))]
     pub fn set_pos(&mut self, pos: usize)
         requires { IsCharBoundary self.old.text pos }
         ensures { self.new ≡ record self.old { cursor = pos } }
@@ -266,7 +273,7 @@ impl LineBuffer {
         listener: &mut L,
     ) -> Result<(), Refusal>
         requires { IsRange self.old.text range.start range.end }
-        ensures step { StepOutcome L.step L.refused nothing_more (delete_step self.old range dir range.start) self.old self.new listener.old listener.new result }
+        ensures step { DeletesRange L.step L.refused range dir range.start self.old self.new listener.old listener.new result }
         ensures line { OnOk result (self.new ≡ stepped self.old (remove_range self.old.text range.start range.end) range.start) }
     {
         let start = range.start;
@@ -284,7 +291,7 @@ impl LineBuffer {
     ) -> Result<(), Refusal>
         requires range { IsRange self.old.text range.start range.end }
         requires boundary { IsCharBoundary (remove_range self.old.text range.start range.end) cursor }
-        ensures step { StepOutcome L.step L.refused nothing_more (delete_step self.old range dir cursor) self.old self.new listener.old listener.new result }
+        ensures step { DeletesRange L.step L.refused range dir cursor self.old self.new listener.old listener.new result }
         ensures line { OnOk result (self.new ≡ stepped self.old (remove_range self.old.text range.start range.end) cursor) }
     {
         self.line.deletion_step(range, dir, cursor, listener)
@@ -303,8 +310,8 @@ impl LineBuffer {
         requires fits { IsSome (line_back (entry_to_undo way change.now ∷ []) self.old) }
         requires hears { NeverRefuses L.refused }
         ensures ok { OnOk result (line_back (entry_to_undo way change.now ∷ []) self.old ≡ Some self.new) }
-        ensures told { OnOk result (listener.new ≡ listener_after L.step self.old.cursor (steps_back self.old.cursor (entry_to_undo way change.now ∷ [])) listener.old) }
-        ensures err { IfErr result (λ r. (r ≡ NoMemory) × (self.new ≡ self.old) × Any (NeedsRoom self.old.text) (texts_back (entry_to_undo way change.now ∷ []) self.old.text)) }
+        ensures told { OnOk result (listener.new ≡ listener_back L.step self.old.cursor (entry_to_undo way change.now ∷ []) listener.old) }
+        ensures err { IfErr result (LineOutOfRoom self.old self.new (texts_back (entry_to_undo way change.now ∷ []) self.old.text)) }
         ensures kept { OnErr result (listener.new ≡ listener.old) }
     {
         // So the proof knows that this is UTF-8.
@@ -326,6 +333,7 @@ impl LineBuffer {
     // longest text and the longest table on the way before it changes anything. The listener is told of each change
     // once it is gone over. Inlined, so that undo and redo each know their way at compile time.
     #[inline(always)]
+    #[tactic(auto, using(crate::proofs::Records::RoomLemmas::back_so_far))]
     pub(crate) fn go_over_all<L: ChangeListener>(
         &mut self,
         changes: &[Change],
@@ -335,8 +343,8 @@ impl LineBuffer {
         requires follows { IsSome (line_back (entries_to_undo way changes.now) self.old) }
         requires hears { NeverRefuses L.refused }
         ensures ok { OnOk result (line_back (entries_to_undo way changes.now) self.old ≡ Some self.new) }
-        ensures told { OnOk result (listener.new ≡ listener_after L.step self.old.cursor (steps_back self.old.cursor (entries_to_undo way changes.now)) listener.old) }
-        ensures err { IfErr result (λ r. (r ≡ NoMemory) × (self.new ≡ self.old) × Any (NeedsRoom self.old.text) (texts_back (entries_to_undo way changes.now) self.old.text)) }
+        ensures told { OnOk result (listener.new ≡ listener_back L.step self.old.cursor (entries_to_undo way changes.now) listener.old) }
+        ensures err { IfErr result (LineOutOfRoom self.old self.new (texts_back (entries_to_undo way changes.now) self.old.text)) }
         ensures kept { OnErr result (listener.new ≡ listener.old) }
     {
         // So the proof knows that this is UTF-8.

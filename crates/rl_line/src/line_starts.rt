@@ -19,6 +19,7 @@ pub(crate) struct LineStarts {
 
 /// How many newlines a text has. They are counted in stretches so short that a byte holds each count: the compiler
 /// makes vectors of bytes of this.
+#[tactic(auto, using(crate::proofs::Lines::LineStartLemmas::tables))]
 pub(crate) fn newlines(text: &str) -> usize
     ensures { result ≡ count_by is_newline text.now }
 {
@@ -48,6 +49,7 @@ fn few_newlines(bytes: &[u8]) -> u8
 }
 
 /// How many newlines a character is.
+#[tactic(auto, using(crate::proofs::Lines::LineStartLemmas::newlines_told))]
 pub(crate) fn newlines_of(c: char) -> usize
     ensures { result ≡ count_by is_newline (encode_utf8 c) }
 {
@@ -122,6 +124,7 @@ impl LineStarts {
 
     // Whether all starts before the border lie at a place or before it.
     #[inline(always)]
+    #[tactic(auto, using(crate::proofs::Lines::LineReadLemmas::borders))]
     fn border_by(&self, text: &str, pos: usize) -> bool
         requires table { IsTable self.now.places.items self.now.border text.now }
         requires place { pos ≤ length text.now }
@@ -135,6 +138,7 @@ impl LineStarts {
 
     // Whether all starts from the border on lie after a place.
     #[inline(always)]
+    #[tactic(auto, using(crate::proofs::Lines::LineReadLemmas::borders))]
     fn border_after(&self, text: &str, pos: usize) -> bool
         requires table { IsTable self.now.places.items self.now.border text.now }
         requires place { pos ≤ length text.now }
@@ -147,6 +151,7 @@ impl LineStarts {
     }
 
     // Moves the border. The starts that it passes are then counted from the other end.
+    #[tactic(auto, using(crate::proofs::Lines::LineStartLemmas::turned_starts))]
     fn move_border(&mut self, text: &str, border: usize)
         requires table { IsTable self.old.places.items self.old.border text.now }
         requires within { border ≤ vec_len self.old.places }
@@ -178,6 +183,7 @@ fn turn(places: &mut [usize], len: usize)
 /// Updates the table of a text for the replacement of a range by a part with `come` newlines. The table has room for
 /// the result.
 #[inline(always)]
+#[tactic(auto, using(crate::proofs::Lines::LineStartLemmas::tables))]
 pub(crate) fn swap_starts(
     starts: &mut LineStarts,
     text: &str,
@@ -202,6 +208,7 @@ pub(crate) fn swap_starts(
 
 /// Updates it for a character that goes in.
 #[inline(always)]
+#[tactic(auto, using(crate::proofs::Lines::LineStartLemmas::tables))]
 pub(crate) fn swap_starts_by_char(starts: &mut LineStarts, text: &str, at: usize, c: char)
     requires place { IsCharBoundary text.now at }
     requires table { IsTable starts.old.places.items starts.old.border text.now }
@@ -233,6 +240,7 @@ fn exchange_encoded(starts: &mut LineStarts, text: &str, at: usize, c: char)
 
 /// The same where the border is elsewhere, or newlines come or go. The starts after the range keep their distances from the end.
 #[inline(never)]
+#[tactic(auto, using(crate::proofs::Lines::LineStartLemmas::tables))]
 pub(crate) fn exchange_starts(
     starts: &mut LineStarts,
     text: &str,
@@ -262,6 +270,7 @@ pub(crate) fn exchange_starts(
 
 // Replaces `gone` places from index `at` on by `come` places, whose values are left open. One more or less, as for a
 // newline that is typed or taken out, goes by the calls that move memory.
+#[tactic(auto, using(crate::proofs::Lines::LineStartLemmas::gaps))]
 fn open_gap(places: &mut Vec<usize>, at: usize, gone: usize, come: usize)
     requires within { at + gone ≤ vec_len places.old }
     requires room { (vec_len places.old - gone) + come ≤ vec_capacity places.old }
@@ -298,6 +307,7 @@ fn open_gap(places: &mut Vec<usize>, at: usize, gone: usize, come: usize)
 
 // Puts the places after the newlines of a part that begins at `at` before those that stay.
 #[inline(never)]
+#[tactic(auto, using(crate::proofs::Lines::LineStartLemmas::found_starts))]
 fn put_after_newlines(places: &mut [usize], at: usize, part: &str)
     requires within { count_by is_newline part.now ≤ length places.old }
     requires fits { at + length part.now < 2 ^ 64 }

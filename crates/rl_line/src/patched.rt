@@ -69,6 +69,7 @@ impl<'t> Patched<'t> {
     }
 
     /// Replaces a text at a place by another, if it stands there. Answers whether it does.
+    #[tactic(auto, using(crate::proofs::Records::ChangeLemmas::patches))]
     pub(crate) fn swap(&mut self, at: usize, going: &str, coming: &str) -> Result<bool, Refusal>
         ensures stands { IfOk result (λ stands. stands ≡ stands_at self.old at going.now) }
         ensures done { IfOk result (λ stands. stands ≡ true → self.new ≡ replace_range self.old at (at + length going.now) coming.now) }
@@ -111,6 +112,7 @@ impl<'t> Patched<'t> {
 }
 
 // Widens the part that gave way down to a place.
+#[tactic(auto, using(crate::proofs::Records::PatchLemmas::widened))]
 fn widen_down(
     text: &str,
     from: &mut usize,
@@ -134,6 +136,7 @@ fn widen_down(
 }
 
 // Widens it up to a place.
+#[tactic(auto, using(crate::proofs::Records::PatchLemmas::widened))]
 fn widen_up(
     text: &str,
     from: usize,
@@ -177,6 +180,7 @@ pub(crate) fn is_boundary_with(text: &str, from: usize, to: usize, part: &str, a
 }
 
 /// Whether a part stands in a text at a byte place.
+#[tactic(auto, using(crate::proofs::Records::ChangeLemmas::stood))]
 pub(crate) fn stands_at(text: &str, at: usize, part: &str) -> bool
     ensures { result ≡ stands_at text.now at part.now }
 {

@@ -7,10 +7,10 @@ ghost use Rattle.std.specs.Str.{IsCharBoundary};
 ghost use Rattle.rl_base.specs.Event.{InsertStr, Replace};
 ghost use Rattle.rl_base.specs.Lines.{is_newline};
 ghost use Rattle.rl_base.specs.declared.listeners.Refusal.TheVariants.{NoMemory};
-ghost use Rattle.rl_line.specs.Edits.{delete_step, exchange_plan};
+ghost use Rattle.rl_line.specs.Edits.{DeletesRange, Exchanges};
 ghost use Rattle.rl_line.specs.Line.{stepped};
 ghost use Rattle.rl_line.specs.LineRanges.{IsRange};
-ghost use Rattle.rl_line.specs.Plan.{Completion, Grows, StepOutcome, nothing_more};
+ghost use Rattle.rl_line.specs.Plan.{Grows, StepOutcome, nothing_more};
 ghost use Rattle.rl_line.specs.RoomyLine.{HasRoom, KeepsRoom};
 
 use crate::line_starts::{LineStarts, newlines, swap_starts, swap_starts_by_char};
@@ -35,11 +35,11 @@ impl Model for RoomyLine {
     ghost use Rattle.std.specs.Prelude.{vec_capacity};
     ghost use Rattle.std.specs.String.{string_bytes, string_capacity};
     ghost use Rattle.rl_line.specs.Line.{IsLine, line_of};
-    ghost use Rattle.rl_line.specs.RoomyLine.{RoomyLine};
+    ghost use Rattle.rl_line.specs.RoomyLine.{RoomyLine, roomy_of};
 
     ghost Value = { RoomyLine };
 
-    ghost view = { λ r. record { line = line_of (string_bytes r.text) r.pos r.limit r.can_growth; bytes = string_capacity r.text; starts = vec_capacity r.starts.places } };
+    ghost view = { λ r. roomy_of (line_of (string_bytes r.text) r.pos r.limit r.can_growth) (string_capacity r.text) (vec_capacity r.starts.places) };
 
     ghost invariant = { λ r. IsLine (string_bytes r.text) r.starts.places.items r.starts.border r.pos r.limit };
 }
@@ -73,6 +73,7 @@ impl RoomyLine {
     }
 
     /// How many newlines the text has.
+    #[tactic(auto, using(crate::proofs::Lines::LineStartLemmas::tables))]
     pub(crate) fn newlines(&self) -> usize
         ensures newlines { result ≡ count_by is_newline self.now.line.text }
         ensures fits { result < 2 ^ 63 }
@@ -82,6 +83,7 @@ impl RoomyLine {
 
     /// Finds room for so many more bytes and newlines. Inlined: room there costs no call.
     #[inline(always)]
+    #[tactic(auto, using(crate::proofs::Lines::LineStartLemmas::tables))]
     pub(crate) fn find_room(&mut self, bytes: usize, newlines: usize) -> Result<(), Refusal>
         ensures line { self.new.line ≡ self.old.line }
         ensures room { OnOk result (length self.old.line.text + bytes ≤ self.new.bytes) }
@@ -96,6 +98,7 @@ impl RoomyLine {
     /// Finds room for a part that replaces a range. Answers how many newlines the part has. Inlined, since an undo and a
     /// redo ask for it, and mostly for next to nothing.
     #[inline(always)]
+    #[tactic(auto, using(crate::proofs::Lines::RoomyLemmas::rooms))]
     pub(crate) fn find_room_instead(
         &mut self,
         from: usize,
@@ -117,6 +120,7 @@ impl RoomyLine {
 
     /// Replaces a range by a part with `come` newlines, and puts the cursor at a place: an insertion if the range is empty,
     /// a deletion if the part is. The limit rises where it has to.
+    #[tactic(auto, using(crate::proofs::Lines::RoomyLemmas::rooms))]
     pub(crate) fn swap_in(&mut self, from: usize, to: usize, part: &str, come: usize, cursor: usize)
         requires range { IsRange self.old.line.text from to }
         requires come { come ≡ count_by is_newline part.now }
@@ -134,6 +138,7 @@ impl RoomyLine {
     /// Puts a character in at a place, as `swap_in` does. If the table's border is there, a character other than a
     /// newline is neither encoded nor counted, and at the end it costs no call.
     #[inline(always)]
+    #[tactic(auto, using(crate::proofs::Lines::RoomyLemmas::rooms))]
     pub(crate) fn swap_in_char(&mut self, at: usize, c: char, cursor: usize)
         requires place { IsCharBoundary self.old.line.text at }
         requires room { HasRoom (insert_slice self.old.line.text at (encode_utf8 c)) self.old }
@@ -183,7 +188,7 @@ impl RoomyLine {
     ) -> Result<(), Refusal>
         requires range { IsRange self.old.line.text range.start range.end }
         requires cursor { IsCharBoundary (remove_range self.old.line.text range.start range.end) cursor }
-        ensures step { StepOutcome L.step L.refused nothing_more (delete_step self.old.line range dir cursor) self.old.line self.new.line listener.old listener.new result }
+        ensures step { DeletesRange L.step L.refused range dir cursor self.old.line self.new.line listener.old listener.new result }
         ensures line { OnOk result (self.new.line ≡ stepped self.old.line (remove_range self.old.line.text range.start range.end) cursor) }
         ensures room { OnOk result (KeepsRoom self.old self.new) }
     {
@@ -196,6 +201,7 @@ impl RoomyLine {
 
     /// Two steps: takes a range out, which leaves the cursor at `between`, and puts a text with `come` newlines in at its
     /// place.
+    #[tactic(auto, using(crate::proofs::Plans::PlanLemmas::steps_taken))]
     pub(crate) fn exchange_steps<L: ChangeListener>(
         &mut self,
         range: Range<usize>,
@@ -210,7 +216,7 @@ impl RoomyLine {
         requires come { come ≡ count_by is_newline part.now }
         requires room { HasRoom (replace_range self.old.line.text range.start range.end part.now) self.old }
         requires cursor { IsCharBoundary (replace_range self.old.line.text range.start range.end part.now) cursor }
-        ensures steps { Completion L.step L.refused nothing_more (exchange_plan self.old.line range between part.now cursor) self.old.line self.new.line listener.old listener.new result }
+        ensures steps { Exchanges L.step L.refused nothing_more range between part.now cursor self.old.line self.new.line listener.old listener.new result }
         ensures text { OnOk result (self.new.line.text ≡ replace_range self.old.line.text range.start range.end part.now) }
         ensures room { OnOk result (KeepsRoom self.old self.new) }
     {

@@ -78,6 +78,7 @@ fn shrink(text: &mut Vec<u8>, from: usize, less: usize, part: &[u8])
 }
 
 // The same, but leaves `less` bytes over at the end.
+#[tactic(auto, using(crate::proofs::Lines::TailLemmas::tails))]
 fn close_up(all: &mut [u8], from: usize, less: usize, part: &[u8])
     requires within { from + length part.now + less ≤ length all.old }
     ensures { take (length all.old - less) all.new ≡ replace_range all.old from (from + length part.now + less) part.now }
@@ -103,6 +104,7 @@ fn grow(text: &mut Vec<u8>, from: usize, going: usize, part: &[u8])
 }
 
 // The same in a slice that ends with bytes to spare, as many as the part is longer by.
+#[tactic(auto, using(crate::proofs::Lines::TailLemmas::tails))]
 fn open_up(all: &mut [u8], from: usize, going: usize, part: &[u8])
     requires longer { going ≤ length part.now }
     requires within { from + length part.now ≤ length all.old }

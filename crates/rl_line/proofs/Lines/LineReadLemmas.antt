@@ -1,7 +1,7 @@
 -- What the table of line starts says of the lines of its text.
-use Rattle.rl_line.proofs.Common.{◌≡◌, ℕ, zero, suc, ◌+◌, ◌-◌, ◌<◌, ◌≤◌, Bool, true, false, cond, List, [], ◌∷◌, length, get_or, take, drop, min, refl, sym, ap, subst, ◌∙◌, arith, count_by, eqb, ne_eqb, leb, ltb, le_refl, length-append, slice_range, ⊎_elim, Some, None, ap₂, both_ways, cases_lt, le-leb, lt-leb, le-ltb, lt-ltb, length-take-le, get_or_append_left, get_or-append_right, get_or-take, get_or_default, length-between, get_or-between, All-get_or, IsCharBoundary-before_ascii, IsCharBoundary-after_ascii, same_Some, slice_get_past, slice_get-get_or, onto_first, option_map, Range, IsPartitionedBy, IsPartitionPoint, IsCharBoundary, IsUtf8, is_newline, lines, last_line, line_number, start_of_line, end_of_line, between, range_of_line, after_newlines, line_starts, from_end, IsTable}
+use Rattle.rl_line.proofs.Common.{common_steps, ◌≡◌, ℕ, zero, suc, ◌+◌, ◌-◌, ◌<◌, ◌≤◌, Bool, true, false, cond, List, [], ◌∷◌, length, get_or, take, drop, min, refl, sym, ap, subst, ◌∙◌, arith, count_by, eqb, ne_eqb, leb, ltb, le_refl, length-append, slice_range, ⊎_elim, Some, None, ap₂, both_ways, cases_lt, le-leb, lt-leb, le-ltb, lt-ltb, length-take-le, get_or_append_left, get_or-append_right, get_or-take, get_or_default, length-between, get_or-between, All-get_or, IsCharBoundary-before_ascii, IsCharBoundary-after_ascii, same_Some, slice_get_past, slice_get-get_or, onto_first, option_map, Range, IsPartitionedBy, IsPartitionPoint, IsCharBoundary, IsUtf8, is_newline, lines, last_line, line_number, start_of_line, end_of_line, between, range_of_line, after_newlines, line_starts, from_end, IsTable}
 use Rattle.rl_base.specs.Lines.{bytes_of}
-use Rattle.rl_base.proofs.Texts.LineLemmas.{count-parts, lines_some, count_of_lines, start-before, start-next, end-last}
+use Rattle.rl_base.proofs.Texts.LineLemmas.{count-parts, lines_some, count_of_lines, start-before, start-next, end-last, end-after, start-mono, text-between}
 use Rattle.rl_line.proofs.Lines.LineStartLemmas.{IsAfterNewline, after_newlines-cons, all_after_newlines, length-line_starts, length-table, newlines-take, parts, read-before, read-from, read-within}
 
 -- ---- the places where lines begin: the table, with the start of the text before it
@@ -63,8 +63,7 @@ module _ (text : List ℕ) (k next : ℕ) (h : EndsAt text k next) where
   EndsAt-stop = IsCharBoundary-before_ascii text (next - 1) (omega (arith, h.stop, h.within)) (omega (arith, h.newline))
 
   pub EndsAt-start : IsUtf8 text → IsCharBoundary text next
-  EndsAt-start u =
-      subst (IsCharBoundary text) (omega (arith, h.stop)) (IsCharBoundary-after_ascii text (next - 1) u (omega (arith, h.stop, h.within)) (omega (arith, h.newline)))
+  EndsAt-start u = grind (arith, IsCharBoundary-after_ascii)
 
   pub EndsAt-after : next ≡ min (end_of_line text k + 1) (length text)
   EndsAt-after = omega (arith, h.stop, h.within)
@@ -114,10 +113,7 @@ module _ (test : ℕ → Bool) (xs : List ℕ) (m : ℕ) (some : m ≤ length xs
       ⊎_elim (λ less. at i (omega arith) ∙ low i (omega arith)) (λ past. absurd (both_ways _ (high j past l) (sym (at j l) ∙ passes))) (cases_lt j m)
 
   pub partition_point-is : (k : ℕ) → k ≤ length xs → IsPartitionPoint (λ s. test s ≡ true) (λ s. test s ≡ false) xs k → k ≡ m
-  partition_point-is k small at =
-      let not_less : k < m → k ≡ m = λ less. absurd (both_ways _ (at.1 k 0 (le_refl k) (omega arith)) (low k less)) in
-      let not_more : m < k → k ≡ m = λ more. absurd (both_ways _ (high m (le_refl m) (omega arith)) (at.0 m 0 (omega arith) more)) in
-      ⊎_elim not_less (λ a. ⊎_elim not_more (λ b. omega arith) (cases_lt m k)) (cases_lt k m)
+  partition_point-is k small at = grind arith
 
 -- ---- the two parts of a table, in which the line of a place is looked up
 module _ (places text : List ℕ) (border pos : ℕ) (h : IsTable places border text) (within : pos ≤ length text) where
@@ -167,8 +163,7 @@ module _ (places text : List ℕ) (border pos : ℕ) (h : IsTable places border 
     fits = omega (arith, many, length-line_starts text, newlines-take text pos)
 
     read_rest : (i : ℕ) → i < length rest → get_or rest i 0 ≡ from_end (length text) (get_or (line_starts text) (border + i) 0)
-    read_rest i some =
-        get_or-between places border (length places) i 0 (omega (arith, rest-size)) ∙ read-from places text border (border + i) h (omega (arith, rest-size)) (omega arith)
+    read_rest i some = grind (arith, get_or-between, rest-size, read-from)
 
     low_rest : (i : ℕ) → i < here → leb left (get_or rest i 0) ≡ true
     low_rest i less = le-leb left _ (omega (arith, read_rest i (omega (arith, rest-size, fits)), started text pos within (border + i) (omega arith)))
@@ -197,18 +192,15 @@ pub range-past : (text : List ℕ) (k : ℕ) → last_line text < k → None ≡
 range-past text k past = sym (ap (option_map (λ line. between (start_of_line text k) (start_of_line text k + length line))) (slice_get_past (lines text) k (omega (arith, count_of_lines text))))
 
 pub range-is : (text : List ℕ) (k start stop : ℕ) → k ≤ last_line text → start ≡ start_of_line text k → stop ≡ end_of_line text k → Some (between start stop) ≡ range_of_line text k
-range-is text k start stop within e f =
-    ap₂ (λ i j. Some (between i j)) e f
-    ∙ sym (ap (option_map (λ line. between (start_of_line text k) (start_of_line text k + length line))) (slice_get-get_or (lines text) k [] (omega (arith, count_of_lines text))))
+range-is text k start stop within e f = grind (arith, slice_get-get_or, count_of_lines)
 
 -- a line that is there has a range, and the line of a place begins there or before
 pub range-some : (text : List ℕ) (k : ℕ) → k ≤ last_line text → range_of_line text k ≡ None → ⊥
-range-some text k within none =
-    let is : Some (between (start_of_line text k) (end_of_line text k)) ≡ None = range-is text k _ _ within refl refl ∙ none in
-    absurd (cc is)
+range-some text k within none = grind (arith, range-is)
 
 pub range-before : (text : List ℕ) (pos k : ℕ) (r : Range ℕ) → pos ≤ length text → k ≡ line_number text pos → range_of_line text k ≡ Some r → r.start ≤ pos
-range-before text pos k r within e some =
-    let at = range-is text k _ _ (omega (arith, e, count-parts text pos)) refl refl ∙ some in
-    let start : start_of_line text k ≡ r.start = ap (λ (x : Range ℕ). x.start) (same_Some _ _ at) in
-    omega (arith, start, ap (start_of_line text) e, start-before text pos within)
+range-before text pos k r within e some = grind (arith, start-before)
+
+pub ruleset borders = (leb-started, ltb-not_started, le-leb, length-line_starts, length-table, newlines-take)
+
+pub ruleset lines_read = (none_below, some_below, range-is, range-past, count_of_lines, end-after, start-before, start-mono, text-between)

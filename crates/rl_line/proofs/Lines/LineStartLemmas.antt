@@ -1,6 +1,6 @@
 -- The places right after the newlines of a text: of two joined, how many there are, and where they lie; and the table of them with a border: where it lies between two parts of the text, where it moves, and where a range gives way to a part.
-use borrow.Rule.Slice.PartMut.{put_mid, post_of}
-use Rattle.rl_line.proofs.Common.{◌≡◌, ℕ, zero, suc, ◌+◌, ◌-◌, ◌<◌, ◌≤◌, ◌&&◌, ◌==◌, nat_le, Bool, true, false, cond, List, [], ◌∷◌, ◌++◌, map, filter, length, get_or, set, take, drop, take-add, append_assoc, append-nil, length-append, length-drop, slice_range, All, count_by, refl, sym, ap, ap₂, subst, ◌∙◌, arith, ne_eqb, and_parts, cond_both, eqb-true, leb-true, nil_from_length, take-append-drop, length-take, length-take-le, length-map, map-append, map_push, get_or-take, get_or-drop, get_or-map, get_or_append_left, get_or_at, get_or-append_right, take-take, take-append-le, take-map, take_at, drop-drop, drop-map, drop-append-le, drop_at, drop_all, drop_more, set_at, sum_by-cons, sum_by-append, length-between, All-nil, All-cons, All-head, All-tail, All-get_or, All-weaker, All-append, All-map, All-take, All-drop, take-put_mid, encode_ascii, inside_one, enumerate_from, replace_range, copy_within, insert, remove, encode_utf8, is_byte, places, is_newline, line_number, after_newlines, line_starts, from_end, starts_from_end, kept_starts, IsTable}
+use borrow.Rule.Slice.PartMut.{put_mid}
+use Rattle.rl_line.proofs.Common.{common_steps, ◌≡◌, ℕ, zero, suc, ◌+◌, ◌-◌, ◌<◌, ◌≤◌, ◌&&◌, ◌==◌, nat_le, Bool, true, false, cond, List, [], ◌∷◌, ◌++◌, map, filter, length, get_or, set, take, drop, take-add, append_assoc, append-nil, length-append, length-drop, slice_range, All, count_by, refl, sym, ap, ap₂, subst, ◌∙◌, arith, ne_eqb, and_parts, cond_both, eqb-true, leb-true, nil_from_length, take-append-drop, length-take, length-take-le, length-map, map-append, map_push, get_or-take, get_or-drop, get_or-map, get_or_append_left, get_or_at, get_or-append_right, take-take, take-append-le, take-map, take_at, drop-drop, drop-map, drop-append-le, drop_at, drop_all, drop_more, set_at, sum_by-cons, sum_by-append, length-between, All-nil, All-cons, All-head, All-tail, All-get_or, All-weaker, All-append, All-map, All-take, All-drop, take-put_mid, encode_ascii, inside_one, enumerate_from, replace_range, copy_within, insert, remove, encode_utf8, is_byte, places, is_newline, line_number, after_newlines, line_starts, from_end, starts_from_end, kept_starts, IsTable, take_all, length-replicate, eqb-false}
 use Rattle.memchr.specs.Find.{places_from}
 
 map-cond : {A B : Type 0} (f : A → B) (is : Bool) (x : A) (l : List A) → map f (cond is (x ∷ l) l) ≡ cond is (f x ∷ map f l) (map f l)
@@ -71,15 +71,7 @@ pub length-starts_from_end : (text : List ℕ) → length (starts_from_end text)
 length-starts_from_end text = length-map (line_starts text) (from_end (length text)) ∙ length-line_starts text
 
 pub length-kept : (border : ℕ) (text : List ℕ) → length (kept_starts border text) ≡ count_by is_newline text
-length-kept border text =
-    omega (
-      arith,
-      length-append (take border (line_starts text)) (drop border (starts_from_end text)),
-      length-take border (line_starts text),
-      length-drop border (starts_from_end text),
-      length-line_starts text,
-      length-starts_from_end text,
-    )
+length-kept border text = grind (arith, length-append, length-take, length-drop, length-line_starts, length-starts_from_end)
 
 pub length-table : (places : List ℕ) (border : ℕ) (text : List ℕ) → IsTable places border text → length places ≡ count_by is_newline text
 length-table places border text h = ap length h.kept ∙ length-kept border text
@@ -136,25 +128,13 @@ parts text pos within =
 
 -- ---- a table whose border lies between two parts of its text
 drop-from_end : (xs ys : List ℕ) → drop (count_by is_newline xs) (starts_from_end (xs ++ ys)) ≡ starts_from_end ys
-drop-from_end xs ys =
-    let f = from_end (length (xs ++ ys)) in
-    let sum : length (xs ++ ys) ≡ length ys + length xs = omega (arith, length-append xs ys) in
-    ap (λ l. drop (count_by is_newline xs) (map f l)) (after_newlines-append 1 xs ys)
-    ∙ ap (drop (count_by is_newline xs)) (map-append f (line_starts xs) (after_newlines (1 + length xs) ys))
-    ∙ drop_at (map f (line_starts xs)) _ (count_by is_newline xs) (length-map (line_starts xs) f ∙ length-line_starts xs)
-    ∙ ap (λ n. map (from_end n) (after_newlines (1 + length xs) ys)) sum ∙ from_end-moved (length ys) (length xs) 1 ys
+drop-from_end xs ys = grind (arith, common_steps, after_newlines-append, length-line_starts, from_end-moved)
 
 kept-between : (xs ys : List ℕ) → kept_starts (count_by is_newline xs) (xs ++ ys) ≡ line_starts xs ++ starts_from_end ys
-kept-between xs ys =
-    let k = count_by is_newline xs in
-    ap₂ (λ l r. l ++ r) (ap (take k) (after_newlines-append 1 xs ys) ∙ take_at (line_starts xs) _ k (length-line_starts xs)) (drop-from_end xs ys)
+kept-between xs ys = grind (arith, common_steps, after_newlines-append, length-line_starts, drop-from_end)
 
 IsTable-between : (xs ys : List ℕ) → IsTable (line_starts xs ++ starts_from_end ys) (count_by is_newline xs) (xs ++ ys)
-IsTable-between xs ys =
-    record {
-      kept = sym (kept-between xs ys);
-      within = omega (arith, length-append (line_starts xs) (starts_from_end ys), length-line_starts xs);
-    }
+IsTable-between xs ys = grind (arith, common_steps, kept-between, length-line_starts)
 
 -- ---- a range of a text gives way to a part where the border is
 module _ (places text part : List ℕ) (from to first gone : ℕ) (h : IsTable places first text) (order : from ≤ to) (within : to ≤ length text)
@@ -226,10 +206,7 @@ twice len (x ∷ xs) h =
 -- the part of a list between two places is turned
 turned : (f : ℕ → ℕ) (xs ys more : List ℕ) (a b : ℕ) → length xs ≡ a → length ys ≡ b - a
     → put_mid a (b - a) (xs ++ (ys ++ more)) (map f (slice_range (xs ++ (ys ++ more)) a b)) ≡ xs ++ (map f ys ++ more)
-turned f xs ys more a b len size =
-    let rest : drop a (xs ++ (ys ++ more)) ≡ ys ++ more = drop_at xs _ a len in
-    ap₂ (λ l r. l ++ r) (take_at xs _ a len)
-    (ap₂ (λ l r. map f l ++ r) (ap (take (b - a)) rest ∙ take_at ys more (b - a) size) (ap (drop (b - a)) rest ∙ drop_at ys more (b - a) size))
+turned f xs ys more a b len size = grind (arith, common_steps)
 
 module _ (text : List ℕ) (low high : ℕ) (order : low ≤ high) (within : high ≤ length (line_starts text)) where
   abbrev len : ℕ
@@ -261,9 +238,7 @@ module _ (text : List ℕ) (low high : ℕ) (order : low ≤ high) (within : hig
   size = length-between (line_starts text) low high within
 
   pub border-down : put_mid low (high - low) (kept_starts high text) (map (from_end len) (slice_range (kept_starts high text) low high)) ≡ kept_starts low text
-  border-down =
-      ap (λ l. put_mid low (high - low) l (map (from_end len) (slice_range l low high))) kept-high
-      ∙ turned (from_end len) start passed rest low high (length-take-le low (line_starts text) (omega arith)) size ∙ sym kept-low
+  border-down = grind (arith, common_steps, kept-high, kept-low)
 
   pub border-up : put_mid low (high - low) (kept_starts low text) (map (from_end len) (slice_range (kept_starts low text) low high)) ≡ kept_starts high text
   border-up =
@@ -272,25 +247,10 @@ module _ (text : List ℕ) (low high : ℕ) (order : low ≤ high) (within : hig
       ∙ turned (from_end len) start (map (from_end len) passed) rest low high (length-take-le low (line_starts text) (omega arith)) (length-map passed (from_end len) ∙ size)
       ∙ ap (λ l. start ++ (l ++ rest)) (twice len passed there) ∙ sym kept-high
 
--- a table of n places, of which those from number k on, up to m, were written over
-written : (k m n : ℕ) (old new more : List ℕ) → length old ≡ n → k ≤ m → m ≤ n → length new ≡ m - k → take n (put_mid k (m - k) old new ++ more) ≡ put_mid k (m - k) old new
-written k m n old new more len le within size =
-    let front = length-take-le k old (omega arith) in
-    let back : length (drop (m - k) (drop k old)) ≡ n - m = omega (arith, length-drop (m - k) (drop k old), length-drop k old) in
-    let whole = length-append (take k old) (new ++ post_of k (m - k) old) in
-    let all : length (put_mid k (m - k) old new) ≡ n = omega (arith, front, whole, length-append new (post_of k (m - k) old), back) in
-    take_at (put_mid k (m - k) old new) more n all
-
+-- a table of n places, of which those from number k on were written over
 written-after : (k n : ℕ) (old new more : List ℕ) → length old ≡ n → k ≤ n → length new ≡ n - k
     → take n (put_mid k (length old - k) old new ++ more) ≡ take k old ++ new
-written-after k n old new more len le size =
-    let front = length-take-le k old (omega arith) in
-    let whole = length-append (take k old) (new ++ post_of k (length old - k) old) in
-    let enough : n ≤ length (put_mid k (length old - k) old new) = omega (arith, front, whole, length-append new (post_of k (length old - k) old)) in
-    take-append-le n (put_mid k (length old - k) old new) more enough ∙ take-put_mid k (length old - k) old new n (omega arith) (omega arith)
-
-IsTable-from : (places : List ℕ) (border : ℕ) (text : List ℕ) → places ≡ kept_starts border text → border ≤ count_by is_newline text → IsTable places border text
-IsTable-from places border text is within = record { kept = is; within = omega (arith, ap length is, length-kept border text) }
+written-after k n old new more len le size = grind (arith, common_steps)
 
 module _ (places now more text : List ℕ) (old border n : ℕ) (h : IsTable places old text) (len : length places ≡ n) where
   all : n ≡ count_by is_newline text
@@ -300,16 +260,10 @@ module _ (places now more text : List ℕ) (old border n : ℕ) (h : IsTable pla
   moved : (low high : ℕ) → low ≤ high → high ≤ n → border ≤ n → now ≡ map (from_end (length text)) (slice_range places low high)
       → put_mid low (high - low) (kept_starts old text) (map (from_end (length text)) (slice_range (kept_starts old text) low high)) ≡ kept_starts border text
       → IsTable (take n (put_mid low (high - low) places now ++ more)) border text
-  moved low high order top within is turns =
-      let f = from_end (length text) in
-      let size : length now ≡ high - low = ap length is ∙ length-map (slice_range places low high) f ∙ length-between places low high (omega (arith, len)) in
-      IsTable-from _ border text
-      (written low high n places now more len order top size ∙ ap (put_mid low (high - low) places) is ∙ ap (λ l. put_mid low (high - low) l (map f (slice_range l low high))) h.kept ∙ turns)
-      (omega (arith, all))
+  moved low high order top within is turns = grind (arith, common_steps)
 
   pub moved-down : border ≤ old → now ≡ map (from_end (length text)) (slice_range places border old) → IsTable (take n (put_mid border (old - border) places now ++ more)) border text
-  moved-down le is =
-      moved border old le (omega (arith, len, h.within)) (omega (arith, len, h.within)) is (border-down text border old le (omega (arith, len, h.within, all, length-line_starts text)))
+  moved-down le is = grind (arith, common_steps, border-down)
 
   pub moved-up : old ≤ border → border ≤ n → now ≡ map (from_end (length text)) (slice_range places old border) → IsTable (take n (put_mid old (border - old) places now ++ more)) border text
   moved-up le within is = moved old border le within within is (border-up text old border le (omega (arith, all, length-line_starts text)))
@@ -325,8 +279,7 @@ pub table-within : (places : List ℕ) (border : ℕ) (text : List ℕ) → IsTa
 table-within places border text h = subst (All (λ place. place ≤ length text)) (sym h.kept) (kept-within border text)
 
 pub slice-within : (places : List ℕ) (border low high : ℕ) (text : List ℕ) → IsTable places border text → All (λ place. place ≤ length text) (slice_range places low high)
-slice-within places border low high text h =
-    All-take (λ place. place ≤ length text) (high - low) _ (All-drop (λ place. place ≤ length text) low places (table-within places border text h))
+slice-within places border low high text h = grind (arith, common_steps, table-within)
 
 -- the table that is left where those from number `first` on were written over
 pub IsTable-written : (first n border : ℕ) (old new more all text : List ℕ) → length old ≡ n → first ≤ n → length new ≡ n - first → take first old ++ new ≡ all → IsTable all border text
@@ -335,22 +288,11 @@ IsTable-written first n border old new more all text len le size is h = subst (�
 
 -- ---- a start is read
 module _ (places text : List ℕ) (border k : ℕ) (h : IsTable places border text) (some : k < length places) where
-  many : border ≤ length (line_starts text)
-  many = omega (arith, h.within, length-table places border text h, length-line_starts text)
-
   pub read-before : k < border → get_or places k 0 ≡ get_or (line_starts text) k 0
-  read-before less =
-      ap (λ l. get_or l k 0) h.kept
-      ∙ get_or_append_left (take border (line_starts text)) (drop border (starts_from_end text)) 0 k (omega (arith, length-take-le border (line_starts text) many))
-      ∙ get_or-take border (line_starts text) k 0 less
+  read-before less = grind (arith, common_steps)
 
   pub read-from : border ≤ k → get_or places k 0 ≡ from_end (length text) (get_or (line_starts text) k 0)
-  read-from past =
-      let there : border + (k - border) ≡ k = omega arith in
-      ap (λ l. get_or l k 0) h.kept
-      ∙ get_or-append_right (take border (line_starts text)) (drop border (starts_from_end text)) border k 0 (length-take-le border (line_starts text) many) past
-      ∙ get_or-drop border (starts_from_end text) (k - border) 0 ∙ ap (λ n. get_or (starts_from_end text) n 0) there
-      ∙ get_or-map (from_end (length text)) (line_starts text) k 0 0 (omega (arith, length-table places border text h, length-line_starts text))
+  read-from past = grind (arith, common_steps)
 
   pub read-within : get_or (line_starts text) k 0 ≤ length text
   read-within = All-get_or (λ s. s ≤ length text) (line_starts text) k 0 (omega (arith, length-table places border text h, length-line_starts text)) (starts-within text)
@@ -370,9 +312,7 @@ found-from n (suc m) i text left within =
     ∙ sym (ap (after_newlines (n + i)) (drop_more text i 0 (omega (arith, left))) ∙ after_newlines-cons (n + i) b (drop (i + 1) text))
 
 pub found : (n : ℕ) (text : List ℕ) → map (λ p. n + p) (places (is_byte 10) text) ≡ after_newlines n text
-found n text =
-    let here : n + 0 ≡ n = omega arith in
-    found-from n (length text - 0) 0 text refl (omega arith) ∙ ap (λ k. after_newlines k text) here
+found n text = grind (arith, found-from)
 
 pub length-found : (text : List ℕ) → length (places (is_byte 10) text) ≡ count_by is_newline text
 length-found text = sym (length-map (places (is_byte 10) text) (λ p. 0 + p)) ∙ ap length (found 0 text) ∙ length-after_newlines 0 text
@@ -412,17 +352,14 @@ gap-less at gone come xs le one =
 
 pub gap-up : (at gone come len : ℕ) (xs more : List ℕ) → length xs ≡ len → at + gone ≤ len → gone < come → length more ≡ come - gone
     → let now = copy_within (xs ++ more) (at + gone) len (at + come) in (take at now ≡ take at xs) × (drop (at + come) now ≡ drop (at + gone) xs)
-gap-up at gone come len xs more size within less count =
-    let n = len - (at + gone) in
-    let p = at + come in
-    let ys = xs ++ more in
-    let rest = drop (at + gone) xs in
-    let all = length-append xs more in
-    let front = length-take-le p ys (omega (arith, all)) in
-    let moved : take n (drop (at + gone) ys) ≡ rest =
-    ap (take n) (drop-append-le (at + gone) xs more (omega arith)) ∙ take_at rest more n (length-drop (at + gone) xs ∙ ap (λ k. k - (at + gone)) size) in
-    let none : drop (p + n) ys ≡ [] = drop_all (p + n) ys (omega (arith, all)) in
-    let is : copy_within ys (at + gone) len p ≡ take p ys ++ rest = ap₂ (λ l r. take p ys ++ l ++ r) moved none ∙ append-nil (take p ys ++ rest) in (
-      ap (take at) is ∙ take-append-le at (take p ys) rest (omega (arith, front)) ∙ take-take at p ys (omega arith) ∙ take-append-le at xs more (omega arith),
-      ap (drop p) is ∙ drop_at (take p ys) rest p front,
-    )
+gap-up at gone come len xs more size within less count = grind (arith, common_steps)
+
+pub ruleset tables = (IsTable-stays, length-table, newlines-front, newlines-replaced, newlines-take, take_all)
+
+pub ruleset turned_starts = (moved-down, moved-up, slice-within)
+
+pub ruleset gaps = (gap-less, gap-more, gap-up, length-replicate, take_all)
+
+pub ruleset newlines_told = (newlines-one, newlines-other, eqb-false, eqb-true)
+
+pub ruleset found_starts = (found, found-within, length-found, put_more, append_assoc, append-nil, length-append)

@@ -1,9 +1,6 @@
 -- What the two moves of a tail leave of the whole list.
-use Rattle.rl_line.proofs.Common.{ℕ, List, [], ◌≡◌, ◌+◌, ◌-◌, ◌≤◌, ◌++◌, ◌∙◌, ap, sym, arith, length, take, drop, length-append, length-take, length-drop, copy_within, replace_range, append_assoc, append-nil, take_all, take_at, take-take, drop-drop, drop_at, drop_all, between_is, take-put_mid, take-put_mid_below, drop-put_mid}
+use Rattle.rl_line.proofs.Common.{common_steps, ℕ, List, [], ◌≡◌, ◌+◌, ◌-◌, ◌≤◌, ◌++◌, ◌∙◌, ap, sym, arith, length, take, drop, length-append, length-take, length-drop, copy_within, replace_range, append_assoc, append-nil, take_all, take-take, drop-drop, drop_at, drop_all, between_is, take-put_mid, take-put_mid_below}
 use borrow.Rule.Slice.PartMut.{put_mid}
-
-from_front : (n : ℕ) → 0 + n ≡ n
-from_front n = omega arith
 
 from_none : (n : ℕ) → n - 0 ≡ n
 from_none n = omega arith
@@ -21,26 +18,7 @@ module _ {X : Type 0} (all part written : List X) (a : ℕ) (same : written ≡ 
     rest = take (length t - e) (drop e t)
 
     pub closed : (moved : List X) → moved ≡ copy_within rest less (length rest) 0 → take (length all - less) (put_mid e (length t - e) t moved) ≡ replace_range all a (e + less) part
-    closed moved is =
-        let long = ap length same in
-        let after : rest ≡ drop e all = take_all (length t - e) (drop e t) (omega (arith, length-drop e t)) ∙ drop-put_mid a (e - a) all written e (omega arith) (omega arith) (omega arith) in
-        let r : List X = drop e all in
-        let count = length-drop e all in
-        let left = length-drop less r in
-        let now : moved ≡ drop less r ++ drop (length r - less) r =
-        is ∙ ap (λ l. copy_within l less (length l) 0) after
-        ∙ ap (λ n. take (length r - less) (drop less r) ++ drop n r) (from_front (length r - less)) ∙ ap (λ l. l ++ drop (length r - less) r) (take_all (length r - less) (drop less r) (omega arith)) in
-        let front : take e t ≡ take a all ++ part = take-put_mid a (e - a) all written e (omega arith) (omega arith) ∙ ap (λ l. take a all ++ l) same in
-        let head : List X = take a all ++ part in
-        let begun = length-append (take a all) part in
-        let short = length-take a all in
-        let kept = length-append head (drop less r) in
-        ap (λ l. take (length all - less) (l ++ (moved ++ drop (length t - e) (drop e t)))) front
-        ∙ ap (λ l. take (length all - less) (head ++ (l ++ drop (length t - e) (drop e t)))) now
-        ∙ ap (λ l. take (length all - less) (head ++ l)) (append_assoc (drop less r) _ _)
-        ∙ ap (take (length all - less)) (sym (append_assoc head (drop less r) _))
-        ∙ take_at (head ++ drop less r) _ (length all - less) (omega arith)
-        ∙ ap (λ l. head ++ l) (drop-drop less e all)
+    closed moved is = grind (arith, common_steps, take-put_mid)
 
   -- what stands after the range moves up to the end, and then the part is written in its place
   module _ (going : ℕ) (longer : going ≤ length part) (within : a + length part ≤ length all) where
@@ -81,3 +59,5 @@ module _ {X : Type 0} (all part written : List X) (a : ℕ) (same : written ≡ 
         ∙ ap (λ l. take a (take end all) ++ (l ++ drop k (drop a u))) same
         ∙ ap (λ l. take a (take end all) ++ (part ++ l)) (last ∙ tail)
         ∙ sym (append_assoc (take a (take end all)) part _)
+
+pub ruleset tails = (closed, opened)

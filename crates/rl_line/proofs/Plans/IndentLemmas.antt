@@ -1,36 +1,15 @@
 -- The steps of an indent: the parts that spaces go in by, the places after a change at the start of a line, and the
 -- lines that are left.
-use Rattle.rl_line.proofs.Common.{Some, ◌≡◌, ℕ, zero, suc, ◌+◌, ◌-◌, ◌*◌, sum, length-append, ◌/◌, ◌%◌, ◌<◌, ◌≤◌, Bool, true, false, List, [], ◌∷◌, ◌++◌, length, take, drop, slice_range, min, max, refl, sym, ap, ap₂, subst, ◌∙◌, arith, append_assoc, ltb-true, ltb-false, eqb, eqb-true, ne_eqb, get_or, drop-cons, ◌==◌, nat_lt, if◌then◌else◌, repeat, insert_slice, remove_range, replace_range, is_some, IsAscii, IsCharBoundary, IsUtf8, trim_start, nat_tests, length-take-le, drop-drop, append-nil, get_or-drop, get_or-take, take-append-drop, take-take, length-drop, sum_by-append, sum_by-cons, length-between, IsCharBoundary-end, IsCharBoundary-from_drop, IsAscii-nil, IsAscii-cons, same_Some, Event, InsertStr, Delete, apply, Direction, lines, last_line, line_number, text_of_line, start_of_line, end_of_line, greatest_boundary, Forward, Refusal, blanks, line_plan, lines_plan, spaces, parts, put_spaces, pushed, pulled, Plan, Step, after, Taken, Completed, Done, Halted, after_steps, single, Line, stepped}
+use Rattle.rl_line.proofs.Common.{common_steps, Some, ◌≡◌, ℕ, zero, suc, ◌+◌, ◌-◌, ◌*◌, sum, length-append, ◌/◌, ◌%◌, ◌<◌, ◌≤◌, Bool, true, false, List, [], ◌∷◌, ◌++◌, length, take, drop, slice_range, min, refl, sym, ap, ap₂, subst, ◌∙◌, arith, append_assoc, ltb-true, ltb-false, eqb, eqb-true, drop-cons, if◌then◌else◌, repeat, insert_slice, remove_range, replace_range, is_some, IsAscii, IsCharBoundary, IsUtf8, trim_start, nat_tests, drop-drop, append-nil, get_or-drop, get_or-take, take-append-drop, take-take, length-drop, sum_by-append, sum_by-cons, length-between, IsCharBoundary-end, IsCharBoundary-from_drop, IsAscii-nil, IsAscii-cons, same_Some, Event, InsertStr, Delete, apply, Direction, lines, last_line, line_number, text_of_line, start_of_line, end_of_line, greatest_boundary, Forward, Refusal, blanks, line_plan, lines_plan, spaces, parts, put_spaces, pushed, pulled, Plan, Step, after, Taken, Completed, Done, Halted, after_steps, single, Line, stepped}
 use Rattle.rl_base.proofs.Texts.LineLemmas.{count_of_lines, count-parts, end-from, lies, lines-after, lines_some, newlines-line, start-next, text-between}
-use Rattle.rl_base.proofs.Texts.TextLemmas.{drop-after, IsCharBoundary-before, IsCharBoundary-after, IsCharBoundary-before_removal, IsCharBoundary-at_removal, removed-is_replaced, greatest_boundary-is}
+use Rattle.rl_base.proofs.Texts.TextLemmas.{drop-after, removed-is_replaced, greatest_boundary-is}
 use Rattle.rl_base.proofs.Texts.EventLemmas.{Deletes-from_IsSome, Inserts-from_IsSome}
 use Rattle.rl_line.proofs.Lines.LineStartLemmas.{newlines-append, newlines-replaced}
 use Rattle.rl_line.proofs.Plans.EditLemmas.{length-repeat}
 use Rattle.rl_line.proofs.Plans.PlanLemmas.{first_step, Halted-back, Halted-front, Taken-append, Taken-nil}
+use Rattle.rl_base.proofs.Texts.BlankLemmas.{trim_start-blanks}
 
 -- ---- parts of at most 32
-abbrev turns : ℕ → ℕ → List ℕ
-turns q r = repeat q (32 ∷ []) ++ (if r == 0 then [] else r ∷ [])
-
-parts-next : (n : ℕ) → 0 < n → parts n ≡ min n 32 ∷ parts (n - min n 32)
-parts-next n some = from (nat_lt n 32) refl
-  where
-    from : (b : Bool) → nat_lt n 32 ≡ b → parts n ≡ min n 32 ∷ parts (n - min n 32)
-    from true e =
-        let short : n < 32 = ltb-true n 32 e in
-        let none : n / 32 ≡ 0 = omega arith in
-        let all : n % 32 ≡ n = omega arith in
-        let least : n ≡ min n 32 = omega arith in
-        let rest : 0 ≡ n - min n 32 = omega arith in
-        ap₂ turns none all ∙ ap (λ (b : Bool). if b then [] else n ∷ []) (ne_eqb n 0 (λ z. absurd (omega arith))) ∙ ap₂ (λ (k m : ℕ). k ∷ parts m) least rest
-    from false e =
-        let long : 32 ≤ n = ltb-false n 32 e in
-        let once : n / 32 ≡ suc ((n - 32) / 32) = omega arith in
-        let left : n % 32 ≡ (n - 32) % 32 = omega arith in
-        let least : 32 ≡ min n 32 = omega arith in
-        let rest : n - 32 ≡ n - min n 32 = omega arith in
-        ap₂ turns once left ∙ ap₂ (λ (k m : ℕ). k ∷ parts m) least rest
-
 pub take-spaces : (k n : ℕ) → k ≤ n → take k (spaces n) ≡ spaces k
 take-spaces zero n le = refl
 take-spaces (suc k) zero le = absurd (omega arith)
@@ -42,11 +21,7 @@ length-spaces n = length-repeat n (32 ∷ []) ∙ (omega arith)
 -- the next step, where `place` is the cursor after it
 pub put_spaces-next : (left i cursor place : ℕ) (part : List ℕ) → 0 < left → part ≡ spaces (min left 32) → place ≡ pushed i (length part) cursor
     → put_spaces (parts left) i cursor ≡ (InsertStr i part, place) ∷ put_spaces (parts (left - length part)) i place
-put_spaces-next left i cursor place part some is at =
-    let len : length part ≡ min left 32 = ap length is ∙ length-spaces (min left 32) in
-    ap (λ ps. put_spaces ps i cursor) (parts-next left some)
-    ∙ ap₂ (λ (s : List ℕ) (k : ℕ). (InsertStr i s, pushed i k cursor) ∷ put_spaces (parts (left - k)) i (pushed i k cursor)) (sym is) (sym len)
-    ∙ ap (λ (k : ℕ). (InsertStr i part, k) ∷ put_spaces (parts (left - length part)) i k) (sym at)
+put_spaces-next left i cursor place part some is at = grind (arith, length-spaces)
 
 pub IsAscii-spaces : (n : ℕ) → IsAscii (spaces n)
 IsAscii-spaces zero = IsAscii-nil
@@ -61,41 +36,15 @@ pushed-none i cursor = grind (arith, nat_tests)
 -- ---- what stands after a change
 pub IsCharBoundary-pushed : (text : List ℕ) (i cursor : ℕ) (s : List ℕ) → IsUtf8 text → IsUtf8 s → IsCharBoundary text i → IsCharBoundary text cursor
     → IsCharBoundary (insert_slice text i s) (pushed i (length s) cursor)
-IsCharBoundary-pushed text i cursor s u v start at = from (nat_lt cursor i) refl
-  where
-    from : (b : Bool) → nat_lt cursor i ≡ b → IsCharBoundary (insert_slice text i s) (if b then cursor else cursor + length s)
-    from true e = IsCharBoundary-before text i i cursor s u v start start at (let l = ltb-true cursor i e in omega arith)
-    from false e = let l : i ≤ cursor = ltb-false cursor i e in IsCharBoundary-after text i i cursor (cursor + length s) s u start.0 at l (omega arith)
+IsCharBoundary-pushed text i cursor s u v start at = grind (arith, common_steps)
 
 -- a boundary of a part of a text is one of the text, where the part ends at one
 pub IsCharBoundary-from_part : (text : List ℕ) (i j k : ℕ) → i ≤ j → IsCharBoundary text j → IsCharBoundary (slice_range text i j) k → IsCharBoundary text (i + k)
-IsCharBoundary-from_part text i j k le end at = from (nat_lt k (j - i)) refl
-  where
-    from : (b : Bool) → nat_lt k (j - i) ≡ b → IsCharBoundary text (i + k)
-    from true e =
-        let inside : k < j - i = ltb-true k (j - i) e in
-        let width = length-between text i j end.0 in
-        let byte : get_or (slice_range text i j) k 0 ≡ get_or text (i + k) 0 = get_or-take (j - i) (drop i text) k 0 inside ∙ get_or-drop i text k 0 in
-        (omega (arith, end.0), λ l a. let m = at.1 (omega (arith, width)) (omega (arith, byte)) in omega (arith, byte))
-    from false e =
-        let past : j - i ≤ k = ltb-false k (j - i) e in
-        let width = length-between text i j end.0 in
-        subst (IsCharBoundary text) (omega (arith, at.0, width)) end
+IsCharBoundary-from_part text i j k le end at = grind (arith, ltb-true, length-between, get_or-take, get_or-drop, ltb-false)
 
 pub IsCharBoundary-pulled : (text : List ℕ) (i j n cursor : ℕ) → IsUtf8 text → i ≤ j → n ≡ j - i → IsCharBoundary text i → IsCharBoundary text j → IsCharBoundary text cursor
     → IsCharBoundary (remove_range text i j) (pulled i n cursor)
-IsCharBoundary-pulled text i j n cursor u le is start end at = from (nat_lt cursor i) (nat_lt cursor j) refl refl
-  where
-    from : (b c : Bool) → nat_lt cursor i ≡ b → nat_lt cursor j ≡ c → IsCharBoundary (remove_range text i j) (if b then cursor else max i (cursor - n))
-    from true c e f = IsCharBoundary-before_removal text i j cursor u start end at (let l = ltb-true cursor i e in omega arith)
-    from false true e f =
-        let l = ltb-false cursor i e in
-        let m = ltb-true cursor j f in
-        subst (IsCharBoundary (remove_range text i j)) (omega arith) (IsCharBoundary-at_removal text i j u le end)
-    from false false e f =
-        let l = ltb-false cursor i e in
-        let m = ltb-false cursor j f in
-        subst (λ t. IsCharBoundary t (max i (cursor - n))) (sym (removed-is_replaced text i j)) (IsCharBoundary-after text i j cursor (max i (cursor - n)) [] u start.0 at m (omega arith))
+IsCharBoundary-pulled text i j n cursor u le is start end at = grind (arith, common_steps, removed-is_replaced)
 
 -- ---- the blanks at the start of a line's text
 front-between : (text : List ℕ) (i j n : ℕ) → n ≤ j - i → take n (slice_range text i j) ≡ slice_range text i (i + n)
@@ -103,18 +52,7 @@ front-between text i j n le = take-take n (j - i) (drop i text) le ∙ ap (λ m.
 
 -- what is left of a text without its leading blanks begins between two characters
 pub IsCharBoundary-trimmed : (text rest : List ℕ) (n : ℕ) → rest ≡ drop n text → IsUtf8 rest → IsCharBoundary text (length text - length rest)
-IsCharBoundary-trimmed text rest n is u = from (nat_lt (length text) n) refl
-  where
-    width : length rest ≡ length text - n
-    width = ap length is ∙ length-drop n text
-
-    from : (b : Bool) → nat_lt (length text) n ≡ b → IsCharBoundary text (length text - length rest)
-    from true e =
-        let past : length text < n = ltb-true (length text) n e in
-        subst (IsCharBoundary text) (omega (arith, width)) (IsCharBoundary-end text)
-    from false e =
-        let within : n ≤ length text = ltb-false (length text) n e in
-        subst (IsCharBoundary text) (omega (arith, width)) (IsCharBoundary-from_drop text n within (subst IsUtf8 is u))
+IsCharBoundary-trimmed text rest n is u = grind (arith, length-drop, ltb-true, IsCharBoundary-end, ltb-false, IsCharBoundary-from_drop)
 
 -- the plan of a dedent, where `part` is the line's text, `rest` what follows its blanks, and `gone` the greatest boundary within `least`
 pub line_plan-dedent : (text : List ℕ) (i j n least gone cursor place : ℕ) (part rest : List ℕ) → i ≤ j → j ≤ length text → part ≡ slice_range text i j → rest ≡ trim_start part
@@ -146,18 +84,7 @@ newlines-spaces (suc n) = newlines-append (32 ∷ []) (spaces n) ∙ (omega (ari
 -- a range without newlines gave way to a part without any
 KeepsAfter-replaced : (text part : List ℕ) (i j q k : ℕ) → i ≤ j → j ≤ q → q ≤ length text → last_line (slice_range text i j) ≡ 0 → last_line part ≡ 0 → k ≡ i + length part + (q - j)
     → KeepsAfter text (replace_range text i j part) q k
-KeepsAfter-replaced text part i j q k order le inside none clean e =
-    record {
-      count = omega (arith, newlines-replaced text part i j order, none, clean);
-      rest = drop-after text i j q k part (omega arith) le (omega (arith, e));
-      within = omega (
-        arith,
-        length-append (take i text ++ part) (drop j text),
-        length-append (take i text) part,
-        length-take-le i text (omega arith),
-        length-drop j text,
-      );
-    }
+KeepsAfter-replaced text part i j q k order le inside none clean e = grind (arith, common_steps, newlines-replaced, drop-after)
 
 KeepsAfter-InsertStr : (text after : List ℕ) (i n q : ℕ) → i ≤ q → q ≤ length text → apply (InsertStr i (spaces n)) text ≡ Some after → KeepsAfter text after q (q + n)
 KeepsAfter-InsertStr text after i n q le inside h =
@@ -307,3 +234,7 @@ module _ {L : Type 0} (step : L → Event → L) (dedent : Bool) (n : ℕ) where
             rest = ends.rest ∙ sym (drop-drop 1 k (lines now.text)) ∙ ap (drop 1) h.rest ∙ drop-drop 1 k (lines old.text);
             count = after.count ∙ h.count;
           }
+
+pub ruleset parts_of_lines = (IsCharBoundary-from_part, IsCharBoundary-pulled, IsCharBoundary-trimmed, count_of_lines, text-between, trim_start-blanks)
+
+pub ruleset shifts = (LinesDone-all, LinesDone-halted, LinesDone-more, LinesDone-none, count_of_lines)

@@ -1,11 +1,6 @@
 -- The plans of killing and deleting by a movement, by their cases.
 use Rattle.rl_line.proofs.Common.{ToldOutcome, Ok, Err, Refusal, Plan, Done, Halted, Outcome, nothing_more, ◌≡◌, ◌∷◌, [], ℕ, Bool, true, false, List, Some, None, refl, sym, ap, subst, ◌∙◌, same_Some, Option, Result, option_map, Range, Event, Delete, Start, Stop, Direction, Forward, Movement, WholeLine, BeginningOfLine, EndOfLine, BackwardWord, ForwardWord, ViCharSearch, ViFirstPrint, FirstNonBlank, BackwardChar, ForwardChar, LineUp, LineDown, WholeBuffer, BeginningOfBuffer, EndOfBuffer, Line, nothing, single, answering, covered, killed, text_in, Told, delete_plan, is_exact, removal}
-
-pub removal-nothing : (line : Line) (o : Option (Range ℕ)) (side : Direction) → None ≡ o → removal line o side ≡ nothing line false
-removal-nothing line o side e = rw (← e) refl
-
-pub removal-some : (line : Line) (o : Option (Range ℕ)) (r : Range ℕ) (side : Direction) → Some r ≡ o → removal line o side ≡ single (Delete r.start (text_in line r) side) r.start true
-removal-some line o r side e = rw (← e) refl
+use Rattle.rl_line.proofs.Plans.PlanLemmas.{Done-nothing, Done-single, Halted-at_first}
 
 pub delete_plan-nothing : (line : Line) (n : ℕ) → None ≡ covered line (ForwardChar n) → delete_plan line n ≡ nothing line None
 delete_plan-nothing line n e = ap (λ (o : Option (Range ℕ)). answering (option_map (text_in line) o) (removal line o Forward)) (sym e)
@@ -52,3 +47,7 @@ pub removal-text : (line : Line) (o : Option (Range ℕ)) (side : Direction) (s 
     → (place : ℕ) × ((removal line o side).steps ≡ (Delete place s side, place) ∷ [])
 removal-text line None side s e = absurd (cc e)
 removal-text line (Some r) side s e = (r.start, ap (λ t. (Delete r.start t side, r.start) ∷ []) (same_Some _ _ e))
+
+pub ruleset kills = (ToldOutcome-between, killed-exact, removal-text)
+
+pub ruleset deletions = (delete_plan-nothing, delete_plan-some, Done-nothing, Done-single, Halted-at_first)

@@ -1,5 +1,5 @@
 -- The plan of an edit of a word, by its cases.
-use Rattle.rl_line.proofs.Common.{◌≡◌, ℕ, ◌+◌, ◌<◌, ◌&&◌, ◌==◌, Bool, not, cond, All, Decides, List, [], ◌∷◌, ◌++◌, drop, length, length-append, map, flat_map, min, take, take-append-drop, true, false, Some, None, chars, encode_utf8_all, IsUtf8, IsCharBoundary, arith, refl, sym, ap, ap₂, subst, ◌∙◌, suc, Row, by_runs, lowercase_runs, lowercase_strings, uppercase_runs, uppercase_strings, length-map, nil_from_length, All-head, IsCharBoundary-start, IsUtf8-drop, IsUtf8-take, encodes-chars, length-le-encodes, unwrap_or, is_in_word_after, lowercase_before, lowercase_chars, starts_with_cased, is_grapheme_break, bytes_in, clusters, end_of_cluster, nat_tests, IsAscii-drop, IsAscii-take, IsAscii-cons, IsAscii-nil, is_ascii, to_ascii_lowercase, to_ascii_uppercase, list_all, IsAscii, Range, WordAction, Capitalize, Lowercase, Uppercase, Line, nothing, answering, exchange_plan, edit_word_plan, mapped, recased, respell, respelled, word_ahead, text_in}
+use Rattle.rl_line.proofs.Common.{common_steps, ◌≡◌, ℕ, ◌+◌, ◌<◌, ◌&&◌, ◌==◌, Bool, not, cond, All, Decides, List, [], ◌∷◌, ◌++◌, drop, length, length-append, map, flat_map, min, take, take-append-drop, true, false, Some, None, chars, encode_utf8_all, IsUtf8, IsCharBoundary, arith, refl, sym, ap, subst, ◌∙◌, suc, Row, by_runs, lowercase_runs, lowercase_strings, uppercase_runs, uppercase_strings, length-map, nil_from_length, All-head, IsCharBoundary-start, IsUtf8-drop, IsUtf8-take, encodes-chars, length-le-encodes, unwrap_or, is_in_word_after, lowercase_before, lowercase_chars, starts_with_cased, is_grapheme_break, bytes_in, clusters, end_of_cluster, nat_tests, IsAscii-cons, IsAscii-nil, is_ascii, to_ascii_lowercase, to_ascii_uppercase, list_all, IsAscii, Range, WordAction, Capitalize, Lowercase, Uppercase, Line, nothing, answering, exchange_plan, edit_word_plan, mapped, recased, respell, respelled, word_ahead, text_in}
 use Rattle.std.specs.Char.Unicode.Rows.{by_strings}
 use Rattle.std.specs.Char.Unicode.ToLowercase.{to_lowercase}
 use Rattle.std.specs.Char.Unicode.ToUppercase.{to_uppercase}
@@ -8,6 +8,8 @@ use Rattle.std.specs.StrCase.Upper.{str_to_uppercase}
 use Rattle.unicode_segmentation.proofs.SegmentsLemmas.{All-IsPieceOf, IsPieceOf}
 use Rattle.unicode_segmentation.specs.Segments.{with_offsets}
 use Rattle.rl_line.specs.Plan.{bytes_of}
+use Rattle.rl_base.proofs.Texts.TextLemmas.{IsCharBoundary-before_removal, IsCharBoundary-past_replacement}
+use Rattle.rl_line.proofs.Plans.PlanLemmas.{Done-as, Done-nothing, Done-steps, Stopped-as}
 
 pub edit_word_plan-nothing : (line : Line) (action : WordAction) → None ≡ word_ahead line → edit_word_plan line action ≡ nothing line false
 edit_word_plan-nothing line action e = ap (respell line action) (sym e)
@@ -15,9 +17,7 @@ edit_word_plan-nothing line action e = ap (respell line action) (sym e)
 -- a word that is not empty is a text that the plan tells
 pub edit_word_plan-tells : (line : Line) (action : WordAction) (word : Range ℕ) (text : List ℕ) → Some word ≡ word_ahead line → text ≡ text_in line word → 0 < length text
     → 0 < bytes_of (edit_word_plan line action).steps
-edit_word_plan-tells line action word text e is some =
-    let wide : 0 < length (text_in line word) = subst (λ (t : List ℕ). 0 < length t) is some in
-    subst (λ o. 0 < bytes_of (respell line action o).steps) e (omega (arith, wide))
+edit_word_plan-tells line action word text e is some = grind arith
 
 ascii-all : (s : List ℕ) → Decides (list_all is_ascii s) (IsAscii s)
 ascii-all [] = (λ h. IsAscii-nil, λ h. refl)
@@ -44,17 +44,9 @@ edit_word_plan-some line action word text made p q e is ascii others at to =
     ap (respell line action) (sym e) ∙ (λ i. answering true (exchange_plan line word (sym at i) (sym put i) (sym stop i)))
 
 -- a capitalized ASCII word: its first byte is raised, the others are lowered
-first_byte : (word : List ℕ) (first : ℕ) → first ≡ min 1 (length word) → (take first word ≡ take 1 word) × (drop first word ≡ drop 1 word)
-first_byte [] first e = let none : first ≡ 0 = omega arith in (rw none refl, rw none refl)
-first_byte (c ∷ cs) first e = let one : first ≡ 1 = omega arith in (ap (λ n. take n (c ∷ cs)) one, ap (λ n. drop n (c ∷ cs)) one)
-
 pub capitalized-ascii : (word front after upper lower made : List ℕ) (first : ℕ) → IsAscii word → first ≡ min 1 (length word) → front ≡ take first word → after ≡ drop first word
     → (IsAscii front → upper ≡ map to_ascii_uppercase front) → (IsAscii after → lower ≡ map to_ascii_lowercase after) → made ≡ upper ++ lower → made ≡ recased Capitalize word
-capitalized-ascii word front after upper lower made first a n f b up low is =
-    let cut = first_byte word first n in
-    let raised : upper ≡ map to_ascii_uppercase (take 1 word) = up (subst IsAscii (sym f) (IsAscii-take word first a)) ∙ ap (map to_ascii_uppercase) (f ∙ cut.0) in
-    let lowered : lower ≡ map to_ascii_lowercase (drop 1 word) = low (subst IsAscii (sym b) (IsAscii-drop word first a)) ∙ ap (map to_ascii_lowercase) (b ∙ cut.1) in
-    is ∙ ap₂ (λ x y. x ++ y) raised lowered
+capitalized-ascii word front after upper lower made first a n f b up low is = grind (arith, common_steps)
 
 -- ---- no mapping takes all of a text away
 string-some : (rows : List Row) (d c : ℕ) → 0 < length (by_strings (d ∷ []) rows c)
@@ -135,8 +127,6 @@ recased-none Capitalize word e =
 
 -- so a word that is not empty gives way to a text that is not
 pub respelled-none : (action : WordAction) (word : List ℕ) → IsUtf8 word → length (respelled action word) ≡ 0 → length word ≡ 0
-respelled-none action word u = from (list_all is_ascii word)
-  where
-    from : (b : Bool) → length (cond b (recased action word) (mapped action word)) ≡ 0 → length word ≡ 0
-    from true e = recased-none action word e
-    from false e = mapped-none action word u e
+respelled-none action word u = grind (arith, recased-none, mapped-none)
+
+pub ruleset words = (edit_word_plan-nothing, edit_word_plan-some, edit_word_plan-tells, IsCharBoundary-before_removal, IsCharBoundary-past_replacement, Done-as, Done-nothing, Done-steps, Stopped-as)

@@ -243,3 +243,5 @@ module _ {L : Type 0} (step : L → Event → L) where
     taken = h.taken;
     cause = cause;
   }
+
+pub ruleset steps_taken = (Halted-after, Halted-at_first, Taken-append, after-replay)

@@ -1,5 +1,5 @@
 -- What a kill by a movement takes begins at the cursor, or ends there.
-use Rattle.rl_line.proofs.Common.{◌≡◌, ℕ, ◌+◌, ◌<◌, ◌≤◌, min, max, Bool, true, false, cond, length, Option, Some, None, refl, sym, arith, ltb-true, ltb-false, eqb-true, option_map, option_or, IfSome, List, ◌==◌, nat_lt, IsCharBoundary, IsUtf8, Range, prev_pos, HitLies, chosen_hit, prev_word, Direction, Forward, Backward, At, CharSearch, BeginningOfLine, EndOfLine, FirstNonBlank, BackwardWord, ForwardWord, ViCharSearch, BeginningOfBuffer, EndOfBuffer, Word, side_of_place, side_of_search, Line, between, first_nonblank, home, line_end, either_way, from_place, killed, newline_at, to_hit, to_place, unless_empty}
+use Rattle.rl_line.proofs.Common.{◌≡◌, ℕ, ◌≤◌, Bool, true, false, cond, length, Option, Some, None, refl, arith, option_map, IfSome, List, ◌==◌, IsCharBoundary, IsUtf8, Range, HitLies, chosen_hit, prev_word, Direction, Forward, Backward, At, CharSearch, BeginningOfLine, EndOfLine, FirstNonBlank, BackwardWord, ForwardWord, ViCharSearch, BeginningOfBuffer, EndOfBuffer, Word, side_of_place, side_of_search, Line, between, first_nonblank, either_way, from_place, killed, to_hit, to_place}
 use Rattle.rl_base.specs.declared.motion.CharSearch.TheVariants as to
 use Rattle.rl_base.proofs.Texts.LineLemmas.{start-before}
 use Rattle.rl_base.proofs.Clusters.SearchLemmas.{IsHitOf, chosen_hit-is}
@@ -18,10 +18,6 @@ mapped : {A B : Type 0} (P : A → Type 0) (Q : B → Type 0) (f : A → B) (o :
 mapped P Q f None h k = tt
 mapped P Q f (Some x) h k = h x k
 
-or_else : {A : Type 0} (P : A → Type 0) (o p : Option A) → IfSome o P → IfSome p P → IfSome (option_or o p) P
-or_else P None p h k = k
-or_else P (Some x) p h k = h
-
 from_place-side : (line : Line) (o : Option ℕ) → IfSome o (λ q. q ≤ line.cursor) → IfSome (from_place line o) (LiesOn Backward line.cursor)
 from_place-side line o h = mapped (λ q. q ≤ line.cursor) (LiesOn Backward line.cursor) (λ q. between q line.cursor) o (λ q k. (refl, k)) h
 
@@ -29,10 +25,7 @@ to_place-side : (line : Line) (o : Option ℕ) → IfSome (to_place line o) (Lie
 to_place-side line None = tt
 to_place-side line (Some q) = refl
 
--- where these places are not past the cursor
-prev_pos-before : (text : List ℕ) (pos n : ℕ) → IfSome (prev_pos text pos n) (λ q. q ≤ pos)
-prev_pos-before text pos n = unless (λ q. q ≤ pos) _ _ (omega arith)
-
+-- where a word before the cursor starts is not past it
 prev_word-before : (text : List ℕ) (pos : ℕ) (word : Word) (n : ℕ) → IsUtf8 text → IsCharBoundary text pos → IfSome (prev_word text pos word n) (λ q. q ≤ pos)
 prev_word-before text pos word n u at = unless (λ q. q ≤ pos) (pos == 0) _ (IsBefore-start_before text pos word n u at).before
 
@@ -43,30 +36,14 @@ hit-side (to.Backward c) pos hit h = (refl, omega arith)
 hit-side (to.BackwardAfter c) pos hit h = (refl, h)
 
 either_way-side : (line : Line) (place : ℕ) → IfSome (either_way line place) (LiesOn (side_of_place line place) line.cursor)
-either_way-side line place = from (nat_lt place line.cursor) refl
-  where
-    from : (b : Bool) → nat_lt place line.cursor ≡ b → IfSome (either_way line place) (LiesOn (cond b Backward Forward) line.cursor)
-    from true e =
-        let before : place < line.cursor = ltb-true place line.cursor e in
-        unless (LiesOn Backward line.cursor) _ (between (min place line.cursor) (max place line.cursor)) (omega arith, omega arith)
-    from false e =
-        let after : line.cursor ≤ place = ltb-false place line.cursor e in
-        unless (LiesOn Forward line.cursor) _ (between (min place line.cursor) (max place line.cursor)) (omega arith)
+either_way-side line place = grind arith
 
 -- the range of each movement
 pub BeginningOfLine-side : (line : Line) → line.cursor ≤ length line.text → IfSome (killed line BeginningOfLine) (LiesOn Backward line.cursor)
-BeginningOfLine-side line within =
-    or_else (LiesOn Backward line.cursor) (unless_empty (home line) line.cursor) (from_place line (prev_pos line.text line.cursor 1))
-    (unless (LiesOn Backward line.cursor) (home line == line.cursor) (between (home line) line.cursor) (refl, start-before line.text line.cursor within))
-    (from_place-side line (prev_pos line.text line.cursor 1) (prev_pos-before line.text line.cursor 1))
+BeginningOfLine-side line within = grind (arith, start-before)
 
 pub EndOfLine-side : (line : Line) → IfSome (killed line EndOfLine) (LiesOn Forward line.cursor)
-EndOfLine-side line = from (line.cursor == line_end line) refl
-  where
-    from : (b : Bool) → (line.cursor == line_end line) ≡ b
-        → IfSome (option_or (cond b None (Some (between line.cursor (line_end line)))) (newline_at line.text (line_end line))) (LiesOn Forward line.cursor)
-    from true e = unless (LiesOn Forward line.cursor) _ (between (line_end line) (line_end line + 1)) (sym (eqb-true line.cursor (line_end line) e))
-    from false e = refl
+EndOfLine-side line = grind arith
 
 pub FirstNonBlank-side : (line : Line) → IfSome (killed line FirstNonBlank) (LiesOn (side_of_place line (first_nonblank line)) line.cursor)
 FirstNonBlank-side line = either_way-side line (first_nonblank line)

@@ -1,8 +1,10 @@
 -- Exchanging two ranges: the plan by its halves, and the places between them.
 use Rattle.rl_line.proofs.Common.{HasRoom, RoomyLine, count_by, is_newline, ◌≡◌, ℕ, ◌+◌, ◌-◌, ◌≤◌, [], ◌∷◌, ◌++◌, List, length, take, drop, append_assoc, None, Bool, cond, true, false, slice_range, sym, ap, ap₂, subst, ◌∙◌, arith, length-between, option_and_then, length-take-le, drop-take, drop-append-le, insert_slice, remove_range, replace_range, IsCharBoundary, IsUtf8, Range, Forward, InsertStr, Delete, Line, Plan, Step, nothing, single, followed_by, answering, exchange_plan, text_in, are_two, clusters_around, end_of_cluster, exchanged_text, first_word, meeting_place, second_word, only_move, pull_back_plan, pulled_back, swap_plan, transpose_chars_plan, transpose_words_plan}
 use Rattle.rl_line.proofs.Lines.LineStartLemmas.{newlines-replaced, newlines-slice}
-use Rattle.rl_line.proofs.Lines.RoomyLemmas.{length-swapped}
+use Rattle.rl_line.proofs.Lines.RoomyLemmas.{length-swapped, HasRoom-moved}
 use Rattle.rl_base.proofs.Texts.TextLemmas.{slice-before, take-before, removed-is_replaced, IsCharBoundary-before, IsCharBoundary-at_removal, IsCharBoundary-past_replacement, IsCharBoundary-after, IsUtf8-replaced}
+use Rattle.rl_line.proofs.Plans.PlanLemmas.{Done-nothing, Done-followed, Done-single, Halted-after, Halted-at_first, Done-steps, Halted-back, Halted-front, Taken-append}
+use Rattle.rl_line.proofs.Plans.EditLemmas.{some_part}
 
 -- the steps of the second exchange
 abbrev pub last_steps : Line → Range ℕ → Range ℕ → List Step
@@ -10,8 +12,7 @@ last_steps line first second = (Delete first.start (text_in line first) Forward,
 
 pub swap-front : (line : Line) (first second : Range ℕ) (x : List ℕ) → x ≡ text_in line first
     → (swap_plan line first second).steps ≡ (exchange_plan line second first.end x first.end).steps ++ last_steps line first second
-swap-front line first second x e =
-    ap (λ t. (Delete second.start (text_in line second) Forward, first.end) ∷ (InsertStr second.start t, first.end) ∷ last_steps line first second) (sym e)
+swap-front line first second x e = grind arith
 
 -- The second of two ranges gave way to the text of the first: x is that text, and y the second's own.
 pub record HalfSwapped (old mid : Line) (first second : Range ℕ) (x y : List ℕ) : Type 0 where
@@ -38,8 +39,7 @@ pub record Places (mid : List ℕ) (first second : Range ℕ) (y : List ℕ) : T
 module _ {old mid : Line} {first second : Range ℕ} {x y : List ℕ} (h : HalfSwapped old mid first second x y) where
   -- the first range still has its text
   pub first_stays : text_in mid first ≡ x
-  first_stays =
-      ap (λ t. slice_range t first.start first.end) h.text ∙ slice-before old.text second.start second.end first.start first.end x h.second_start.0 h.first_order h.apart ∙ sym h.goes
+  first_stays = grind (arith, slice-before)
 
   pub swap-halves : (swap_plan old first second).steps ≡ (exchange_plan old second first.end x first.end).steps ++ (exchange_plan mid first first.start y second.end).steps
   swap-halves =
@@ -88,9 +88,7 @@ module _ {old mid : Line} {first second : Range ℕ} {x y : List ℕ} (h : HalfS
 pub pull_back_plan-is : (line : Line) (front : ℕ) (after : Range ℕ) (x : List ℕ) (stop : ℕ) → x ≡ text_in line after
     → stop ≡ length x + end_of_cluster (remove_range line.text after.start after.end) front
     → pull_back_plan line front after ≡ followed_by (Delete after.start (text_in line after) Forward) after.start (single (InsertStr front x) stop tt)
-pull_back_plan-is line front after x stop e f =
-    ap₂ (λ (t : List ℕ) (k : ℕ). followed_by (Delete after.start (text_in line after) Forward) after.start (single (InsertStr front t) k tt)) (sym e)
-    (sym (f ∙ ap (λ t. length t + end_of_cluster (remove_range line.text after.start after.end) front) e))
+pull_back_plan-is line front after x stop e f = grind arith
 
 pub exchanged : (line : Line) (front : ℕ) (after : Range ℕ) (x : List ℕ) → x ≡ text_in line after → front ≤ after.start → after.start ≤ length line.text
     → insert_slice (remove_range line.text after.start after.end) front x ≡ exchanged_text line front after
@@ -115,5 +113,10 @@ transposed line first second = cond (are_two first second) (answering true (swap
 
 pub transpose-stays : (line : Line) (n : ℕ) (first second : Range ℕ) → first ≡ first_word line n → second ≡ second_word line n → are_two first second ≡ false
     → transpose_words_plan line n ≡ only_move first.end
-transpose-stays line n first second e f apart =
-    sym (ap₂ (transposed line) e f) ∙ ap (λ b. cond b (answering true (swap_plan line first second)) (only_move first.end)) apart
+transpose-stays line n first second e f apart = grind arith
+
+pub ruleset no_transposition = (transpose_chars-nothing, Done-nothing)
+
+pub ruleset pulls = (exchanged, pull_back_plan-is, HasRoom-moved, Done-followed, Done-single, Halted-after, Halted-at_first)
+
+pub ruleset swaps = (HasRoom-swapped, last_steps, swap-front, swap-halves, places, IsCharBoundary-before, some_part, Done-steps, Halted-back, Halted-front, Taken-append)

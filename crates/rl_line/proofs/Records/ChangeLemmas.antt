@@ -1,12 +1,12 @@
 -- What stands in a text where it can go over an entry.
-use Rattle.rl_line.proofs.Common.{◌≡◌, ℕ, ◌+◌, ◌<◌, ◌≤◌, Bool, true, false, List, [], ◌∷◌, ◌++◌, length, take, get_or, map, reverse, slice_range, Option, Some, None, refl, sym, ap, subst, ◌∙◌, arith, length-reverse, is_utf8-from_IsUtf8, ◌&&◌, IfOk, IsSome, Result, Ok, Err, cond, is_some, option_and_then, replace_range, option_map_or, IsCharBoundary, IsUtf8, bytes_eq, is_utf8, is_boundary, Change, Way, Back, Ahead, Entry, Begin, End, Changed, entry_of, event_of, inverse, new_text, old_text, unwind, cursor_told, place_after, cursor_stands, Refusal, same_Some, entry_to_undo, order, place, text_after, text_back}
+use Rattle.rl_line.proofs.Common.{common_steps, ◌≡◌, ℕ, ◌+◌, ◌<◌, ◌≤◌, Bool, true, false, List, [], ◌∷◌, ◌++◌, length, take, get_or, map, reverse, slice_range, Option, Some, None, refl, sym, ap, subst, ◌∙◌, arith, length-reverse, is_utf8-from_IsUtf8, ◌&&◌, IfOk, IsSome, Result, Ok, Err, cond, is_some, option_and_then, replace_range, option_map_or, IsCharBoundary, IsUtf8, bytes_eq, is_utf8, is_boundary, Change, Way, Back, Ahead, Entry, Begin, End, Changed, entry_of, event_of, inverse, new_text, old_text, unwind, cursor_told, place_after, cursor_stands, Refusal, same_Some, entry_to_undo, order, place, text_after, text_back}
 use Rattle.rl_base.specs.Event.{apply}
 use Rattle.rl_base.specs.Text.{fits_at, stands_at}
-use Rattle.rl_base.proofs.Texts.TextLemmas.{is_boundary-true, stands_at-means}
+use Rattle.rl_base.proofs.Texts.TextLemmas.{is_boundary-means, is_boundary-true, stands_at-means}
 use Rattle.rl_base.proofs.Texts.EventLemmas.{Replaces-from_IsSome}
-use Rattle.rl_line.proofs.Records.LastLemmas.{map-reverse, read-last}
+use Rattle.rl_line.proofs.Records.LastLemmas.{map-reverse}
 use Rattle.rl_line.proofs.Records.RecordLemmas.{then_both, then_some}
-use Rattle.rl_line.proofs.Records.PatchLemmas.{length-replaced}
+use Rattle.rl_line.proofs.Records.PatchLemmas.{length-replaced, patched-stands, patched-swap}
 
 -- an entry's new text stands at its place, and the old one may take its place
 pub record StandsNew (e : Entry) (text : List ℕ) (at : ℕ) : Type 0 where
@@ -87,11 +87,7 @@ unfolding stands_at
 stands_at-is text i s u b e = rw (is_utf8-from_IsUtf8 s u, is_boundary-true text i b, is_boundary-true text (i + length s) e) refl
 
 pub stands_at-not : (text : List ℕ) (i : ℕ) (s : List ℕ) → (IsCharBoundary text i → IsCharBoundary text (i + length s) → ⊥) → false ≡ stands_at text i s
-stands_at-not text i s h = from (stands_at text i s) refl
-  where
-    from : (b : Bool) → stands_at text i s ≡ b → false ≡ b
-    from false e = refl
-    from true e = let m = stands_at-means text i s e in absurd (h m.start m.end)
+stands_at-not text i s h = grind (arith, stands_at-means)
 
 -- ---- the order in which changes are gone over
 pub length-order : (way : Way) (xs : List Change) → length (order way xs) ≡ length xs
@@ -120,9 +116,7 @@ text_back-append asks (x ∷ xs) ys text =
 
 last_one : (asks : Bool) (way : Way) (xs : List Change) (m : ℕ) (x : Change) (now : List ℕ) → m < length xs → x ≡ get_or xs m x
     → text_back asks (map (entry_to_undo way) (take (m + 1) xs)) now ≡ option_and_then (text_back asks (map (entry_to_undo way) (take m xs))) (text_after asks (inverse (entry_to_undo way x)) now)
-last_one asks way xs m x now lt e =
-    ap (λ es. text_back asks es now) (read-last (entry_to_undo way) xs m x x lt (sym e))
-    ∙ text_back-append asks (map (entry_to_undo way) (take m xs)) (entry_to_undo way x ∷ []) now
+last_one asks way xs m x now lt e = grind (arith, common_steps, text_back-append)
 
 pub GoesOver-next : (asks : Bool) (way : Way) (xs : List Change) (m : ℕ) (x : Change) (text now next : List ℕ) → m < length xs → x ≡ get_or xs m x → GoesOver asks way xs (m + 1) text now
     → apply (event_of (inverse (entry_to_undo way x))) now ≡ Some next → cursor_stands asks (inverse (entry_to_undo way x)) next ≡ true → GoesOver asks way xs m text next
@@ -173,6 +167,10 @@ cursor_stands-told true e text cursor b asked told test = test ∙ ap (λ o. opt
 -- ---- a text that goes over one entry, where the cursor is asked for
 pub leads-told : (e : Entry) (text now : List ℕ) (cursor : ℕ) → apply (event_of e) text ≡ Some now → cursor_told e ≡ Some cursor
     → is_some (text_after true e text) ≡ is_boundary now cursor
-leads-told e text now cursor h told =
-    ap (λ o. is_some (option_and_then (λ t. cond (cursor_stands true e t) (Some t) None) o)) h ∙ tested (cursor_stands true e now) now
-    ∙ ap (λ o. option_map_or (is_boundary now) o true) told
+leads-told e text now cursor h told = grind arith
+
+pub ruleset over_one = (cursor_stands-told, fits-is, mark-leaves, patch-makes, place-entry_to_undo)
+
+pub ruleset stood = (stands_at-is, stands_at-not)
+
+pub ruleset patches = (length-replaced, patched-stands, patched-swap, stands_at-not, is_boundary-means, is_boundary-true, stands_at-means)

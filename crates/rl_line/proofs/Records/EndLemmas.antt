@@ -1,5 +1,5 @@
 -- The end of one group: it leaves one unit, or no trace. And whether the last unit, and the next one, holds a change.
-use Rattle.rl_line.proofs.Common.{◌≡◌, ℕ, ◌+◌, suc, true, false, List, [], ◌∷◌, ◌++◌, length, ◌-◌, take, drop, map, min, refl, sym, ap, subst, ◌∙◌, inl, inr, arith, append_assoc, drop_at, reverse-reverse, max, not, ◌||◌, reverse, slice_get, Some, None, Event, Change, Entry, Begin, End, Changed, Record, entry_of, record_step, UndoUnit, Open, Whole, AtLevel, Hears, IsMatched, adds_end, after_in_group, begun, close, end_one, end_times, ended_one, ends_in_begin, has_change, in_group, is_begin, kept_of, last_of, level, opens, redo_from, redo_of, together, units, map-append}
+use Rattle.rl_line.proofs.Common.{common_steps, ◌≡◌, ℕ, ◌+◌, suc, true, false, List, [], ◌∷◌, ◌++◌, length, ◌-◌, take, drop, map, min, refl, sym, ap, subst, ◌∙◌, inl, inr, arith, append_assoc, drop_at, reverse-reverse, max, not, ◌||◌, reverse, slice_get, Some, None, Event, Change, Entry, Begin, End, Changed, Record, entry_of, record_step, UndoUnit, Open, Whole, AtLevel, Hears, IsMatched, adds_end, after_in_group, begun, close, end_one, end_times, ended_one, ends_in_begin, has_change, in_group, is_begin, kept_of, last_of, level, opens, redo_from, redo_of, together, units}
 use Rattle.rl_line.proofs.Records.EntryLemmas.{last-split, none-last}
 use Rattle.rl_line.proofs.Records.LastLemmas.{EndsOne, end_one-begin, end_one-cases, end_one-past, ends-past}
 use Rattle.rl_line.proofs.Records.GroupLemmas.{Inside-steps, Settles-change, ends_in_begin-begin, has_change-append, touching}
@@ -29,10 +29,7 @@ Gathers-closed e es h l = by_units (reverse (units (e ∷ es))) refl
 
 -- what ends in a Begin has an open group
 not_open : (es : List Entry) → level es ≡ 0 → EndsOne es → ⊥
-not_open es l k =
-    let cut : units es ≡ Open ∷ units k.front = ap units k.list_is ∙ cut_more-append [] k.front (Begin ∷ []) in
-    let n : suc (opens (units k.front)) ≡ 0 = sym (ap opens cut) ∙ l in
-    omega arith
+not_open es l k = grind (arith, cut_more-append)
 
 -- so what has none does not end in one
 ends-closed : (es : List Entry) → level es ≡ 0 → ends_in_begin es ≡ false
@@ -161,10 +158,7 @@ last-holds xs End m =
 
 pub last-entry-holds : (xs : List Change) (x : Change) → Some x ≡ slice_get xs (length xs - 1) → IsMatched (map entry_of xs)
     → has_change (last_of 1 (map entry_of xs)) ≡ not (is_begin (entry_of x))
-last-entry-holds xs x e m =
-    let p = last-split xs x e in
-    let is : map entry_of xs ≡ map entry_of p.0 ++ entry_of x ∷ [] = ap (map entry_of) p.1 ∙ map-append entry_of p.0 (x ∷ []) in
-    ap (λ es. has_change (last_of 1 es)) is ∙ last-holds (map entry_of p.0) (entry_of x) (subst IsMatched is m)
+last-entry-holds xs x e m = grind (arith, common_steps, last-split, last-holds)
 
 pub no-entry-holds : (xs : List Change) → None ≡ slice_get xs (length xs - 1) → has_change (last_of 1 (map entry_of xs)) ≡ false
 no-entry-holds xs e = ap (λ ys. has_change (last_of 1 (map entry_of ys))) (none-last xs e)
@@ -180,3 +174,5 @@ next-holds es m = from (reverse (units es)) refl
         let good = subst AllGood k (AllGood-reverse (units es) (units-good es m)) in
         let some = Settles-change w good.0 in
         some ∙ sym (ap has_change (sym (on-units es (Whole w ∷ vs) k)) ∙ has_change-append w (on vs) ∙ ap (λ b. b || has_change (on vs)) some)
+
+pub ruleset holds = (last-entry-holds, next-holds, no-entry-holds)

@@ -1,21 +1,15 @@
 -- Entries in the list of the code: counting them, and closing groups.
-use Rattle.rl_line.proofs.Common.{◌≡◌, ℕ, ◌+◌, ◌-◌, ◌<◌, ◌≤◌, arith, suc, List, [], ◌∷◌, ◌++◌, length, take, drop, get_or, map, reverse, refl, sym, ap, ◌∙◌, ◌⊎◌, inl, inr, or-true, append-nil, map-append, reverse-append, drop_all, zero, max, slice_get, cond, IsSome, Bool, true, false, not, ◌||◌, Option, Some, None, option_to_list, Change, Entry, Begin, End, Changed, entry_of, last_of, redo_of, adds_end, end_one, end_times, ends_in_begin, is_begin, is_change, IsMatched, deep, same_Some}
+use Rattle.rl_line.proofs.Common.{common_steps, ◌≡◌, ℕ, ◌+◌, ◌-◌, ◌<◌, ◌≤◌, arith, suc, List, [], ◌∷◌, ◌++◌, length, take, drop, get_or, map, reverse, refl, sym, ap, ◌∙◌, ◌⊎◌, inl, inr, or-true, append-nil, map-append, reverse-append, drop_all, zero, max, slice_get, cond, IsSome, Bool, true, false, not, ◌||◌, Option, Some, None, option_to_list, Change, Entry, Begin, End, Changed, entry_of, last_of, redo_of, adds_end, end_one, end_times, ends_in_begin, is_begin, is_change, IsMatched, deep, same_Some, take-map}
 use Rattle.rl_line.proofs.Records.Counts.{ahead_len, back_len}
 use Rattle.rl_line.proofs.Records.CountLemmas.{last-counted, redo-counted}
-use Rattle.rl_line.proofs.Records.LastLemmas.{end_one-cases, end_one-past, ends-past, read-first, read-last}
+use Rattle.rl_line.proofs.Records.LastLemmas.{end_one-cases, end_one-past, ends-past, read-last}
 use Rattle.rl_line.proofs.Records.RecordLemmas.{value_of}
 use Rattle.rl_line.proofs.Records.UnitLemmas.{last_of-change, redo_of-change}
 
 -- the entries before a place, the last first, with one entry more
 back-read : (xs : List Change) (m : ℕ) (z x : Change) → m < length xs → get_or xs m z ≡ x
     → reverse (map entry_of (take (m + 1) xs)) ≡ entry_of x ∷ reverse (map entry_of (take m xs))
-back-read xs m z x lt e =
-    ap reverse (read-last entry_of xs m z x lt e) ∙ reverse-append (map entry_of (take m xs)) (entry_of x ∷ [])
-
-pub back_len-nil : (d k : ℕ) → back_len d k [] ≡ 0
-back_len-nil zero zero = refl
-back_len-nil zero (suc k) = refl
-back_len-nil (suc d) k = refl
+back-read xs m z x lt e = grind (arith, common_steps)
 
 -- one entry less to go
 pub count-step : (xs : List Change) (at d k d' k' total : ℕ) (z x : Change) → 0 < at → at ≤ length xs → get_or xs (at - 1) z ≡ x
@@ -48,16 +42,7 @@ step-begin (suc d) k rs lt = let same : d ≡ suc d - 1 = omega arith in ap (λ 
 pub count-end : (xs : List Change) (at d k n : ℕ) → IsMatched (map entry_of xs) → (at ≡ 0) ⊎ ((d ≡ 0) × (k ≡ 0))
     → (length xs - at) + back_len d k (reverse (map entry_of (take at xs))) ≡ back_len 0 (max n 1) (reverse (map entry_of xs))
     → length xs - at ≡ length (last_of n (map entry_of xs))
-count-end xs at d k n m done h =
-    let none : back_len d k (reverse (map entry_of (take at xs))) ≡ 0 = elim done [ inl e ↦ at_start e | inr e ↦ all_taken e.0 e.1 ] in
-    let all : length xs - at ≡ back_len 0 (max n 1) (reverse (map entry_of xs)) = (omega arith) in
-    all ∙ last-counted n (map entry_of xs) m
-  where
-    at_start : at ≡ 0 → back_len d k (reverse (map entry_of (take at xs))) ≡ 0
-    at_start e = ap (λ a. back_len d k (reverse (map entry_of (take a xs)))) e ∙ back_len-nil d k
-
-    all_taken : d ≡ 0 → k ≡ 0 → back_len d k (reverse (map entry_of (take at xs))) ≡ 0
-    all_taken e f = ap (λ a. back_len a k (reverse (map entry_of (take at xs)))) e ∙ ap (λ a. back_len 0 a (reverse (map entry_of (take at xs)))) f
+count-end xs at d k n m done h = grind (arith, last-counted)
 
 -- ---- counting what is open
 pub deep-append : (d : ℕ) (xs ys : List Entry) → deep d (xs ++ ys) ≡ deep (deep d xs) ys
@@ -69,24 +54,13 @@ deep-append d (Changed k c ∷ xs) ys = deep-append d xs ys
 -- with the entry at i
 pub deep-next : (xs : List Change) (i n : ℕ) (x : Change) → i < length xs → x ≡ get_or xs i x → n ≡ deep 0 (map entry_of (take i xs))
     → deep 0 (map entry_of (take (i + 1) xs)) ≡ deep n (entry_of x ∷ [])
-deep-next xs i n x lt is e =
-    ap (deep 0) (read-last entry_of xs i x x lt (sym is))
-    ∙ deep-append 0 (map entry_of (take i xs)) (entry_of x ∷ []) ∙ ap (λ d. deep d (entry_of x ∷ [])) (sym e)
+deep-next xs i n x lt is e = grind (arith, common_steps, deep-append)
 
 -- ---- counting ahead
 -- what is left to count where d groups are open: nothing where none is
 abbrev pub rest_len : ℕ → List Entry → ℕ
 rest_len zero rs = 0
 rest_len (suc d) rs = ahead_len (suc d) rs
-
-ahead-step : (d : ℕ) (e : Entry) (rs : List Entry) → ahead_len d (e ∷ rs) ≡ suc (rest_len (deep d (e ∷ [])) rs)
-ahead-step zero Begin rs = refl
-ahead-step (suc d) Begin rs = refl
-ahead-step zero End rs = refl
-ahead-step (suc zero) End rs = refl
-ahead-step (suc (suc d)) End rs = let one : suc d ≡ suc (suc d) - 1 = omega arith in ap (λ k. suc (rest_len k rs)) one
-ahead-step zero (Changed k c) rs = refl
-ahead-step (suc d) (Changed k c) rs = refl
 
 -- the first `at` entries were counted: so many groups are open after them, and the whole unit has as many entries as these and what is left of it
 pub record Counted (xs : List Change) (at d : ℕ) : Type 0 where
@@ -96,10 +70,7 @@ pub record Counted (xs : List Change) (at d : ℕ) : Type 0 where
 
 next-unit : (xs : List Change) (at d : ℕ) (x : Change) → at < length xs → x ≡ get_or xs at x → Counted xs at d
     → (at + 1) + rest_len (deep d (entry_of x ∷ [])) (map entry_of (drop (at + 1) xs)) ≡ ahead_len 0 (map entry_of xs)
-next-unit xs at d x lt is c =
-    let rest = map entry_of (drop (at + 1) xs) in
-    let one : ahead_len d (map entry_of (drop at xs)) ≡ suc (rest_len (deep d (entry_of x ∷ [])) rest) = ap (ahead_len d) (read-first entry_of xs at x lt is) ∙ ahead-step d (entry_of x) rest in
-    omega (arith, one, c.unit)
+next-unit xs at d x lt is c = grind (arith, common_steps)
 
 -- one entry more, where groups are open after it
 pub Counted-next : (xs : List Change) (at d n : ℕ) (x : Change) → at < length xs → x ≡ get_or xs at x → Counted xs at d
@@ -114,18 +85,10 @@ Counted-next xs at d (suc n) x lt is c e small some = record {
 -- the unit ends where no group is open after an entry, or where no entry is left
 pub Counted-end : (xs : List Change) (at d : ℕ) (x : Change) → IsMatched (map entry_of xs) → at < length xs → x ≡ get_or xs at x → Counted xs at d
     → 0 ≡ deep d (entry_of x ∷ []) → at + 1 ≡ length (redo_of (map entry_of xs))
-Counted-end xs at d x m lt is c e =
-    let all = ap (λ k. (at + 1) + rest_len k (map entry_of (drop (at + 1) xs))) e ∙ next-unit xs at d x lt is c in
-    (omega arith) ∙ all ∙ redo-counted (map entry_of xs) m
+Counted-end xs at d x m lt is c e = grind (arith, common_steps, redo-counted)
 
 pub Counted-all : (xs : List Change) (at d : ℕ) → length xs ≤ at → IsMatched (map entry_of xs) → Counted xs at d → at ≡ length (redo_of (map entry_of xs))
-Counted-all xs at d past m c =
-    let none : ahead_len d (map entry_of (drop at xs)) ≡ 0 = ap (λ ys. ahead_len d (map entry_of ys)) (drop_all at xs past) ∙ nothing d in
-    omega (arith, none, c.unit, redo-counted (map entry_of xs) m)
-  where
-    nothing : (d : ℕ) → ahead_len d [] ≡ 0
-    nothing zero = refl
-    nothing (suc d) = refl
+Counted-all xs at d past m c = grind (arith, drop_all, redo-counted)
 
 -- ---- closing groups
 abbrev pub begins : Option Change → Bool
@@ -163,8 +126,7 @@ end_one-popped (x ∷ xs) ys o e some h =
     takes_begin-off (map entry_of ys) (entry_of y.0) (sym (ends-past (map entry_of ys) (entry_of y.0) []) ∙ ap ends_in_begin (sym last) ∙ h) ∙ ap end_one (sym last)
 
 pub end_one-pushed : (xs ys : List Change) (x : Change) → ys ≡ xs ++ x ∷ [] → entry_of x ≡ End → ends_in_begin (map entry_of xs) ≡ false → map entry_of ys ≡ end_one (map entry_of xs)
-end_one-pushed xs ys x e end h =
-    ap (map entry_of) e ∙ map-append entry_of xs (x ∷ []) ∙ ap (λ (y : Entry). map entry_of xs ++ y ∷ []) end ∙ adds_end-after (map entry_of xs) h
+end_one-pushed xs ys x e end h = grind (arith, map-append, adds_end-after)
 
 -- one group less to close
 pub closes-next : (count i : ℕ) (es next all : List Entry) → i < count → next ≡ end_one es → end_times (count - i) es ≡ all → end_times (count - (i + 1)) next ≡ all
@@ -174,9 +136,7 @@ closes-next count i es next all lt e h =
 
 -- where closing fewer groups adds an End, closing all does
 pub adds-more : (count i : ℕ) (es next : List Entry) → i < count → next ≡ end_one es → adds_end (count - (i + 1)) next ≡ true → adds_end (count - i) es ≡ true
-adds-more count i es next lt e h =
-    let k : suc (count - (i + 1)) ≡ count - i = omega arith in
-    ap (λ n. adds_end n es) (sym k) ∙ ap (λ l. not (ends_in_begin es) || adds_end (count - (i + 1)) l) (sym e) ∙ ap (λ b. not (ends_in_begin es) || b) h ∙ or-true (not (ends_in_begin es))
+adds-more count i es next lt e h = grind arith
 
 -- so does closing one that is not empty
 pub adds-here : (n : ℕ) (es : List Entry) → 0 < n → ends_in_begin es ≡ false → adds_end n es ≡ true
@@ -196,8 +156,7 @@ adds-off xs m (suc n) x lt e some h =
 
 pub adds-before : (xs : List Change) (m n : ℕ) (x : Change) → m < length xs → x ≡ get_or xs m x → 0 < n → is_begin (entry_of x) ≡ false
     → adds_end n (map entry_of (take (m + 1) xs)) ≡ true
-adds-before xs m n x lt e some h =
-    adds-here n _ some (ap ends_in_begin (read-last entry_of xs m x x lt (sym e)) ∙ ends-past (map entry_of (take m xs)) (entry_of x) [] ∙ h)
+adds-before xs m n x lt e some h = grind (arith, common_steps, adds-here, ends-past)
 
 -- ---- one change alone
 -- the last entry of the list
@@ -214,12 +173,12 @@ none-last (y ∷ (z ∷ zs)) e =
     let none : z ∷ zs ≡ [] = none-last (z ∷ zs) (e ∙ ap (slice_get (y ∷ (z ∷ zs))) (two (length zs))) in cc
 
 pub last-alone : (n : ℕ) (xs : List Change) (x : Change) → n ≤ 1 → Some x ≡ slice_get xs (length xs - 1) → is_change (entry_of x) ≡ true → last_of n (map entry_of xs) ≡ entry_of x ∷ []
-last-alone n xs x few e is =
-    let p = last-split xs x e in
-    ap (λ ys. last_of n (map entry_of ys)) p.1 ∙ ap (last_of n) (map-append entry_of p.0 (x ∷ [])) ∙ last_of-change n (entry_of x) (map entry_of p.0) few is
+last-alone n xs x few e is = grind (arith, common_steps, last-split, last_of-change)
 
 pub next-alone : (xs : List Change) (x : Change) → Some x ≡ slice_get xs 0 → is_change (entry_of x) ≡ true → IsMatched (map entry_of xs) → redo_of (map entry_of xs) ≡ entry_of x ∷ []
 next-alone [] x e is m = cc
 next-alone (y ∷ ys) x e is m =
     let same : x ≡ y = same_Some x y e in
     redo_of-change (entry_of y) (map entry_of ys) (ap (λ z. is_change (entry_of z)) (sym same) ∙ is) m ∙ ap (λ z. entry_of z ∷ []) (sym same)
+
+pub ruleset at_the_end = (Counted-all, Counted-end, Counted-next, adds-before, adds-here, adds-off, end_one-popped, end_one-pushed, ends-at, last-alone, next-alone, take-map)

@@ -1,5 +1,5 @@
 -- Forgetting the oldest units: where entries fit a bound, which units go, and what is left.
-use Rattle.rl_line.proofs.Common.{AtLevel, Begin, Bool, Change, Entry, FitsFrom, ForgetsFirst, Freshness, IsMatched, List, Open, Record, Some, UndoUnit, Walk, Walks, Whole, [], after, and-false, ap, append-nil, append_assoc, arith, bytes_held, cond, cut_at, drop, drop-cons, drop-drop, drop-map, drop-take, entry_of, false, fits, forgotten, get_or, gone_within, inl, inr, is_within, kept_within, le-leb, leb, leb-false, leb-true, length, length-append, length-drop, length-map, length-take-le, level, lt-leb, map, nat_le, new_text, old_text, opens, or-true, redo_from, redo_of, refl, remove_range, replay_entries, reverse, reverse-append, reverse-reverse, subst, suc, sym, take, take-map, take_at, together, true, unbounded, units, units_kept, zero, ℕ, ◌++◌, ◌+◌, ◌-◌, ◌<◌, ◌∙◌, ◌∷◌, ◌≡◌, ◌≤◌, ◌⊎◌}
+use Rattle.rl_line.proofs.Common.{common_steps, AtLevel, Begin, Bool, Change, Entry, FitsFrom, ForgetsFirst, Freshness, IsMatched, List, Open, Record, Some, UndoUnit, Walk, Walks, Whole, [], after, and-false, ap, append-nil, append_assoc, arith, bytes_held, cond, cut_at, drop, drop-cons, drop-drop, drop-map, drop-take, entry_of, false, fits, forgotten, get_or, gone_within, inl, inr, is_within, kept_within, le-leb, leb, leb-false, leb-true, length, length-append, length-drop, length-map, length-take-le, level, lt-leb, map, nat_le, new_text, old_text, opens, or-true, redo_from, redo_of, refl, remove_range, replay_entries, reverse, reverse-append, reverse-reverse, subst, suc, sym, take, take-map, take_at, together, true, unbounded, units, units_kept, zero, ℕ, ◌++◌, ◌+◌, ◌-◌, ◌<◌, ◌∙◌, ◌∷◌, ◌≡◌, ◌≤◌, ◌⊎◌, take_rest}
 use Rattle.rl_line.proofs.Records.WalkLemmas.{Walk-IsUtf8, Walk-split}
 use Rattle.rl_line.proofs.Records.RecordLemmas.{replay-append, through}
 use Rattle.rl_line.proofs.Records.MatchLemmas.{Redoes-of}
@@ -22,40 +22,15 @@ within-none bound n free = rw (le-leb unbounded bound free) refl
 within-few : (bound n : ℕ) → n ≤ bound → is_within bound n ≡ true
 within-few bound n few = rw (le-leb n bound few) (or-true (leb unbounded bound))
 
-past-bound : (bound n : ℕ) → bound < unbounded → bound < n → is_within bound n ≡ false
-past-bound bound n some many = rw (lt-leb unbounded bound some, lt-leb n bound many) refl
-
 pub fits-any : (most bytes : ℕ) (es : List Entry) → length es ≤ most → unbounded ≤ bytes → fits most bytes es ≡ true
 fits-any most bytes es few free = rw (within-few most (length es) few, within-none bytes (bytes_held es) free) refl
 
 pub fits-counted : (most bytes : ℕ) (es : List Entry) → length es ≤ most → bytes_held es ≤ bytes → fits most bytes es ≡ true
 fits-counted most bytes es few light = rw (within-few most (length es) few, within-few bytes (bytes_held es) light) refl
 
-pub fits-long : (most bytes : ℕ) (es : List Entry) → most < unbounded → most < length es → fits most bytes es ≡ false
-fits-long most bytes es some long = rw (past-bound most (length es) some long) refl
-
-pub fits-heavy : (most bytes : ℕ) (es : List Entry) → bytes < unbounded → bytes < bytes_held es → fits most bytes es ≡ false
-fits-heavy most bytes es bound heavy = rw (past-bound bytes (bytes_held es) bound heavy) (and-false (is_within most (length es)))
-
--- the answer to whether they fit, from the two cases
-from-cases : (most bytes k : ℕ) (es : List Entry) → ((j : ℕ) → k ≤ j → fits most bytes (drop j es) ≡ true) → ((j : ℕ) → j < k → fits most bytes (drop j es) ≡ false)
-    → (j : ℕ) → fits most bytes (drop j es) ≡ nat_le k j
-from-cases most bytes k es inside outside j = go (leb k j) refl
-  where
-    go : (b : Bool) → leb k j ≡ b → fits most bytes (drop j es) ≡ leb k j
-    go true h = inside j (leb-true k j h) ∙ sym h
-    go false h = outside j (leb-false k j h) ∙ sym h
-
 -- any number of bytes fits
 pub FitsFrom-any : (most bytes k : ℕ) (xs : List Change) → length xs ≤ unbounded → k ≡ length xs - most → bytes ≡ unbounded → FitsFrom most bytes (map entry_of xs) k
-FitsFrom-any most bytes k xs short e free =
-    let n = length-map xs entry_of in
-    record {
-      within = omega arith;
-      from = from-cases most bytes k (map entry_of xs)
-          (λ j le. fits-any most bytes (drop j (map entry_of xs)) (omega (arith, length-drop j (map entry_of xs), le)) (omega (arith, free)))
-          (λ j lt. fits-long most bytes (drop j (map entry_of xs)) (omega (arith, lt, e, short)) (omega (arith, length-drop j (map entry_of xs), lt)));
-    }
+FitsFrom-any most bytes k xs short e free = grind (arith, common_steps)
 
 -- from the place `at` on the bytes were counted, and so many more fit
 pub record Counted (most bytes first : ℕ) (xs : List Change) (at left : ℕ) : Type 0 where
@@ -66,45 +41,22 @@ pub record Counted (most bytes first : ℕ) (xs : List Change) (at left : ℕ) :
 
 -- no more than `most` entries are left
 pub FitsFrom-counted : (most bytes first at left : ℕ) (xs : List Change) → length xs ≤ unbounded → at ≤ first → Counted most bytes first xs at left → FitsFrom most bytes (map entry_of xs) at
-FitsFrom-counted most bytes first at left xs short end c =
-    let es = map entry_of xs in
-    let n = length-map xs entry_of in
-    record {
-      within = omega (arith, c.within);
-      from = from-cases most bytes at es
-          (λ j le. fits-counted most bytes (drop j es) (omega (arith, length-drop j es, le, c.first_is, c.after)) (omega (arith, c.count, bytes-after es at j le)))
-          (λ j lt. fits-long most bytes (drop j es) (omega (arith, lt, c.first_is, c.after, c.within, end, short)) (omega (arith, length-drop j es, lt, c.first_is, c.after, c.within)));
-    }
+FitsFrom-counted most bytes first at left xs short end c = grind (arith, common_steps, bytes-after)
 
 -- the entries from a place on hold what the one there does and what those after it do
 held-read : (xs : List Change) (at : ℕ) (x : Change) → 0 < at → get_or xs (at - 1) x ≡ x → at ≤ length xs
     → bytes_held (drop (at - 1) (map entry_of xs)) ≡ (length (old_text (entry_of x)) + length (new_text (entry_of x))) + bytes_held (drop at (map entry_of xs))
-held-read xs at x some e within =
-    let k : suc (at - 1) ≡ at = omega arith in
-    ap bytes_held (drop-map entry_of (at - 1) xs ∙ ap (map entry_of) (drop-cons xs (at - 1) x (omega arith)))
-    ∙ ap (λ (y : Change). bytes_held (entry_of y ∷ map entry_of (drop (suc (at - 1)) xs))) e
-    ∙ ap (λ j. (length (old_text (entry_of x)) + length (new_text (entry_of x))) + bytes_held j) (ap (λ j. map entry_of (drop j xs)) k ∙ sym (drop-map entry_of at xs))
+held-read xs at x some e within = grind (arith, common_steps, drop-map)
 
 -- an entry was counted
 pub Counted-next : (most bytes first at left size : ℕ) (xs : List Change) (x : Change) → first < at → size ≤ left → get_or xs (at - 1) x ≡ x
     → size ≡ length (old_text (entry_of x)) + length (new_text (entry_of x)) → Counted most bytes first xs at left → Counted most bytes first xs (at - 1) (left - size)
-Counted-next most bytes first at left size xs x lt le e s c =
-    let one = held-read xs at x (omega (arith, lt)) e c.within in
-    record { first_is = c.first_is; after = omega (arith, lt); within = omega (arith, c.within); count = omega (arith, c.count, one, s, le) }
+Counted-next most bytes first at left size xs x lt le e s c = grind (arith, held-read)
 
 -- the one before does not fit any more
 pub FitsFrom-stopped : (most bytes first at left size : ℕ) (xs : List Change) (x : Change) → bytes < unbounded → first < at → left < size → get_or xs (at - 1) x ≡ x
     → size ≡ length (old_text (entry_of x)) + length (new_text (entry_of x)) → Counted most bytes first xs at left → FitsFrom most bytes (map entry_of xs) at
-FitsFrom-stopped most bytes first at left size xs x bound lt heavy e s c =
-    let es = map entry_of xs in
-    let n = length-map xs entry_of in
-    let one = held-read xs at x (omega (arith, lt)) e c.within in
-    record {
-      within = omega (arith, c.within);
-      from = from-cases most bytes at es
-          (λ j le. fits-counted most bytes (drop j es) (omega (arith, length-drop j es, le, c.first_is, c.after)) (omega (arith, c.count, bytes-after es at j le)))
-          (λ j less. fits-heavy most bytes (drop j es) bound (omega (arith, c.count, bytes-after es j (at - 1) (omega arith), one, s, heavy)));
-    }
+FitsFrom-stopped most bytes first at left size xs x bound lt heavy e s c = grind (arith, common_steps, held-read, bytes-after)
 
 -- ---- which units go
 -- what a list is, from its units, the oldest first
@@ -169,10 +121,7 @@ open-stays most bytes es m h = go (reverse (units es)) refl h
 -- a whole unit goes where it and what comes after it do not fit
 pub whole-goes : (most bytes : ℕ) (es : List Entry) → fits most bytes es ≡ false → OldestIsWhole es
     → kept_within most bytes es ≡ kept_within most bytes (drop (length (redo_of es)) es)
-whole-goes most bytes es h o =
-    let us = Whole (redo_of es) ∷ reverse (units (drop (length (redo_of es)) es)) in
-    ap (λ vs. together (reverse (units_kept most bytes vs))) o.first
-    ∙ ap (λ b. together (reverse (cond b us (units_kept most bytes (reverse (units (drop (length (redo_of es)) es))))))) (ap (fits most bytes) (whole-list es us o.first) ∙ h)
+whole-goes most bytes es h o = grind (arith, whole-list)
 
 -- the units before the place `at` went
 pub record Forgetting (most bytes : ℕ) (xs : List Change) (at : ℕ) : Type 0 where
@@ -186,9 +135,7 @@ Forgetting-stops most bytes at xs e f = (omega (arith, f.within, length-map xs e
 
 pub Forgetting-fits : (most bytes first at : ℕ) (xs : List Change) → first ≤ at → FitsFrom most bytes (map entry_of xs) first → Forgetting most bytes xs at
     → ForgetsFirst most bytes (map entry_of xs) at
-Forgetting-fits most bytes first at xs le c f =
-    Forgetting-stops most bytes at xs
-    (fitting-stay most bytes (map entry_of (drop at xs)) (ap (fits most bytes) (sym (drop-map entry_of at xs)) ∙ c.from at ∙ le-leb first at le)) f
+Forgetting-fits most bytes first at xs le c f = grind (arith, common_steps, fitting-stay, drop-map)
 
 -- the part of a list that is its oldest unit
 pub unit-is : (n : ℕ) (xs : List Change) → IsMatched (map entry_of xs) → n ≡ length (redo_of (map entry_of xs)) → map entry_of (take n xs) ≡ redo_of (map entry_of xs)
@@ -241,18 +188,14 @@ units_kept-opens most bytes (Whole es ∷ us) = from (fits most bytes (together 
     from false rest = rest
 
 kept-good : (most bytes : ℕ) (es : List Entry) → IsMatched es → AllGood (reverse (units_kept most bytes (reverse (units es))))
-kept-good most bytes es m =
-    AllGood-reverse (units_kept most bytes (reverse (units es))) (units_kept-good most bytes (reverse (units es)) (AllGood-reverse (units es) (units-good es m)))
+kept-good most bytes es m = grind (arith, AllGood-reverse, units_kept-good, units-good)
 
 -- the marks match, and as many groups are open
 pub IsMatched-kept : (most bytes : ℕ) (es : List Entry) → IsMatched es → IsMatched (kept_within most bytes es)
 IsMatched-kept most bytes es m = IsMatched-together (reverse (units_kept most bytes (reverse (units es)))) (kept-good most bytes es m)
 
 pub level-kept : (most bytes : ℕ) (es : List Entry) → IsMatched es → level (kept_within most bytes es) ≡ level es
-level-kept most bytes es m =
-    let us = units_kept most bytes (reverse (units es)) in
-    ap opens (good_cuts (reverse us) [] (kept-good most bytes es m) ∙ append-nil (reverse us)) ∙ opens-reverse us
-    ∙ units_kept-opens most bytes (reverse (units es)) ∙ opens-reverse (units es)
+level-kept most bytes es m = grind (arith, common_steps, good_cuts, kept-good, opens-reverse, units_kept-opens)
 
 -- from the Begin of an open group on all stays
 kept-from_open : (most bytes : ℕ) (us vs : List UndoUnit) → (stay : List UndoUnit) × (units_kept most bytes (us ++ Open ∷ vs) ≡ stay ++ Open ∷ vs)
@@ -284,10 +227,7 @@ group-stays most bytes front inside m =
     )
 
 pub AtLevel-forgotten : (most bytes n : ℕ) (r : Record) → AtLevel n r → AtLevel n (forgotten most bytes r)
-AtLevel-forgotten most bytes n r a = record {
-  matched = record { recorded = IsMatched-kept most bytes r.recorded a.matched.recorded; pending = a.matched.pending };
-  level = a.level ∙ sym (level-kept most bytes r.recorded a.matched.recorded);
-}
+AtLevel-forgotten most bytes n r a = grind (arith, IsMatched-kept, level-kept)
 
 -- a list that lost its first entries
 pub removed-front : (n : ℕ) (xs ys : List Change) → ys ≡ remove_range xs 0 n → map entry_of ys ≡ drop n (map entry_of xs)
@@ -296,15 +236,7 @@ removed-front n xs ys e = ap (map entry_of) e ∙ sym (drop-map entry_of n xs)
 -- where the record is cut then
 pub dropped-first : (n count : ℕ) (r : Record) (es now : List Entry) (fresh : Freshness) → n ≤ length es → cut_at n es fresh ≡ r → count ≤ length r.recorded → now ≡ drop count es
     → (n - count ≤ length now) × (cut_at (n - count) now fresh ≡ record r { recorded = drop count r.recorded })
-dropped-first n count r es now fresh within v few e =
-    let less : count ≤ n = omega (arith, few, ap (λ (s : Record). length s.recorded) v, length-take-le n es within) in
-    let sum : count + (n - count) ≡ n = omega (arith, less) in
-    let first : take (n - count) now ≡ drop count (take n es) = ap (take (n - count)) e ∙ sym (drop-take count (n - count) es) ∙ ap (λ j. drop count (take j es)) sum in
-    let rest : drop (n - count) now ≡ drop n es = ap (drop (n - count)) e ∙ drop-drop (n - count) count es ∙ ap (λ j. drop j es) sum in (
-      omega (arith, ap length e, length-drop count es, within, less),
-      ap (λ x. record { recorded = x; pending = drop (n - count) now; fresh = fresh }) first
-          ∙ ap (λ x. record { recorded = drop count (take n es); pending = x; fresh = fresh }) rest ∙ ap (λ (s : Record). record s { recorded = drop count s.recorded }) v,
-    )
+dropped-first n count r es now fresh within v few e = grind (arith, common_steps, drop-take)
 
 pub forgotten-is : (most bytes count : ℕ) (r : Record) (es : List Entry) → es ≡ r.recorded → ForgetsFirst most bytes es count
     → record r { recorded = drop count r.recorded } ≡ forgotten most bytes r
@@ -347,18 +279,13 @@ gone-kept most bytes es = ap (λ gone. gone ++ kept_within most bytes es) (gone-
 
 -- what went is matched by itself, and leaves no group open
 gone-good : (most bytes : ℕ) (es : List Entry) → IsMatched es → AllGood (reverse (went most bytes (reverse (units es))).0)
-gone-good most bytes es m =
-    let w = went most bytes (reverse (units es)) in
-    AllGood-reverse w.0 (AllGood-left w.0 (units_kept most bytes (reverse (units es))) (subst AllGood (sym w.1) (AllGood-reverse (units es) (units-good es m))))
+gone-good most bytes es m = grind (arith, AllGood-reverse, AllGood-left, units-good)
 
 pub gone-matched : (most bytes : ℕ) (es : List Entry) → IsMatched es → IsMatched (gone_within most bytes es)
-gone-matched most bytes es m =
-    subst IsMatched (sym (gone-is most bytes es)) (IsMatched-together (reverse (went most bytes (reverse (units es))).0) (gone-good most bytes es m))
+gone-matched most bytes es m = grind (arith, gone-is, IsMatched-together, gone-good)
 
 pub gone-level : (most bytes : ℕ) (es : List Entry) → IsMatched es → level (gone_within most bytes es) ≡ 0
-gone-level most bytes es m =
-    let w = went most bytes (reverse (units es)) in
-    ap level (gone-is most bytes es) ∙ ap opens (good_cuts (reverse w.0) [] (gone-good most bytes es m) ∙ append-nil (reverse w.0)) ∙ opens-reverse w.0 ∙ w.2
+gone-level most bytes es m = grind (arith, common_steps, gone-is, good_cuts, gone-good, opens-reverse)
 
 -- what is left fits, or begins with the Begin of an open group
 pub kept-fits : (most bytes : ℕ) (us : List UndoUnit) → (fits most bytes (together (reverse (units_kept most bytes us))) ≡ true) ⊎ (0 < opens us)
@@ -372,11 +299,7 @@ kept-fits most bytes (Whole es ∷ us) = from (fits most bytes (together (revers
     from false h rest = rest
 
 pub left-fits : (most bytes : ℕ) (es : List Entry) → level es ≡ 0 → fits most bytes (kept_within most bytes es) ≡ true
-left-fits most bytes es none =
-    elim (kept-fits most bytes (reverse (units es))) [
-      | inl h ↦ h
-      | inr some ↦ absurd (omega (arith, some, opens-reverse (units es), none))
-    ]
+left-fits most bytes es none = grind (arith, kept-fits, opens-reverse)
 
 -- what is left replays from the text that what went led to
 pub left-replays : (most bytes : ℕ) (es : List Entry) (start text : List ℕ) → replay_entries es start ≡ Some text
@@ -394,3 +317,7 @@ Walks-forgotten most bytes r text w =
     let kept = kept_within most bytes r.recorded in
     let (mid, first, after) = Walk-split gone kept w.start text (subst (λ es. Walk es w.start text) (sym (gone-kept most bytes r.recorded)) w.back) in
     record { start = mid; is_text = Walk-IsUtf8 gone w.start mid w.is_text first; back = after; end = w.end; ahead = w.ahead; stale = w.stale }
+
+pub ruleset none_forgotten = (forgotten-same)
+
+pub ruleset went_so_far = (Forgetting-fits, Forgetting-next, Forgetting-stops, open-stays, unit-is, unit-within, length-take-le, take_rest, Redoes-of)

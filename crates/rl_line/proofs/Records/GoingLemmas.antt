@@ -1,5 +1,5 @@
 -- A line that goes over one change: the range that gives way, the text that is made, and the cursor in it.
-use Rattle.rl_line.proofs.Common.{◌≡◌, ℕ, ◌+◌, ◌∙◌, [], ◌∷◌, List, Option, Some, None, IsSome, arith, ap, refl, sym, length, unwrap_or, replace_range, IsCharBoundary, max-eq_left, apply, event_of, inverse, new_text, old_text, cursor_after, cursor_told, line_back, place, Line, stepped, Entry, Changed, slice_range, ◌≤◌}
+use Rattle.rl_line.proofs.Common.{◌≡◌, ℕ, ◌+◌, ◌∙◌, [], ◌∷◌, List, Option, Some, None, IsSome, arith, ap, sym, length, unwrap_or, replace_range, IsCharBoundary, apply, event_of, inverse, new_text, old_text, cursor_after, cursor_told, line_back, place, Line, stepped, Entry, slice_range, ◌≤◌}
 use Rattle.rl_line.proofs.Records.ChangeLemmas.{StandsNew-from_IsSome, mark-leaves, place_after-is}
 use Rattle.rl_line.proofs.Records.UndoLemmas.{one-back, one-fits, one-stands}
 use Rattle.rl_line.specs.LineRanges.{IsRange}
@@ -30,12 +30,5 @@ goes_over e line at here follows =
     }
 
 -- a mark leaves the cursor, and the line
-mark-stays : (e : Entry) (cursor : ℕ) → place e ≡ None → cursor_after cursor (inverse e) ≡ cursor
-mark-stays (Changed k c) cursor p = cc
-mark-stays mark cursor p = refl
-
 pub over-mark : (e : Entry) (line : Line) → place e ≡ None → length line.text ≤ line.limit → IsSome (line_back (e ∷ []) line) → line_back (e ∷ []) line ≡ Some line
-over-mark e line none within follows =
-    let makes = mark-leaves e line.text none in
-    let same : line ≡ stepped line line.text line.cursor = ap (λ (n : ℕ). record line { limit = n }) (sym (max-eq_left within)) in
-    one-back e line line line.text makes (rw (mark-stays e line.cursor none) same) (one-stands e line follows line.text makes)
+over-mark e line none within follows = grind (arith, mark-leaves)

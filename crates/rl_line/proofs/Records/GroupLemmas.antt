@@ -1,11 +1,11 @@
 -- Groups: where an End stands its group stands before it, and a group without a change leaves no trace.
-use Rattle.rl_line.proofs.Common.{◌≡◌, ℕ, ◌+◌, suc, Bool, true, false, List, [], ◌∷◌, ◌++◌, length, drop, Option, Some, None, refl, sym, ap, subst, ◌∙◌, arith, append-nil, append_assoc, add-zero, or-true, or_assoc, IsSome, zero, not, ◌||◌, Event, Entry, Begin, End, Changed, Record, entries_after, entries_of, joined, last_told, UndoUnit, Open, Whole, close, units, together, opens, level, has_change, is_change, end_one, end_times, ends_in_begin, adds_end, begun, ended, marks, mark, IsMatched, GroupAt, InGroup, Hears, Begins, after_in_group}
+use Rattle.rl_line.proofs.Common.{common_steps, ◌≡◌, ℕ, ◌+◌, suc, Bool, true, false, List, [], ◌∷◌, ◌++◌, length, drop, Option, Some, None, refl, sym, ap, subst, ◌∙◌, arith, append-nil, append_assoc, add-zero, or-true, or_assoc, IsSome, zero, not, ◌||◌, Event, Entry, Begin, End, Changed, Record, entries_after, entries_of, joined, UndoUnit, Open, Whole, close, units, together, opens, level, has_change, is_change, end_one, end_times, ends_in_begin, adds_end, begun, ended, marks, mark, IsMatched, GroupAt, InGroup, Hears, Begins, after_in_group}
 use Rattle.rl_line.specs.Record.{record_step}
 use Rattle.rl_line.proofs.Records.LastLemmas.{after-past, end_one-begin, ends-past, ends_in}
 use Rattle.rl_line.proofs.Records.RecordLemmas.{joins, value_of}
 use Rattle.rl_line.proofs.Records.UnitLemmas.{AllGood, AllGood-left, together-append, Settles, flags_on, cut_good, cut_more-append, good_cuts, units-good, together-units, IsMatched-front, IsMatched-together}
 use Rattle.rl_line.proofs.Records.MatchLemmas.{marks-last, level-is, IsMatched-after, IsMatched-begin}
-use Rattle.rl_line.proofs.Records.ToldLemmas.{recorded-cases, last_told-marks, last_told-begin}
+use Rattle.rl_line.proofs.Records.ToldLemmas.{last_told-marks, last_told-begin}
 
 pub has_change-append : (xs ys : List Entry) → has_change (xs ++ ys) ≡ has_change xs || has_change ys
 has_change-append [] ys = refl
@@ -156,25 +156,10 @@ Inside front r = InsideOf front r.recorded
 
 pub Inside-event : (event : Event) (front : List Entry) (r : Record) → Inside front r → Inside front (record_step r event)
 unfolding record_step
-Inside-event event front r k =
-    recorded-cases (λ es. InsideOf front es) event r
-    (record {
-      inner = entries_after event k.inner;
-      is = ap (entries_after event) k.is ∙ entries_after-inside event front k.inner;
-      matched = IsMatched-after event k.inner k.matched;
-    })
-    (λ es p i. record {
-      inner = last_told p i.inner;
-      is = ap (last_told p) i.is ∙ last_told-begin p front i.inner;
-      matched = subst IsSome (sym (last_told-marks p i.inner [])) i.matched;
-    })
+Inside-event event front r k = grind (arith, entries_after-inside, IsMatched-after, last_told-begin, last_told-marks)
 
 pub Inside-begun : (front : List Entry) (r : Record) → Inside front r → Inside front (begun r)
-Inside-begun front r k = record {
-  inner = k.inner ++ Begin ∷ [];
-  is = ap (λ x. x ++ Begin ∷ []) k.is ∙ append_assoc front (Begin ∷ k.inner) (Begin ∷ []);
-  matched = IsMatched-begin k.inner k.matched;
-}
+Inside-begun front r k = grind (arith, common_steps, IsMatched-begin)
 
 pub Inside-steps : (steps : List InGroup) (front : List Entry) (r : Record) → Inside front r → Inside front (after_in_group steps r)
 Inside-steps [] front r k = k

@@ -1,10 +1,11 @@
 -- What a listener hears of a line that goes over its record.
-use Rattle.rl_line.proofs.Common.{◌≡◌, ℕ, ◌^◌, ◌<◌, ◌≤◌, ◌⊎◌, inl, inr, zero, suc, true, max, List, [], ◌∷◌, ◌++◌, length, map, reverse, Some, refl, sym, ap, subst, append_assoc, ◌∙◌, arith, map-append, reverse-append, map-map, same_Some, Any, get_or, option_and_then, IsCharBoundary, Event, Replace, Refusal, NoMemory, HeardInPart, Line, NeedsRoom, stepped, Step, after, listener_after, listener_after_step, Entry, Changed, event_of, inverse, new_text, old_text, place, cursor_after, line_after, line_ahead, line_back, steps_ahead, steps_back, texts_after, texts_ahead, texts_back, has_change}
+use Rattle.rl_line.proofs.Common.{common_steps, ◌≡◌, ℕ, ◌^◌, ◌<◌, ◌≤◌, ◌⊎◌, inl, inr, zero, suc, true, max, List, [], ◌∷◌, ◌++◌, length, map, reverse, Some, refl, sym, ap, subst, append_assoc, ◌∙◌, arith, map-append, reverse-append, map-map, same_Some, Any, get_or, option_and_then, IsCharBoundary, Event, Replace, Refusal, NoMemory, HeardInPart, Line, NeedsRoom, stepped, Step, after, listener_after, listener_after_step, Entry, Changed, event_of, inverse, new_text, old_text, place, cursor_after, line_after, line_ahead, line_back, steps_ahead, steps_back, texts_after, texts_ahead, texts_back, has_change, drop_all, take-append-drop}
 use Rattle.rl_base.specs.Event.{apply}
 use Rattle.rl_line.proofs.Plans.PlanLemmas.{Fits-from, standing-is}
 use Rattle.rl_line.proofs.Records.RecordLemmas.{through}
 use Rattle.rl_line.proofs.Records.TurnLemmas.{has_change-turned, turned-cons, turned-turned}
-use Rattle.rl_line.proofs.Records.UndoLemmas.{line_ahead-back}
+use Rattle.rl_line.proofs.Records.UndoLemmas.{entries_from, line_ahead-back}
+use Rattle.rl_line.proofs.Records.ChangeLemmas.{place-entry_to_undo, place_after-is, length-order}
 
 -- going back is going ahead over the inverses, the last first
 pub line_back-ahead : (es : List Entry) (line : Line) → line_ahead (map inverse (reverse es)) line ≡ line_back es line
@@ -26,9 +27,7 @@ cursor-gone e line next h = ap (λ (l : Line). l.cursor) (Fits-from (event_of e)
 -- ---- the steps lead the line where the entries do
 -- a mark leaves a line whose text keeps to its limit
 by_a_mark : (line next : Line) → length line.text ≤ line.limit → stepped line line.text line.cursor ≡ next → next ≡ line
-by_a_mark line next within is =
-    let same : max line.limit (length line.text) ≡ line.limit = omega (arith, within) in
-    sym is ∙ ap (λ n. record line { limit = n }) same
+by_a_mark line next within is = grind arith
 
 pub after-steps_ahead : (es : List Entry) (line now : Line) → IsCharBoundary line.text line.cursor → length line.text ≤ line.limit → line_ahead es line ≡ Some now
     → after (steps_ahead line.cursor es) line ≡ Some now
@@ -71,8 +70,7 @@ cursor_past-ahead (e ∷ es) line now h =
     let p = through (line_ahead es) (line_after e line) now h in ap (λ k. cursor_past k es) (sym (cursor-gone e line p.0 p.1)) ∙ cursor_past-ahead es p.0 now p.2
 
 pub cursor_past_back-one_more : (e : Entry) (es : List Entry) (cursor : ℕ) → cursor_past_back cursor (e ∷ es) ≡ cursor_after (cursor_past_back cursor es) (inverse e)
-cursor_past_back-one_more e es cursor =
-    ap (cursor_past cursor) (turned-cons e es) ∙ cursor_past-append (map inverse (reverse es)) (inverse e) cursor
+cursor_past_back-one_more e es cursor = grind (arith, turned-cons, cursor_past-append)
 
 steps_ahead-append : (es ds : List Entry) (cursor : ℕ) → steps_ahead cursor (es ++ ds) ≡ steps_ahead cursor es ++ steps_ahead (cursor_past cursor es) ds
 steps_ahead-append [] ds cursor = refl
@@ -84,12 +82,7 @@ steps_ahead-append (mark ∷ es) ds cursor = steps_ahead-append es ds cursor
 -- the way back over entries is that over the last ones, and then over those before them
 steps_back-parts : (more : List Entry) (e : Entry) (es : List Entry) (cursor : ℕ)
     → steps_back cursor (more ++ e ∷ es) ≡ steps_back cursor es ++ steps_ahead (cursor_past_back cursor es) (inverse e ∷ map inverse (reverse more))
-steps_back-parts more e es cursor =
-    let back = map inverse (reverse es) in
-    ap (steps_ahead cursor)
-    (ap (map inverse) (reverse-append more (e ∷ es) ∙ ap (λ l. l ++ reverse more) (reverse-append (e ∷ []) es) ∙ append_assoc (reverse es) (e ∷ []) (reverse more))
-    ∙ map-append inverse (reverse es) (e ∷ reverse more))
-    ∙ steps_ahead-append back (inverse e ∷ map inverse (reverse more)) cursor
+steps_back-parts more e es cursor = grind (arith, common_steps, steps_ahead-append)
 
 same_room : (text : List ℕ) → NeedsRoom text text → ⊥
 same_room text (inl longer) = omega (arith, longer)
@@ -134,9 +127,7 @@ module _ {L : Type 0} (step : L → Event → L) where
   ahead-one_more : (es : List Entry) (e : Entry) (line now : Line) (l : L) → line_ahead es line ≡ Some now
       → listener_after step line.cursor (steps_ahead line.cursor (es ++ e ∷ [])) l
       ≡ listener_after step now.cursor (steps_ahead now.cursor (e ∷ [])) (listener_after step line.cursor (steps_ahead line.cursor es) l)
-  ahead-one_more es e line now l h =
-      ap (λ ss. listener_after step line.cursor ss l) (steps_ahead-append es (e ∷ []) line.cursor) ∙ heard-past es line.cursor (steps_ahead (cursor_past line.cursor es) (e ∷ [])) l
-      ∙ ap (λ k. listener_after step k (steps_ahead k (e ∷ [])) (listener_after step line.cursor (steps_ahead line.cursor es) l)) (cursor_past-ahead es line now h)
+  ahead-one_more es e line now l h = grind (arith, steps_ahead-append, heard-past, cursor_past-ahead)
 
   pub back-past : (e : Entry) (es : List Entry) (cursor : ℕ) (l : L)
       → listener_after step cursor (steps_back cursor (e ∷ es)) l
@@ -183,6 +174,8 @@ module _ {L : Type 0} (step : L → Event → L) where
   pub back-one_more : (e : Entry) (es : List Entry) (line now : Line) (l : L) → line_back es line ≡ Some now
       → listener_after step line.cursor (steps_back line.cursor (e ∷ es)) l
       ≡ listener_after step now.cursor (steps_ahead now.cursor (inverse e ∷ [])) (listener_after step line.cursor (steps_back line.cursor es) l)
-  back-one_more e es line now l h =
-      ap (λ ds. listener_after step line.cursor (steps_ahead line.cursor ds) l) (turned-cons e es)
-      ∙ ahead-one_more (map inverse (reverse es)) (inverse e) line now l (line_back-ahead es line ∙ h)
+  back-one_more e es line now l h = grind (arith, common_steps, ahead-one_more, line_back-ahead)
+
+pub ruleset heard_one = (HeardInPart-one, place-entry_to_undo, place_after-is)
+
+pub ruleset heard_all = (HeardInPart-back, back-past, entries_from, cursor_past_back-one_more, drop_all, map-append, take-append-drop, length-order)

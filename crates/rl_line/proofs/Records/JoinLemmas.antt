@@ -1,5 +1,5 @@
 -- The last recorded entry, where an event joins it and where it does not.
-use Rattle.rl_line.proofs.Common.{Bool, if◌then◌else◌, eqb-true, true, ◌==◌, Added, Change, Changed, Cursors, Delete, Deletion, Direction, Entry, Event, Forward, Freshness, InsertChar, InsertStr, Insertion, Joined, Joins, List, None, Record, Replace, Replacement, Some, Stale, Start, Stop, TakesIn, [], added, after, ap, append-nil, arith, cut_at, drop, drop-map, drop-set-lt, drop_all, encode_utf8, entries_after, entries_told, entry_of, false, freshness_added, freshness_of, get_or, joined, last_told, length, length-append, length-map, length-take-le, map, map-append, map-set_same, nil_from_length, refl, set, settled, subst, sym, take, take-map, take_all, take_at_read, take_more_set, untold, with_cursors, ℕ, ◌++◌, ◌+◌, ◌-◌, ◌<◌, ◌∙◌, ◌∷◌, ◌≡◌, ◌≤◌}
+use Rattle.rl_line.proofs.Common.{common_steps, Bool, if◌then◌else◌, true, ◌==◌, Added, Change, Changed, Cursors, Delete, Deletion, Direction, Entry, Event, Forward, Freshness, InsertChar, InsertStr, Insertion, Joins, List, None, Record, Replace, Replacement, Some, Stale, Start, Stop, TakesIn, [], added, after, ap, append-nil, arith, cut_at, drop, drop-map, drop-set-lt, encode_utf8, entries_after, entries_told, entry_of, false, freshness_added, freshness_of, get_or, joined, last_told, length, map, map-append, map-set_same, nil_from_length, refl, set, settled, subst, sym, take, take-map, take_at_read, take_more_set, untold, with_cursors, ℕ, ◌++◌, ◌+◌, ◌-◌, ◌<◌, ◌∙◌, ◌∷◌, ◌≡◌, ◌≤◌}
 use Rattle.std.specs.Str.{chars}
 use Rattle.unicode_segmentation.specs.Segments.{cut, segments}
 use Rattle.rl_base.specs.Event.{apply}
@@ -31,8 +31,7 @@ told-last-of cursors xs n x y le some is e =
     l.now ∙ ap (λ z. l.front ++ z ∷ []) e ∙ sym (ap (last_told cursors) l.was ∙ last_told-past cursors l.front (entry_of x) [])
 
 pub told-others : (xs : List Change) (n : ℕ) (y : Change) → 0 < n → drop n (map entry_of (set xs (n - 1) y)) ≡ drop n (map entry_of xs)
-told-others xs n y some =
-    drop-map entry_of n (set xs (n - 1) y) ∙ ap (map entry_of) (drop-set-lt n xs (n - 1) y (omega arith)) ∙ sym (drop-map entry_of n xs)
+told-others xs n y some = grind (arith, drop-map, drop-set-lt)
 
 -- one that stands for the same entry
 same-at : (xs : List Change) (k : ℕ) (x y : Change) → x ≡ get_or xs k x → entry_of y ≡ entry_of x → map entry_of (set xs k y) ≡ map entry_of xs
@@ -60,8 +59,7 @@ step-Replace r i s t = refl
 
 heard-is : (event : Event) (r : Record) (es : List Entry) (fresh : Freshness) → record_step r event ≡ heard event r → entries_after event r.recorded ≡ es → freshness_of event r.recorded ≡ fresh
     → record_step r event ≡ record { recorded = es; pending = []; fresh = fresh }
-heard-is event r es fresh step e f =
-    step ∙ ap (λ l. record { recorded = l; pending = []; fresh = freshness_of event r.recorded }) e ∙ ap (λ g. record { recorded = es; pending = []; fresh = g }) f
+heard-is event r es fresh step e f = grind arith
 
 pub joins : (event : Event) (r : Record) (xs : List Change) (n : ℕ) (fresh told : Freshness) (x y : Change) → record_step r event ≡ heard event r → n ≤ length xs → cut_at n (map entry_of xs) fresh ≡ r
     → 0 < n → x ≡ get_or xs (n - 1) x → TakesIn event (entry_of x) (entry_of y) (Some told) → settled told (cut_at n (map entry_of (set xs (n - 1) y)) fresh) ≡ record_step r event
@@ -79,9 +77,7 @@ joins-not event r xs n fresh x y step le v some is t =
     (ap (λ es. cut_at n es fresh) (same-at xs (n - 1) x y is t.1) ∙ v, heard-is event r _ _ step apart.0 apart.1)
 
 pub joins-nothing : (event : Event) (r : Record) (es : List Entry) (n : ℕ) (fresh : Freshness) → record_step r event ≡ heard event r → cut_at n es fresh ≡ r → n ≡ 0 → Joins event r r false
-joins-nothing event r es n fresh step v none =
-    let empty : r.recorded ≡ [] = ap (λ (s : Record). s.recorded) (sym v) ∙ ap (λ k. take k es) none in
-    (refl, heard-is event r _ _ step (ap (entries_after event) empty ∙ ap (λ l. l ++ entries_of event) (sym empty)) (ap (freshness_of event) empty))
+joins-nothing event r es n fresh step v none = grind arith
 
 pub stays-err : (xs : List Change) (n : ℕ) (fresh : Freshness) (r : Record) (x y : Change) → cut_at n (map entry_of xs) fresh ≡ r → x ≡ get_or xs (n - 1) x → entry_of y ≡ entry_of x
     → cut_at n (map entry_of (set xs (n - 1) y)) fresh ≡ r
@@ -94,42 +90,20 @@ unfolding record_step
 step-Cursors r before after = refl
 
 pub told-stale : (r : Record) (before after : ℕ) → r.fresh ≡ Stale → r ≡ record_step r (Cursors before after)
-told-stale r before after e =
-    ap (λ f. record { recorded = r.recorded; pending = r.pending; fresh = f }) e
-    ∙ ap (λ f. record { recorded = entries_told f before after r.recorded; pending = r.pending; fresh = Stale }) (sym e) ∙ sym (step-Cursors r before after)
+told-stale r before after e = grind (arith, step-Cursors)
 
 pub told-nothing : (r : Record) (es : List Entry) (n before after : ℕ) (fresh : Freshness) → cut_at n es fresh ≡ r → n ≡ 0 → cut_at n es Stale ≡ record_step r (Cursors before after)
-told-nothing r es n before after fresh v none =
-    let empty : r.recorded ≡ [] = ap (λ (s : Record). s.recorded) (sym v) ∙ ap (λ k. take k es) none in
-    ap (λ (s : Record). record { recorded = s.recorded; pending = s.pending; fresh = Stale }) v
-    ∙ ap (λ l. record { recorded = l; pending = r.pending; fresh = Stale }) (nothing-told r.fresh empty) ∙ sym (step-Cursors r before after)
-  where
-    nothing-told : (fresh : Freshness) {es : List Entry} → es ≡ [] → es ≡ entries_told fresh before after es
-    nothing-told Stale e = refl
-    nothing-told Added e = e ∙ ap (last_told (before, after)) (sym e)
-    nothing-told (Joined first) e = e ∙ ap (last_told (first, after)) (sym e)
+told-nothing r es n before after fresh v none = grind (arith, step-Cursors)
 
 pub told-last : (r : Record) (xs : List Change) (n before after first : ℕ) (fresh : Freshness) (x y : Change) → n ≤ length xs → cut_at n (map entry_of xs) fresh ≡ r → 0 < n
     → x ≡ get_or xs (n - 1) x → entry_of y ≡ with_cursors (first, after) (entry_of x) → ((es : List Entry) → last_told (first, after) es ≡ entries_told fresh before after es)
     → cut_at n (map entry_of (set xs (n - 1) y)) Stale ≡ record_step r (Cursors before after)
-told-last r xs n before after first fresh x y le v some is e told =
-    let es = map entry_of (set xs (n - 1) y) in
-    ap (λ l. record { recorded = l; pending = drop n es; fresh = Stale }) (told-last-of (first, after) xs n x y le some is e ∙ told (take n (map entry_of xs)))
-    ∙ ap (λ l. record { recorded = entries_told fresh before after (take n (map entry_of xs)); pending = l; fresh = Stale }) (told-others xs n y some)
-    ∙ ap (λ (s : Record). record { recorded = entries_told s.fresh before after s.recorded; pending = s.pending; fresh = Stale }) v ∙ sym (step-Cursors r before after)
+told-last r xs n before after first fresh x y le v some is e told = grind (arith, told-last-of, told-others, step-Cursors)
 
 -- an entry that is added, and none
 pub added-entry : (xs now : List Change) (n k : ℕ) (e : Change) (fresh : Freshness) (told : Freshness) (r : Record) → n ≤ length xs → cut_at n (map entry_of xs) fresh ≡ r
     → now ≡ take n xs ++ e ∷ [] → k ≡ n + 1 → (k ≤ length now) × (cut_at k (map entry_of now) told ≡ added (entry_of e) told r)
-added-entry xs now n k e fresh told r le v is at =
-    let es : map entry_of now ≡ take n (map entry_of xs) ++ entry_of e ∷ [] =
-    ap (map entry_of) is ∙ map-append entry_of (take n xs) (e ∷ []) ∙ ap (λ l. l ++ entry_of e ∷ []) (sym (take-map entry_of n xs)) in
-    let long : length now ≡ n + 1 = ap length is ∙ length-append (take n xs) (e ∷ []) ∙ ap (λ m. m + 1) (length-take-le n xs le) in
-    let past : length (map entry_of now) ≤ k = omega (arith, long, length-map now entry_of, at) in (
-      omega (arith, long, at),
-      ap (λ l. record { recorded = l; pending = drop k (map entry_of now); fresh = told }) (take_all k (map entry_of now) past ∙ es ∙ ap (λ (s : Record). s.recorded ++ entry_of e ∷ []) v)
-          ∙ ap (λ l. record { recorded = r.recorded ++ entry_of e ∷ []; pending = l; fresh = told }) (drop_all k (map entry_of now) past),
-    )
+added-entry xs now n k e fresh told r le v is at = grind (arith, common_steps, take-map)
 
 -- ---- events that join nothing
 joins_nothing : (event : Event) → ((e : Entry) → joined event e ≡ None) → (es : List Entry) → IsApart event es
@@ -167,9 +141,7 @@ fresh-InsertStr-nothing es i s e =
     ap (λ (t : List ℕ). freshness_of (InsertStr i t) es) (nil_from_length s e) ∙ (joins_nothing (InsertStr i []) (λ e. refl) es).1
 
 pub inserts-nothing : (r : Record) (i : ℕ) (s : List ℕ) → (length s == 0) ≡ true → settled Stale r ≡ record_step r (InsertStr i s)
-inserts-nothing r i s e =
-    let none = eqb-true (length s) 0 e in
-    sym (heard-is (InsertStr i s) r r.recorded Stale (step-InsertStr r i s) (after-InsertStr-nothing r.recorded i s none) (fresh-InsertStr-nothing r.recorded i s none))
+inserts-nothing r i s e = grind (arith, step-InsertStr, after-InsertStr-nothing, fresh-InsertStr-nothing)
 
 text-Entry : (s : List ℕ) (e : Entry) → (length s == 0) ≡ false → (if length s == 0 then [] else e ∷ []) ≡ e ∷ []
 text-Entry s e some = ap (λ (b : Bool). if b then [] else e ∷ []) some
@@ -198,9 +170,7 @@ fresh-Delete-nothing es i s side e =
     ap (λ (t : List ℕ). freshness_of (Delete i t side) es) (nil_from_length s e) ∙ (joins_nothing (Delete i [] side) (joined-nothing i side) es).1
 
 pub deletes-nothing : (r : Record) (i : ℕ) (s : List ℕ) (side : Direction) → (length s == 0) ≡ true → settled Stale r ≡ record_step r (Delete i s side)
-deletes-nothing r i s side e =
-    let none = eqb-true (length s) 0 e in
-    sym (heard-is (Delete i s side) r r.recorded Stale (step-Delete r i s side) (after-Delete-nothing r.recorded i s side none) (fresh-Delete-nothing r.recorded i s side none))
+deletes-nothing r i s side e = grind (arith, step-Delete, after-Delete-nothing, fresh-Delete-nothing)
 
 -- an event that did not join adds its entry
 pub adds-InsertChar : (r now : Record) (i c : ℕ) → Joins (InsertChar i c) r now false → added (Changed Insertion (untold i [] (encode_utf8 c))) Added now ≡ record_step r (InsertChar i c)
@@ -210,17 +180,12 @@ adds-InsertChar r now i c j = ap (added (Changed Insertion (untold i [] (encode_
 pub adds-Delete : (r now : Record) (i : ℕ) (s t : List ℕ) (side : Direction) → (length s == 0) ≡ false → t ≡ s → Joins (Delete i s side) r now false
     → added (Changed Deletion (untold i t [])) Added now ≡ record_step r (Delete i s side)
 unfolding entries_of
-adds-Delete r now i s t side some e j =
-    let one = text-Entry s (Changed Deletion (untold i s [])) some in
-    ap (λ u. added (Changed Deletion (untold i u [])) Added now) e ∙ ap (added (Changed Deletion (untold i s [])) Added) j.0
-    ∙ ap (λ l. record { recorded = r.recorded ++ l; pending = []; fresh = freshness_added l }) (sym one) ∙ sym j.1
+adds-Delete r now i s t side some e j = grind arith
 
 pub adds-Replace : (r now : Record) (i : ℕ) (s t a b : List ℕ) → a ≡ s → b ≡ t → Joins (Replace i s t) r now false
     → added (Changed Replacement (untold i a b)) Added now ≡ record_step r (Replace i s t)
 unfolding entries_of
-adds-Replace r now i s t a b e f j =
-    ap (λ u. added (Changed Replacement (untold i u b)) Added now) e ∙ ap (λ u. added (Changed Replacement (untold i s u)) Added now) f
-    ∙ ap (added (Changed Replacement (untold i s t)) Added) j.0 ∙ sym j.1
+adds-Replace r now i s t a b e f j = grind arith
 
 -- ---- the side from which a text is taken is not recorded
 same-side : (i : ℕ) (s : List ℕ) (side : Direction) (es : List Entry)
@@ -232,8 +197,8 @@ same-side i s side (e ∷ (d ∷ ds)) = let rest = same-side i s side (d ∷ ds)
 
 pub record_step-side : (i : ℕ) (s : List ℕ) (side : Direction) (r : Record) → record_step r (Delete i s Forward) ≡ record_step r (Delete i s side)
 unfolding record_step
-record_step-side i s side r =
-    ap (λ es. record { recorded = es; pending = []; fresh = freshness_of (Delete i s Forward) r.recorded }) (same-side i s side r.recorded).0
-    ∙ ap (λ f. record { recorded = entries_after (Delete i s side) r.recorded; pending = []; fresh = f }) (same-side i s side r.recorded).1
+record_step-side i s side r = grind (arith, same-side)
 
-pub ruleset alone = (record_step-Start, record_step-Stop)
+pub ruleset alone = (record_step-Start, record_step-Stop, record_step-side)
+
+pub ruleset adds = (adds-Delete, adds-InsertChar, adds-Replace, deletes-nothing, inserts, inserts-nothing)

@@ -1,14 +1,14 @@
 -- The level: how many groups are open after each call, counted over the entries that it moves or drops alone.
-use Rattle.rl_line.proofs.Common.{Ahead, AtLevel, Back, Begin, Bool, BothMatched, Change, Changed, End, Entry, Event, IsMatched, List, Reaches, Record, Some, Way, [], ap, arith, begun, count_over, deep, drop, entries_after, entries_of, entry_of, false, get_or, inl, inr, is_change, joined, kept_of, last_of, length, length-map, length-take, level, map, map-append, mark, marks, max, moved, opens, recorded_after, redo_of, refl, subst, suc, sym, take, take-append-drop, touched, true, truncated, unit_of, units, with_closed, ℕ, ◌++◌, ◌+◌, ◌-◌, ◌<◌, ◌^◌, ◌∙◌, ◌∷◌, ◌≡◌, ◌≤◌}
+use Rattle.rl_line.proofs.Common.{common_steps, Ahead, AtLevel, Back, Begin, Bool, BothMatched, Change, Changed, End, Entry, Event, IsMatched, List, Reaches, Record, Some, Way, [], ap, arith, begun, count_over, deep, drop, entries_after, entries_of, entry_of, false, get_or, inl, inr, is_change, joined, kept_of, last_of, length, length-map, length-take, level, map, map-append, mark, marks, max, moved, opens, recorded_after, redo_of, refl, subst, suc, sym, take, take-append-drop, touched, true, truncated, unit_of, units, with_closed, ℕ, ◌++◌, ◌+◌, ◌-◌, ◌<◌, ◌^◌, ◌∙◌, ◌∷◌, ◌≡◌, ◌≤◌, take_all}
 use Rattle.rl_line.specs.Record.{record_step}
 use Rattle.rl_line.proofs.Records.CountLemmas.{level-counted}
-use Rattle.rl_line.proofs.Records.EntryLemmas.{deep-append}
-use Rattle.rl_line.proofs.Records.LastLemmas.{after-cases, read-last}
-use Rattle.rl_line.proofs.Records.MoveLemmas.{first-view, unit-within}
+use Rattle.rl_line.proofs.Records.EntryLemmas.{deep-append, deep-next}
+use Rattle.rl_line.proofs.Records.LastLemmas.{after-cases}
+use Rattle.rl_line.proofs.Records.MoveLemmas.{first-view, unit-within, GoesAs-all, GoesOver-of, marks-over, moved-at, unit-reaches}
 use Rattle.rl_line.proofs.Records.MatchLemmas.{AllGood-take, BothMatched-begun, BothMatched-closed, BothMatched-redone, BothMatched-step, BothMatched-truncated, BothMatched-undone, Lower-end_times, Redoes-of, length-touched, level-is, marks-last}
 use Rattle.rl_line.proofs.Records.RecordLemmas.{joins, none_or_one, value_of}
 use Rattle.rl_line.proofs.Records.UnitLemmas.{IsMatched-front, IsMatched-together, cut_more-append, kept-last, opens-append, units-append, units-good}
-use Rattle.rl_line.proofs.Records.ToldLemmas.{recorded-cases, last_told-deep}
+use Rattle.rl_line.proofs.Records.ToldLemmas.{last_told-deep}
 
 -- ---- an event
 deep-entries_of : (event : Event) (d : ℕ) → deep d (entries_of event) ≡ d
@@ -25,12 +25,7 @@ deep-after event es d =
 
 pub AtLevel-step : (event : Event) (n : ℕ) (r : Record) → AtLevel n r → AtLevel n (record_step r event)
 unfolding record_step
-AtLevel-step event n r a = record {
-  matched = BothMatched-step r event a.matched;
-  level =
-      let counted = recorded-cases (λ es. deep 0 es ≡ deep 0 r.recorded) event r (deep-after event r.recorded 0) (λ es p e. last_told-deep p es 0 ∙ e) in
-      a.level ∙ level-counted r.recorded a.matched.recorded ∙ sym counted ∙ sym (level-counted (recorded_after event r) (BothMatched-step r event a.matched).recorded);
-}
+AtLevel-step event n r a = grind (arith, BothMatched-step, deep-after, last_told-deep, level-counted)
 
 pub AtLevel-heard : (event : Event) (n : ℕ) (r now : Record) → now ≡ record_step r event → AtLevel n r → AtLevel n now
 AtLevel-heard event n r now e a = subst (AtLevel n) (sym e) (AtLevel-step event n r a)
@@ -124,17 +119,9 @@ pub record LevelAt (xs : List Change) (len at n : ℕ) : Type 0 where
   pub cut : length xs - at ≤ length xs - len
   pub level : n ≡ level (map entry_of (take at xs))
 
--- the entries after which the count stands are those before the last of them, and that one
-front-last : (xs : List Change) (len at : ℕ) (z x : Change) → len < at → at ≤ length xs → get_or xs (at - 1) z ≡ x
-    → map entry_of (take at xs) ≡ map entry_of (take (at - 1) xs) ++ entry_of x ∷ []
-front-last xs len at z x lt within e =
-    let k : at ≡ (at - 1) + 1 = omega arith in
-    ap (λ m. map entry_of (take m xs)) k ∙ read-last entry_of xs (at - 1) z x (omega arith) e
-
 pub opened-before : (xs : List Change) (len at n : ℕ) (z x : Change) → len < at → get_or xs (at - 1) z ≡ x → entry_of x ≡ Begin → LevelAt xs len at n
     → n ≡ suc (level (map entry_of (take (at - 1) xs)))
-opened-before xs len at n z x lt e b l =
-    l.level ∙ ap level (front-last xs len at z x lt l.within e ∙ ap (λ f. map entry_of (take (at - 1) xs) ++ f ∷ []) b) ∙ level-begin (map entry_of (take (at - 1) xs))
+opened-before xs len at n z x lt e b l = grind (arith, common_steps, level-begin)
 
 pub LevelAt-begin : (xs : List Change) (len at n : ℕ) (z x : Change) → len < at → get_or xs (at - 1) z ≡ x → entry_of x ≡ Begin → LevelAt xs len at n → LevelAt xs len (at - 1) (n - 1)
 LevelAt-begin xs len at n z x lt e b l = record {
@@ -145,14 +132,7 @@ LevelAt-begin xs len at n z x lt e b l = record {
 
 pub LevelAt-end : (xs : List Change) (len at n : ℕ) (z x : Change) → IsMatched (map entry_of xs) → len < at → get_or xs (at - 1) z ≡ x → entry_of x ≡ End → LevelAt xs len at n
     → LevelAt xs len (at - 1) (n + 1)
-LevelAt-end xs len at n z x m lt e b l =
-    let is = front-last xs len at z x lt l.within e ∙ ap (λ f. map entry_of (take (at - 1) xs) ++ f ∷ []) b in
-    let one = level-end (map entry_of (take (at - 1) xs)) (subst IsMatched is (front-matched xs at m)) in
-    record {
-      within = omega (arith, l.within);
-      cut = omega (arith, l.within, lt);
-      level = omega (arith, l.level, ap level is, one);
-    }
+LevelAt-end xs len at n z x m lt e b l = grind (arith, common_steps, level-end, front-matched)
 
 pub level-change : (es : List Entry) (e : Entry) → is_change e ≡ true → level (es ++ e ∷ []) ≡ level es
 level-change es (Changed k c) h = ap opens (cut_more-append [] es (Changed k c ∷ []))
@@ -169,16 +149,19 @@ AtLevel-one way n l r e is one a =
 
 pub LevelAt-change : (xs : List Change) (len at n : ℕ) (z x : Change) → len < at → get_or xs (at - 1) z ≡ x → is_change (entry_of x) ≡ true → LevelAt xs len at n
     → LevelAt xs len (at - 1) n
-LevelAt-change xs len at n z x lt e b l = record {
-  within = omega (arith, l.within);
-  cut = omega (arith, l.within, lt);
-  level = l.level ∙ ap level (front-last xs len at z x lt l.within e) ∙ level-change (map entry_of (take (at - 1) xs)) (entry_of x) b;
-}
+LevelAt-change xs len at n z x lt e b l = grind (arith, common_steps, level-change)
 
 -- no count is past the list's length
 pub LevelAt-small : (xs : List Change) (len at n : ℕ) → IsMatched (map entry_of xs) → LevelAt xs len at n → n ≤ at
-LevelAt-small xs len at n m l =
-    omega (arith, l.level, level-within (map entry_of (take at xs)) (front-matched xs at m), length-map (take at xs) entry_of, length-take at xs)
+LevelAt-small xs len at n m l = grind (arith, level-within, front-matched, length-map, length-take)
 
 pub LevelAt-done : (xs : List Change) (len at n : ℕ) → at ≤ len → LevelAt xs len at n → n ≡ level (take len (map entry_of xs))
 LevelAt-done xs len at n le l = l.level ∙ ap level (first-view len at xs (omega (arith, l.within, l.cut, le)))
+
+pub ruleset levels = (AtLevel-begun, AtLevel-truncated, level-within)
+
+pub ruleset levels_counted = (level-counted, deep-next, take_all)
+
+pub ruleset levels_at = (LevelAt-begin, LevelAt-change, LevelAt-done, LevelAt-end, LevelAt-small, opened-before)
+
+pub ruleset moves_of_units = (AtLevel-moved, level-reaches, length-map, GoesAs-all, GoesOver-of, marks-over, moved-at, unit-reaches, unit-within)

@@ -3,7 +3,7 @@ use Rattle.rl_line.proofs.Common.{◌≡◌, ℕ, ◌+◌, ◌-◌, ◌≤◌, s
 use Rattle.rl_base.proofs.Texts.SwapLemmas.{some_is}
 use Rattle.rl_line.specs.Record.{record_step}
 use Rattle.rl_line.proofs.Records.LastLemmas.{after-cases, by_last, end_one-cases, ends-past}
-use Rattle.rl_line.proofs.Records.RecordLemmas.{IsSome-through, joins, none_or_one, through, value_of}
+use Rattle.rl_line.proofs.Records.RecordLemmas.{IsSome-through, joins, none_or_one, value_of}
 use Rattle.rl_line.proofs.Records.UnitLemmas.{oldest, AllGood, flags_on, marks-append, IsMatched-front, IsMatched-append, IsMatched-together, AllGood-left, AllGood-right, units-good, kept-last, cut_good}
 use Rattle.rl_line.proofs.Records.ToldLemmas.{recorded-cases, last_told-marks}
 
@@ -68,11 +68,7 @@ level-is es fs h = level-flags (units es) ∙ ap length (cut_good es [] fs tt h)
 -- what stands before the last entry, and what it makes of the marks
 pub marks-last : (front : List Entry) (e : Entry) (fs : List Bool) → marks (front ++ (e ∷ [])) [] ≡ Some fs
     → (gs : List Bool) × (marks front [] ≡ Some gs) × (mark e gs ≡ Some fs)
-marks-last front e fs h =
-    let p = through (marks (e ∷ [])) (marks front []) fs (sym (marks-append front (e ∷ []) []) ∙ h) in
-    let q = through (marks []) (mark e p.0) fs p.2 in
-    let same : q.0 ≡ fs = let k = q.2 in cc in
-    (p.0, p.1, q.1 ∙ ap Some same)
+marks-last front e fs h = grind (arith, marks-append)
 
 marks-other : (es : List Entry) (fs : List Bool) → ends_in_begin es ≡ false → marks es [] ≡ Some fs → fs ≡ touched fs
 marks-other es fs =

@@ -1,5 +1,5 @@
 -- The record that the code's list of entries stands for, and what an event, an undo and a redo make of it.
-use Rattle.rl_line.proofs.Common.{IsMatched, Ahead, All, All-drop, All-map, All-take, Back, Bool, BothMatched, Change, Entry, Freshness, GoesOver, IsCharBoundary, IsOfKind, IsSome, Line, List, Reaches, Record, Some, Stale, StandsStill, Way, [], ap, append_assoc, arith, count_over, cut_at, drop, drop-map, drop_at, entries_to_undo, entry_of, entry_to_undo, false, get_or, has_change, inverse, kept_of, last_of, length, length-append, length-map, line_ahead, line_back, line_over, map, min, moved, redo_of, refl, reverse, steps_back, steps_over, subst, sym, take, take-map, take_at, take_min, take_rest, texts_back, texts_over, unit_of, ℕ, ◌++◌, ◌+◌, ◌-◌, ◌<◌, ◌^◌, ◌∙◌, ◌∷◌, ◌≡◌, ◌≤◌}
+use Rattle.rl_line.proofs.Common.{common_steps, IsMatched, Ahead, All, All-drop, All-map, All-take, Back, Bool, BothMatched, Change, Entry, Freshness, GoesOver, IsCharBoundary, IsOfKind, IsSome, Line, List, Reaches, Record, Some, Stale, StandsStill, Way, [], ap, append_assoc, arith, count_over, cut_at, drop, drop-map, drop_at, entries_to_undo, entry_of, entry_to_undo, false, get_or, has_change, inverse, kept_of, last_of, length, length-append, length-map, line_ahead, line_back, line_over, map, min, moved, redo_of, refl, reverse, steps_back, steps_over, subst, sym, take, take-map, take_at, take_rest, texts_back, texts_over, unit_of, ℕ, ◌++◌, ◌+◌, ◌-◌, ◌<◌, ◌^◌, ◌∙◌, ◌∷◌, ◌≡◌, ◌≤◌}
 use Rattle.rl_line.proofs.Records.RoomLemmas.{texts_ahead-back}
 use Rattle.rl_line.proofs.Records.HeardLemmas.{steps_ahead-back}
 use Rattle.rl_line.specs.declared.change.Change.TheVariants as made
@@ -74,9 +74,7 @@ moved-cut Ahead n count r m e =
 -- the same of the code's numbers
 pub moved-at : (way : Way) (n len count recorded : ℕ) (was r now : Record) → was ≡ r → BothMatched was → len ≡ length was.recorded → count ≡ length (unit_of way n r) → recorded ≡ count_over way len count
     → now ≡ cut_at recorded (was.recorded ++ was.pending) Stale → now ≡ moved way n r
-moved-at way n len count recorded was r now v m l e f is =
-    is ∙ ap (λ k. cut_at k (was.recorded ++ was.pending) Stale) (f ∙ ap (λ k. count_over way k count) l)
-    ∙ moved-cut way n count was m (e ∙ ap (λ s. length (unit_of way n s)) (sym v)) ∙ ap (moved way n) v
+moved-at way n len count recorded was r now v m l e f is = grind (arith, moved-cut)
 
 pub unit-within : (way : Way) (n count : ℕ) (r : Record) → BothMatched r → count ≡ length (unit_of way n r) → count_over way (length r.recorded) count ≤ length r.recorded + length r.pending
 unit-within Back n count r m e = omega arith
@@ -140,5 +138,6 @@ marks-lead Ahead es line none at = marks-ahead es line none at
 
 -- the first entries of a list, where there are so many
 pub first-view : (len n : ℕ) (xs : List Change) → n ≡ min len (length xs) → map entry_of (take n xs) ≡ take len (map entry_of xs)
-first-view len n xs e =
-    sym (take-map entry_of n xs) ∙ ap (λ k. take k (map entry_of xs)) (e ∙ ap (min len) (sym (length-map xs entry_of))) ∙ take_min len (map entry_of xs)
+first-view len n xs e = grind (arith, common_steps, take-map)
+
+pub ruleset parts_of_lists = (first-view, pending-part, recorded-part)

@@ -1,5 +1,5 @@
 -- Where the characters begin in a text in which a part gave way to another.
-use Rattle.rl_line.proofs.Common.{◌≡◌, ℕ, ◌+◌, ◌-◌, ◌<◌, ◌≤◌, ◌⊎◌, inl, inr, Bool, true, false, List, ◌++◌, length, length-append, append_assoc, take, drop, slice_range, refl, sym, ap, subst, ◌∙◌, arith, eq-or-lt_of_le, nat_tests, drop-append-add, take-add, take-append-add, drop-append-le, get_or-append_right, get_or_append_left, length-drop, length-take, length-take-le, take-append-drop, take-append-le, drop_split, IsCharBoundary-at_seam, IsCharBoundary-end, IsUtf8-append, IsUtf8-drop, replace_range, IsCharBoundary, IsUtf8}
+use Rattle.rl_line.proofs.Common.{common_steps, ◌≡◌, ℕ, ◌+◌, ◌-◌, ◌<◌, ◌≤◌, Bool, true, false, List, ◌++◌, length, length-append, append_assoc, take, drop, slice_range, refl, sym, ap, subst, ◌∙◌, arith, nat_tests, drop-append-add, take-add, take-append-add, drop-append-le, get_or-append_right, get_or_append_left, length-drop, length-take, length-take-le, take-append-drop, take-append-le, drop_split, IsCharBoundary-at_seam, IsUtf8-append, IsUtf8-drop, replace_range, IsCharBoundary, IsUtf8}
 use Rattle.rl_base.specs.Text.{is_boundary, stands_at}
 use Rattle.rl_base.proofs.Texts.TextLemmas.{is_boundary-means, is_boundary-true}
 
@@ -19,13 +19,7 @@ boundary-inside front rest k lt = let same = get_or_append_left front rest 0 k l
 
 -- or at its end
 boundary-before : (front rest : List ℕ) (k : ℕ) → IsUtf8 rest → k ≤ length front → is_boundary (front ++ rest) k ≡ is_boundary front k
-boundary-before front rest k u le = from (eq-or-lt_of_le le)
-  where
-    from : (k ≡ length front) ⊎ (k < length front) → is_boundary (front ++ rest) k ≡ is_boundary front k
-    from (inl e) =
-        is_boundary-true (front ++ rest) k (subst (IsCharBoundary (front ++ rest)) (sym e) (IsCharBoundary-at_seam (front ++ rest) front rest refl u))
-        ∙ sym (is_boundary-true front k (subst (IsCharBoundary front) (sym e) (IsCharBoundary-end front)))
-    from (inr lt) = boundary-inside front rest k lt
+boundary-before front rest k u le = grind (arith, is_boundary-true, IsCharBoundary-at_seam, boundary-inside)
 
 -- and one of the second
 boundary-past : (front rest : List ℕ) (k : ℕ) → length front ≤ k → is_boundary (front ++ rest) k ≡ is_boundary rest (k - length front)
@@ -50,10 +44,7 @@ module _ (text : List ℕ) (i j : ℕ) (s : List ℕ) (u : IsUtf8 text) (v : IsU
 
   -- in the part
   pub patched-within : (k : ℕ) → i ≤ k → k - i ≤ length s → is_boundary patched k ≡ is_boundary s (k - i)
-  patched-within k le within =
-      ap (λ t. is_boundary t k) (append_assoc (take i text) s (drop j text))
-      ∙ boundary-past (take i text) (s ++ drop j text) k (omega (arith, front)) ∙ ap (λ n. is_boundary (s ++ drop j text) (k - n)) front
-      ∙ boundary-before s (drop j text) (k - i) (IsUtf8-drop text j u end) within
+  patched-within k le within = grind (arith, common_steps, boundary-past, boundary-before, IsUtf8-drop)
 
   -- after the part
   pub patched-after : (k : ℕ) → i ≤ k → length s ≤ k - i → is_boundary patched k ≡ is_boundary text ((k - i) - length s + j)
@@ -108,19 +99,11 @@ module _ (text : List ℕ) (i j : ℕ) (s : List ℕ) (u : IsUtf8 text) (v : IsU
 
     -- and gives way there as in the part
     pub patched-swap : (n : ℕ) (t : List ℕ) → there + n ≤ length s → replace_range text i j (replace_range s there (there + n) t) ≡ replace_range patched k (k + n) t
-    patched-swap n t within =
-        let head = take i text in
-        let a = take there s in
-        let b = drop (there + n) s in
-        ap (λ l. l ++ drop j text) (sym (append_assoc head (a ++ t) b)) ∙ append_assoc (head ++ (a ++ t)) b (drop j text)
-        ∙ ap (λ l. l ++ (b ++ drop j text)) (sym (append_assoc head a t))
-        ∙ ap (λ l. (l ++ t) ++ (b ++ drop j text)) (sym (patched-take (omega arith)))
-        ∙ ap (λ l. (take k patched ++ t) ++ l) (sym (patched-drop n within))
+    patched-swap n t within = grind (arith, common_steps, patched-take, patched-drop)
 
 -- how long it is at most
 pub length-replaced : (text : List ℕ) (i j : ℕ) (s : List ℕ) → i ≤ j → length (replace_range text i j s) ≤ length text + length s
-length-replaced text i j s le =
-    omega (arith, length-append (take i text ++ s) (drop j text), length-append (take i text) s, length-take i text, length-drop j text)
+length-replaced text i j s le = grind (arith, length-append, length-take, length-drop)
 
 -- more of the text in the part leaves the whole
 pub widened-down : (text : List ℕ) (a i j : ℕ) (s : List ℕ) → a ≤ i → replace_range text a j (slice_range text a i ++ s) ≡ replace_range text i j s
@@ -137,3 +120,5 @@ widened-up text i j k s le =
 pub boundary-beyond : (text : List ℕ) (k : ℕ) → length text < k → is_boundary text k ≡ false
 unfolding is_boundary
 boundary-beyond text k lt = grind (arith, nat_tests)
+
+pub ruleset widened = (widened-down, widened-up)

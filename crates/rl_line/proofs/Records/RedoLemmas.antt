@@ -1,5 +1,5 @@
 -- As many redos as an undo took units give back the record and the text.
-use Rattle.rl_line.proofs.Common.{◌≡◌, ℕ, suc, Bool, List, [], ◌∷◌, ◌++◌, length, drop, reverse, Some, refl, sym, ap, subst, ◌∙◌, arith, append-nil, append_assoc, drop_at, reverse-append, reverse-reverse, length-reverse, option_and_then, zero, max, IsUtf8, Line, Entry, Record, replay_entries, UndoUnit, Open, Whole, units, together, opens, last_of, kept_of, last_units, redo_from, redo_of, undone, redone, marks, IsMatched, BothMatched, line_ahead, Undone, Redos, Stale}
+use Rattle.rl_line.proofs.Common.{common_steps, ◌≡◌, ℕ, suc, Bool, List, [], ◌∷◌, ◌++◌, length, reverse, Some, refl, sym, ap, subst, ◌∙◌, arith, append-nil, append_assoc, reverse-reverse, length-reverse, option_and_then, zero, max, IsUtf8, Line, Entry, Record, replay_entries, UndoUnit, Open, Whole, units, together, opens, last_of, kept_of, last_units, redo_of, undone, redone, marks, IsMatched, BothMatched, line_ahead, Undone, Redos, Stale}
 use Rattle.rl_line.proofs.Records.RecordLemmas.{replay-append, replay-unwind}
 use Rattle.rl_line.proofs.Records.UndoLemmas.{line_ahead-replay, line_back-unwind}
 use Rattle.rl_line.proofs.Records.UnitLemmas.{AllGood, Settles, kept-last, opens-reverse, units-good, units-append, IsMatched-append, on, together-reverse, AllGood-reverse}
@@ -13,9 +13,7 @@ IsMatched-on (Whole es ∷ vs) g o = IsMatched-append es (on vs) (some_is (marks
 
 -- a closed unit at the front is what a redo puts back
 redo_of-front : (es rest : List Entry) → Settles es → IsMatched rest → redo_of (es ++ rest) ≡ es
-redo_of-front es rest s h =
-    ap (λ us. redo_from (es ++ rest) (reverse us)) (units-append es rest h ∙ ap (λ us. units rest ++ us) (s.cuts []))
-    ∙ ap (redo_from (es ++ rest)) (reverse-append (units rest) (Whole es ∷ []))
+redo_of-front es rest s h = grind (arith, common_steps, units-append)
 
 -- the record after so many redos
 abbrev redone_times : ℕ → Record → Record
@@ -26,9 +24,7 @@ abbrev lists : List Entry → List Entry → Record
 lists r p = record { recorded = r; pending = p; fresh = Stale }
 
 redo_one : (es kept rest : List Entry) → Settles es → IsMatched rest → redone (lists kept (es ++ rest)) ≡ lists (kept ++ es) rest
-redo_one es kept rest s h =
-    ap (λ unit. lists (kept ++ unit) (drop (length unit) (es ++ rest))) (redo_of-front es rest s h)
-    ∙ ap (lists (kept ++ es)) (drop_at es rest (length es) refl)
+redo_one es kept rest s h = grind (arith, common_steps, redo_of-front)
 
 -- redos put back closed units one by one, the oldest first
 redo_all : (vs : List UndoUnit) (kept rest : List Entry) → AllGood vs → opens vs ≡ 0 → IsMatched rest

@@ -1,23 +1,15 @@
 -- Going over a record needs room only where a text on the way needs more than the first.
-use Rattle.rl_line.proofs.Common.{◌≡◌, ℕ, ◌+◌, ◌-◌, ◌^◌, ◌<◌, ◌≤◌, Bool, true, false, zero, suc, max, List, [], ◌∷◌, ◌++◌, length, length-append, count_by, map, drop, take, reverse, Option, Some, None, ◌⊎◌, inl, inr, refl, sym, ap, subst, ◌∙◌, arith, nat_tests, get_or-append, drop-map, map-append, reverse-append, Any-push, map-map, Any, IsSome, get_or, nat_lt, option_and_then, IsUtf8, Event, replay, is_newline, Change, Measure, Bytes, Newlines, Way, entry_to_undo, greatest_back_over, size_back, size_back_over, size_of, Line, NeedsRoom, Entry, Changed, bytes_ahead, bytes_back, event_of, inverse, new_text, old_text, unwind, line_back, texts_after, texts_ahead, texts_back}
+use Rattle.rl_line.proofs.Common.{common_steps, ◌≡◌, ℕ, ◌+◌, ◌-◌, ◌^◌, ◌<◌, ◌≤◌, Bool, true, false, zero, suc, max, List, [], ◌∷◌, ◌++◌, length, length-append, count_by, map, drop, take, reverse, Option, Some, None, ◌⊎◌, inl, inr, refl, sym, ap, subst, ◌∙◌, arith, nat_tests, get_or-append, drop-map, map-append, reverse-append, Any-push, map-map, Any, IsSome, get_or, nat_lt, option_and_then, IsUtf8, Event, replay, is_newline, Change, Measure, Bytes, Newlines, Way, entry_to_undo, greatest_back_over, size_back, size_back_over, size_of, Line, NeedsRoom, Entry, Changed, bytes_ahead, bytes_back, event_of, inverse, new_text, old_text, unwind, line_back, texts_after, texts_ahead, texts_back, drop_all}
 use Rattle.rl_base.proofs.Texts.SwapLemmas.{Swaps, Swaps-Replace}
 use Rattle.rl_base.specs.Event.{apply}
-use Rattle.rl_line.proofs.Lines.LineStartLemmas.{newlines-append}
 use Rattle.rl_line.proofs.Records.RecordLemmas.{through, unwind-IsUtf8, value_of}
 use Rattle.rl_line.proofs.Records.TurnLemmas.{turned-cons, turned-turned}
-use Rattle.rl_line.proofs.Records.UndoLemmas.{entries_from, line_back-unwind, size_back_over-within}
-
-size-append : (k : Measure) (xs ys : List ℕ) → size_of k (xs ++ ys) ≡ size_of k xs + size_of k ys
-size-append Bytes xs ys = length-append xs ys
-size-append Newlines xs ys = newlines-append xs ys
+use Rattle.rl_line.proofs.Records.UndoLemmas.{entries_from, line_back-unwind, size_back_over-within, IsBack-none, IsBack-fits, IsBack-next}
+use Rattle.rl_line.proofs.Records.ChangeLemmas.{GoesOver-astray, GoesOver-next, GoesOver-not, longer-by, length-order}
+use Rattle.rl_line.proofs.Records.HeardLemmas.{back-one_more, cursor-gone}
 
 size-swapped : (k : Measure) (text after : List ℕ) (i : ℕ) (old new : List ℕ) → Swaps text after i old new → size_of k after ≡ (size_of k text - size_of k old) + size_of k new
-size-swapped k text after i old new s =
-    let was : size_of k text ≡ size_of k s.front + (size_of k old + size_of k s.rest) =
-    ap (size_of k) s.text_is ∙ size-append k s.front (old ++ s.rest) ∙ ap (λ n. size_of k s.front + n) (size-append k old s.rest) in
-    let is : size_of k after ≡ size_of k s.front + (size_of k new + size_of k s.rest) =
-    ap (size_of k) s.after_is ∙ size-append k s.front (new ++ s.rest) ∙ ap (λ n. size_of k s.front + n) (size-append k new s.rest) in
-    omega (arith, was, is)
+size-swapped k text after i old new s = grind (arith, common_steps)
 
 size-nothing : (k : Measure) (n : ℕ) → n ≡ (n - size_of k []) + size_of k []
 size-nothing Bytes n = omega arith
@@ -146,3 +138,7 @@ pub bytes_ahead-back : (es : List Entry) → bytes_back (map inverse (reverse es
 bytes_ahead-back [] = refl
 bytes_ahead-back (e ∷ es) =
     omega (arith, ap bytes_back (turned-cons e es) ∙ bytes_back-append (map inverse (reverse es)) (inverse e ∷ []), bytes_ahead-back es, old_text-inverse e)
+
+pub ruleset over_all = (GoesOver-astray, GoesOver-next, GoesOver-not, longer-by, bytes_back-one)
+
+pub ruleset back_so_far = (NeedsRoom-line, size_back_over-is, drop-map, drop_all, length-order, back-one_more, cursor-gone, IsBack-none, IsBack-fits, IsBack-next, entries_from, line_back-unwind, size_back_over-within)

@@ -1,12 +1,12 @@
 -- A line that goes over changes of its record, back or ahead.
-use Rattle.rl_line.proofs.Common.{le_refl, ◌≡◌, ℕ, ◌+◌, ◌<◌, ◌≤◌, zero, suc, List, [], ◌∷◌, ◌++◌, length, take, drop, get_or, map, reverse, Option, Some, None, false, refl, sym, ap, subst, ◌∙◌, arith, append_assoc, true, length-append, bytes_eq-Decides, drop_all, take_all, map-append, reverse-append, IsCharBoundary-at_seam, option_and_then, IsSome, is_some, cond, unwrap_or, option_map_or, same_Some, IsCharBoundary, IsUtf8, is_boundary, Change, Line, stepped, if_standing, Entry, Changed, agree, event_of, inverse, replay_entries, unwind, Way, has_change, cursor_after, cursor_told, place_after, line_after, line_ahead, line_back, cursor_stands, Measure, entry_to_undo, text_after, text_back, size_back_over, greatest_back_over}
+use Rattle.rl_line.proofs.Common.{common_steps, ◌≡◌, ℕ, ◌+◌, ◌<◌, ◌≤◌, zero, suc, List, [], ◌∷◌, ◌++◌, length, take, drop, get_or, map, reverse, Option, Some, None, false, refl, sym, ap, subst, ◌∙◌, arith, append_assoc, true, length-append, bytes_eq-Decides, map-append, reverse-append, IsCharBoundary-at_seam, option_and_then, IsSome, is_some, unwrap_or, option_map_or, same_Some, IsCharBoundary, IsUtf8, is_boundary, Change, Line, stepped, if_standing, Entry, Changed, agree, event_of, inverse, replay_entries, unwind, Way, has_change, cursor_after, cursor_told, place_after, line_after, line_ahead, line_back, cursor_stands, Measure, entry_to_undo, text_after, text_back, size_back_over, greatest_back_over}
 use Rattle.rl_base.proofs.Texts.SwapLemmas.{apply-IsUtf8, Swaps, Swaps-Replace}
 use Rattle.rl_base.specs.Event.{apply}
-use Rattle.rl_base.proofs.Texts.TextLemmas.{is_boundary-means, is_boundary-true}
-use Rattle.rl_line.proofs.Plans.PlanLemmas.{Fits-from, after_step-is, standing, standing-is}
-use Rattle.rl_line.proofs.Records.LastLemmas.{read-first, read-last}
+use Rattle.rl_base.proofs.Texts.TextLemmas.{is_boundary-means}
+use Rattle.rl_line.proofs.Plans.PlanLemmas.{Fits-from, after_step-is, standing}
+use Rattle.rl_line.proofs.Records.LastLemmas.{read-first}
 use Rattle.rl_line.proofs.Records.TurnLemmas.{has_change-turned}
-use Rattle.rl_line.proofs.Records.RecordLemmas.{if_some, through, value_of, IsSome-through, inverse-inverse, then_both, then_some}
+use Rattle.rl_line.proofs.Records.RecordLemmas.{through, value_of, IsSome-through, inverse-inverse, then_both, then_some}
 
 -- one entry back
 abbrev back_one : Entry → Line → Option Line
@@ -25,10 +25,7 @@ place_after-stands mark text now cursor u at h = let e : text ≡ now = cc in su
 
 -- what a text that goes on with its cursor is
 text_after-means : (e : Entry) (text now : List ℕ) → text_after true e text ≡ Some now → (apply (event_of e) text ≡ Some now) × (cursor_stands true e now ≡ true)
-text_after-means e text now h =
-    let p = through (λ t. cond (cursor_stands true e t) (Some t) None) (apply (event_of e) text) now h in
-    let q = if_some (cursor_stands true e p.0) p.0 now p.2 in
-    (p.1 ∙ ap Some q.1, ap (cursor_stands true e) (sym q.1) ∙ q.0)
+text_after-means e text now h = grind arith
 
 -- so does one with a cursor that was told, where that stands
 cursor_after-stands : (e : Entry) (text now : List ℕ) (cursor : ℕ) → IsUtf8 text → IsCharBoundary text cursor → text_after true e text ≡ Some now
@@ -85,9 +82,7 @@ pub record IsBack (way : Way) (xs : List Change) (n : ℕ) (start now : Line) : 
 -- the last of the entries that are left
 rest_split : (way : Way) (xs : List Change) (m : ℕ) (x : Change) (now : Line) → m < length xs → x ≡ get_or xs m x
     → line_back (map (entry_to_undo way) (take (m + 1) xs)) now ≡ option_and_then (line_back (map (entry_to_undo way) (take m xs))) (back_one (entry_to_undo way x) now)
-rest_split way xs m x now lt e =
-    ap (λ es. line_back es now) (read-last (entry_to_undo way) xs m x x lt (sym e))
-    ∙ line_back-append (map (entry_to_undo way) (take m xs)) (entry_to_undo way x ∷ []) now
+rest_split way xs m x now lt e = grind (arith, common_steps, line_back-append)
 
 -- the entries from m on are that at m and those after it
 pub entries_from : (way : Way) (xs : List Change) (m : ℕ) (x : Change) → m < length xs → x ≡ get_or xs m x
@@ -96,11 +91,7 @@ entries_from way = read-first (entry_to_undo way)
 
 -- before the first of them
 pub IsBack-none : (way : Way) (xs : List Change) (start : Line) → IsSome (line_back (map (entry_to_undo way) xs) start) → IsBack way xs (length xs) start start
-IsBack-none way xs start h =
-    record {
-      so_far = ap (λ es. line_back (map (entry_to_undo way) es) start) (drop_all (length xs) xs (le_refl (length xs)));
-      rest = subst (λ es. IsSome (line_back (map (entry_to_undo way) es) start)) (sym (take_all (length xs) xs (le_refl (length xs)))) h;
-    }
+IsBack-none way xs start h = grind (arith, common_steps)
 
 pub IsBack-fits : (way : Way) (xs : List Change) (m : ℕ) (x : Change) (start now : Line) → m < length xs → x ≡ get_or xs m x → IsBack way xs (m + 1) start now
     → IsSome (line_back (entry_to_undo way x ∷ []) now)
@@ -156,16 +147,7 @@ line_back-IsSome es line u at h =
 
 -- and a line that goes back has a text that does
 line_after-text_after : (e : Entry) (line next : Line) → line_after e line ≡ Some next → text_after true e line.text ≡ Some next.text
-line_after-text_after e line next h =
-    let f = Fits-from (event_of e) (cursor_after line.cursor e) line next h in
-    let text : f.text ≡ next.text = ap (λ (l : Line). l.text) (sym f.is) in
-    ap (option_and_then (λ t. cond (cursor_stands true e t) (Some t) None)) f.makes
-    ∙ ap (λ b. cond b (Some f.text) None) (told (cursor_told e) (is_boundary-true f.text (cursor_after line.cursor e) f.stands)) ∙ ap Some text
-  where
-    told : (o : Option ℕ) → is_boundary (Fits-from (event_of e) (cursor_after line.cursor e) line next h).text (unwrap_or o (place_after line.cursor e)) ≡ true
-        → option_map_or (is_boundary (Fits-from (event_of e) (cursor_after line.cursor e) line next h).text) o true ≡ true
-    told None b = refl
-    told (Some k) b = b
+line_after-text_after e line next h = grind arith
 
 pub line_back-text_back : (es : List Entry) (line now : Line) → line_back es line ≡ Some now → text_back true es line.text ≡ Some now.text
 line_back-text_back [] line now h = let e : line ≡ now = cc in ap (λ (l : Line). Some l.text) e
@@ -175,9 +157,7 @@ line_back-text_back (e ∷ es) line now h =
 
 -- and a line that goes back has the text that is unwound
 line_after-text : (e : Entry) (line next : Line) → line_after e line ≡ Some next → apply (event_of e) line.text ≡ Some next.text
-line_after-text e line next h =
-    let p = through (λ text. if_standing (stepped line text (cursor_after line.cursor e))) (apply (event_of e) line.text) next h in
-    p.1 ∙ ap (λ (l : Line). Some l.text) (standing-is (stepped line p.0 (cursor_after line.cursor e)) next p.2)
+line_after-text e line next h = grind arith
 
 pub line_back-unwind : (es : List Entry) (line now : Line) → line_back es line ≡ Some now → unwind es line.text ≡ Some now.text
 line_back-unwind [] line now h = let e : line ≡ now = cc in ap (λ (l : Line). Some l.text) e
@@ -194,20 +174,12 @@ line_ahead-replay (e ∷ es) line now h =
 
 -- so the two ask the same
 pub line_back-is_some : (es : List Entry) (line : Line) → IsUtf8 line.text → IsCharBoundary line.text line.cursor → is_some (text_back true es line.text) ≡ is_some (line_back es line)
-line_back-is_some es line u at = from (text_back true es line.text) (line_back es line) (line_back-IsSome es line u at) (λ now h. subst IsSome (sym (line_back-text_back es line now h)) refl)
-  where
-    from : (o : Option (List ℕ)) (p : Option Line) → (IsSome o → IsSome p) → ((now : Line) → p ≡ Some now → IsSome o) → is_some o ≡ is_some p
-    from None None there back = refl
-    from None (Some now) there back = back now refl
-    from (Some t) None there back = sym (there refl)
-    from (Some t) (Some now) there back = refl
+line_back-is_some es line u at = grind (arith, line_back-IsSome, line_back-text_back)
 
 -- where the entries before a mark leave text and cursor, the mark does too
 left_by_a_mark : (line mid now : Line) → (mid.text ≡ line.text) × (mid.cursor ≡ line.cursor) → if_standing (stepped mid mid.text mid.cursor) ≡ Some now
     → (now.text ≡ line.text) × (now.cursor ≡ line.cursor)
-left_by_a_mark line mid now after is =
-    let same : now ≡ stepped mid mid.text mid.cursor = sym (standing-is (stepped mid mid.text mid.cursor) now is) in
-    (ap (λ (l : Line). l.text) same ∙ after.0, ap (λ (l : Line). l.cursor) same ∙ after.1)
+left_by_a_mark line mid now after is = grind arith
 
 pub line_back-marks : (es : List Entry) (line now : Line) → has_change es ≡ false → line_back es line ≡ Some now → (now.text ≡ line.text) × (now.cursor ≡ line.cursor)
 unfolding apply
@@ -254,8 +226,7 @@ marks-take (suc len) (mark ∷ es) none = marks-take len es none
 
 -- and the first entries lead to the text as all do
 pub marks-replay : (len : ℕ) (es : List Entry) (text : List ℕ) → has_change es ≡ false → agree (unwind es text) (unwind (take len es) text) ≡ true
-marks-replay len es text none =
-    ap (λ o. agree o (unwind (take len es) text)) (marks-unwind es text none) ∙ ap (agree (Some text)) (marks-unwind (take len es) text (marks-take len es none)) ∙ (bytes_eq-Decides text text).1 refl
+marks-replay len es text none = grind (arith, marks-unwind, marks-take, bytes_eq-Decides)
 
 -- no length on the way is past the greatest
 pub size_back_over-within : (k : Measure) (m : ℕ) (es : List Entry) (n : ℕ) → size_back_over k (drop m es) n ≤ greatest_back_over k es n

@@ -1,5 +1,5 @@
 -- Units: they make up the list, each by itself is one unit, and lists with matched marks cut apart.
-use Rattle.rl_line.proofs.Common.{drop_at, ◌≡◌, ℕ, ◌+◌, ◌≤◌, suc, zero-add, add-zero, length-append, reverse, Bool, true, false, cond, List, [], ◌∷◌, ◌++◌, length, take, drop, Option, Some, None, refl, sym, ap, subst, ◌∙◌, arith, append_assoc, append-nil, or-true, take-append-drop, reverse-append, reverse-reverse, option_and_then, IsSome, ◌||◌, max, Entry, Begin, End, Changed, UndoUnit, Open, Whole, entries, close, add_entry, cut_more, units, together, opens, last_of, kept_of, redo_from, redo_of, is_change, touched, mark, marks, IsMatched}
+use Rattle.rl_line.proofs.Common.{common_steps, drop_at, ◌≡◌, ℕ, ◌+◌, ◌≤◌, suc, add-zero, length-append, reverse, Bool, true, false, cond, List, [], ◌∷◌, ◌++◌, length, take, drop, Option, Some, None, refl, sym, ap, subst, ◌∙◌, arith, append_assoc, append-nil, or-true, take-append-drop, reverse-append, reverse-reverse, option_and_then, IsSome, ◌||◌, max, Entry, Begin, End, Changed, UndoUnit, Open, Whole, entries, close, add_entry, cut_more, units, together, opens, last_of, kept_of, redo_from, redo_of, is_change, touched, mark, marks, IsMatched}
 use Rattle.rl_line.proofs.Records.Counts.{back_len, ahead_len}
 use Rattle.rl_line.proofs.Records.RecordLemmas.{value_of, IsSome-through, then_both}
 
@@ -87,12 +87,7 @@ pub record Gathers (b : Bool) (inner : List Entry) : Type 0 where
   pub ahead_within : (d : ℕ) (rs : List Entry) → ahead_len (suc d) (inner ++ rs) ≡ length inner + ahead_len (suc d) rs
 
 pub Gathers-nil : Gathers false []
-Gathers-nil = record {
-  flags = λ fs. refl;
-  gathers = λ acc us. refl;
-  back_within = λ k d rs. sym (zero-add (back_len (suc d) k rs));
-  ahead_within = λ d rs. sym (zero-add (ahead_len (suc d) rs));
-}
+Gathers-nil = grind arith
 
 touched_twice : (b : Bool) (fs : List Bool) → cond b (touched (touched fs)) (touched fs) ≡ touched fs
 touched_twice true [] = refl
@@ -119,9 +114,7 @@ Gathers-more b es inner s g = record {
 }
 
 group_back : (inner rs : List Entry) → reverse (Begin ∷ (inner ++ (End ∷ []))) ++ rs ≡ End ∷ (reverse inner ++ (Begin ∷ rs))
-group_back inner rs =
-    ap (λ x. x ++ rs) (reverse-append (Begin ∷ []) (inner ++ (End ∷ [])) ∙ ap (λ x. x ++ (Begin ∷ [])) (reverse-append inner (End ∷ [])))
-    ∙ ap (λ x. End ∷ x) (append_assoc (reverse inner) (Begin ∷ []) rs)
+group_back inner rs = grind (arith, common_steps)
 
 group_len : (inner : List Entry) (n m : ℕ) → n ≡ length inner + suc m → suc n ≡ length (Begin ∷ (inner ++ (End ∷ []))) + m
 group_len inner n m e = let l = length-append inner (End ∷ []) in omega arith

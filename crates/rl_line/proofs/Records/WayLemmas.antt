@@ -4,8 +4,10 @@ use Rattle.rl_base.proofs.Texts.SwapLemmas.{apply-IsUtf8}
 use Rattle.rl_base.proofs.Texts.TextLemmas.{is_boundary-true}
 use Rattle.rl_line.proofs.Plans.PlanLemmas.{Fits-from}
 use Rattle.rl_line.proofs.Records.RecordLemmas.{IsSome-through, replay-append, then_some, through, value_of}
-use Rattle.rl_line.proofs.Records.UndoLemmas.{line_after-is, line_ahead-append, line_ahead-replay, line_back-append, line_back-IsSome, line_back-unwind}
+use Rattle.rl_line.proofs.Records.UndoLemmas.{line_after-is, line_ahead-append, line_ahead-replay, line_back-append, line_back-IsSome, line_back-unwind, marks-replay}
 use Rattle.rl_line.proofs.Records.WalkLemmas.{stands-on}
+use Rattle.rl_line.proofs.Records.ChangeLemmas.{text_back-unwind}
+use Rattle.rl_line.proofs.Records.RoomLemmas.{bytes_back-first}
 
 -- a cursor that was told is where the cursor goes
 told-goes : (e : Entry) (cursor place : ℕ) → cursor_told e ≡ Some place → cursor_after cursor e ≡ place
@@ -84,3 +86,5 @@ ways-ahead es line u at = (
       let now = value_of (replay_entries es line.text) h.0 in
       ahead-goes es line now.0 u at now.1 h.1),
 )
+
+pub ruleset led_back = (text_back-unwind, bytes_back-first, marks-replay)

@@ -1,10 +1,9 @@
 //! Telling a listener what an undo or a redo would tell it, before anything is undone or redone.
 ghost use Rattle.std.specs.Prelude.{◌≡◌, [], ◌∷◌, IfErr, IfOk, OnOk};
 ghost use Rattle.rl_line.specs.Change.{entries_to_undo, entry_to_undo};
-ghost use Rattle.rl_line.specs.Foretelling.{HeardInPart};
-ghost use Rattle.rl_line.specs.Plan.{listener_after};
+ghost use Rattle.rl_line.specs.Foretelling.{HeardAheadInPart, HeardBackInPart, HeardOverInPart};
 ghost use Rattle.rl_line.specs.Record.{inverse};
-ghost use Rattle.rl_line.specs.Undo.{cursor_after, steps_ahead, steps_back, steps_over, unit_of};
+ghost use Rattle.rl_line.specs.Undo.{cursor_after, listener_ahead, listener_back, listener_over, unit_of};
 ghost use Rattle.rl_line.specs.Units.{last_of, redo_of};
 
 use crate::change::{Change, Way, nth_on};
@@ -22,8 +21,8 @@ impl Changeset {
         n: RepeatCount,
         listener: &mut L,
     ) -> Result<(), Refusal>
-        ensures done { OnOk result (listener.new ≡ listener_after L.step line.now.cursor (steps_back line.now.cursor (last_of n self.now.recorded)) listener.old) }
-        ensures err { IfErr result (HeardInPart L.step L.refused line.now.cursor (steps_back line.now.cursor (last_of n self.now.recorded)) listener.old listener.new) }
+        ensures done { OnOk result (listener.new ≡ listener_back L.step line.now.cursor (last_of n self.now.recorded) listener.old) }
+        ensures err { IfErr result (HeardBackInPart L.step L.refused line.now.cursor (last_of n self.now.recorded) listener.old listener.new) }
     {
         self.foretell_over(line, Way::Back, n, listener)
     }
@@ -35,8 +34,8 @@ impl Changeset {
         line: &LineBuffer,
         listener: &mut L,
     ) -> Result<(), Refusal>
-        ensures done { OnOk result (listener.new ≡ listener_after L.step line.now.cursor (steps_ahead line.now.cursor (redo_of self.now.pending)) listener.old) }
-        ensures err { IfErr result (HeardInPart L.step L.refused line.now.cursor (steps_ahead line.now.cursor (redo_of self.now.pending)) listener.old listener.new) }
+        ensures done { OnOk result (listener.new ≡ listener_ahead L.step line.now.cursor (redo_of self.now.pending) listener.old) }
+        ensures err { IfErr result (HeardAheadInPart L.step L.refused line.now.cursor (redo_of self.now.pending) listener.old listener.new) }
     {
         self.foretell_over(line, Way::Ahead, 1, listener)
     }
@@ -49,8 +48,8 @@ impl Changeset {
         n: RepeatCount,
         listener: &mut L,
     ) -> Result<(), Refusal>
-        ensures done { OnOk result (listener.new ≡ listener_after L.step line.now.cursor (steps_over way line.now.cursor (unit_of way n self.now)) listener.old) }
-        ensures err { IfErr result (HeardInPart L.step L.refused line.now.cursor (steps_over way line.now.cursor (unit_of way n self.now)) listener.old listener.new) }
+        ensures done { OnOk result (listener.new ≡ listener_over L.step way line.now.cursor (unit_of way n self.now) listener.old) }
+        ensures err { IfErr result (HeardOverInPart L.step L.refused way line.now.cursor (unit_of way n self.now) listener.old listener.new) }
     {
         foretell(self.unit(way, n), way, line.pos(), listener)
     }
@@ -58,14 +57,15 @@ impl Changeset {
 
 // Tells a listener what going over the changes would tell it of a line whose cursor is at that place. Refused, it stops
 // there.
+#[tactic(auto, using(crate::proofs::Records::HeardLemmas::heard_all))]
 fn foretell<L: ChangeListener>(
     changes: &[Change],
     way: Way,
     cursor: usize,
     listener: &mut L,
 ) -> Result<(), Refusal>
-    ensures done { OnOk result (listener.new ≡ listener_after L.step cursor (steps_back cursor (entries_to_undo way changes.now)) listener.old) }
-    ensures err { IfErr result (HeardInPart L.step L.refused cursor (steps_back cursor (entries_to_undo way changes.now)) listener.old listener.new) }
+    ensures done { OnOk result (listener.new ≡ listener_back L.step cursor (entries_to_undo way changes.now) listener.old) }
+    ensures err { IfErr result (HeardBackInPart L.step L.refused cursor (entries_to_undo way changes.now) listener.old listener.new) }
 {
     let mut before = cursor;
     let mut left = changes.len();
@@ -78,6 +78,7 @@ fn foretell<L: ChangeListener>(
 }
 
 // Tells it of one change, and answers where the cursor would be after it.
+#[tactic(auto, using(crate::proofs::Records::HeardLemmas::heard_one))]
 fn foretell_one<L: ChangeListener>(
     change: &Change,
     way: Way,
@@ -85,9 +86,8 @@ fn foretell_one<L: ChangeListener>(
     listener: &mut L,
 ) -> Result<usize, Refusal>
     ensures after { IfOk result (λ after. after ≡ cursor_after before (inverse (entry_to_undo way change.now))) }
-    ensures told { OnOk result (listener.new ≡ listener_after L.step before (steps_ahead before (inverse (entry_to_undo way change.now) ∷ [])) listener.old) }
-    ensures err { IfErr result
-        (HeardInPart L.step L.refused before (steps_ahead before (inverse (entry_to_undo way change.now) ∷ [])) listener.old listener.new) }
+    ensures told { OnOk result (listener.new ≡ listener_ahead L.step before (inverse (entry_to_undo way change.now) ∷ []) listener.old) }
+    ensures err { IfErr result (HeardAheadInPart L.step L.refused before (inverse (entry_to_undo way change.now) ∷ []) listener.old listener.new) }
 {
     let Some(at) = change.place() else {
         return Ok(before);

@@ -44,6 +44,7 @@ impl LineBuffer {
     /// Deletes the next `n` grapheme clusters (GNU readline: delete-char), and answers their text, or None
     /// at the end and for `n` = 0. The answer is copied before the listener hears of it: refused, it leaves
     /// the line as it was.
+    #[tactic(auto, using(crate::proofs::Plans::KillLemmas::deletions))]
     pub fn delete<L: DeleteListener>(
         &mut self,
         n: RepeatCount,
@@ -96,6 +97,7 @@ impl LineBuffer {
     }
 
     // Deletes a range, if there is one. Answers whether there is.
+    #[tactic(auto, using(crate::proofs::Plans::KillLemmas::deletions))]
     fn remove<L: DeleteListener>(
         &mut self,
         range: Option<Range<usize>>,
@@ -115,6 +117,7 @@ impl LineBuffer {
     }
 
     // The same as a kill: the listener hears its start first and its end last.
+    #[tactic(auto, using(crate::proofs::Plans::KillLemmas::kills))]
     fn kill_some<L: DeleteListener>(
         &mut self,
         range: Option<Range<usize>>,
@@ -298,6 +301,7 @@ pub fn is_by_characters(mvt: &Movement) -> bool
 /// All movements kill exactly what they copy, except those to the ends of a line, over it, and to the first
 /// print place. By one that does, a kill answers true exactly if there is something to copy, and then
 /// reports that text and nothing else.
+#[tactic(auto, using(crate::proofs::Plans::KillLemmas::kills))]
 pub fn kill_agrees_with_copy()
     ensures answer { (line : Line) (mvt : Movement) → is_exact mvt ≡ true → ((kill_plan line mvt).answer ≡ true) ↔ IsSome (copied line mvt) }
     ensures text { (line : Line) (mvt : Movement) (s : List ℕ) → is_exact mvt ≡ true → copied line mvt ≡ Some s

@@ -2,8 +2,8 @@
 ghost use Rattle.std.specs.Prelude.{◌≡◌, ◌+◌, ◌*◌, ◌-◌, ◌<◌, ◌≤◌, length, encode_utf8, not, true, false, OnOk};
 ghost use Rattle.std.specs.Str.{IsCharBoundary};
 ghost use Rattle.std.specs.List.{insert_slice, remove_range, replace_range, repeat};
-ghost use Rattle.rl_line.specs.Plan.{Completion, Outcome, StepOutcome, nothing_more, room_by_step, a_copy};
-ghost use Rattle.rl_line.specs.Edits.{CanInsertStr, CanYankPop, too_long, insert_plan, insert_step, insert_str_plan, yank_plan, yank_step, yank_pop_plan, exchange_plan, cut_to_limit, update_plan, replace_plan, delete_range_plan};
+ghost use Rattle.rl_line.specs.Plan.{Outcome, StepOutcome, nothing_more, room_by_step, a_copy};
+ghost use Rattle.rl_line.specs.Edits.{CanInsertStr, CanYankPop, too_long, insert_plan, insert_step, insert_str_plan, yank_plan, yank_step, yank_pop_plan, Exchanges, cut_to_limit, update_plan, replacement_plan, delete_range_plan};
 ghost use Rattle.rl_line.specs.LineRanges.{IsRange};
 
 use crate::line_buffer::LineBuffer;
@@ -12,6 +12,7 @@ use std::ops::Range;
 
 impl LineBuffer {
     // Whether n texts of that length are too many for the text.
+    #[tactic(auto, using(crate::proofs::Plans::EditLemmas::limits))]
     fn is_too_long(&self, len: usize, n: RepeatCount) -> bool
         ensures { result ≡ too_long self.now (length self.now.text + len * n) }
     {
@@ -27,6 +28,7 @@ impl LineBuffer {
     }
 
     // One step: a text at the cursor, n times.
+    #[tactic(auto, using(crate::proofs::Plans::EditLemmas::copies))]
     fn put_copies<L: ChangeListener>(
         &mut self,
         text: &str,
@@ -112,6 +114,7 @@ impl LineBuffer {
     }
 
     #[inline(always)]
+    #[tactic(auto, using(crate::proofs::Plans::EditLemmas::plans))]
     fn insert_here<L: ChangeListener>(
         &mut self,
         c: char,
@@ -131,6 +134,7 @@ impl LineBuffer {
     /// Inserts a text at the cursor, `n` times, and moves the cursor past it (GNU readline: yank). Answers
     /// whether the cursor was at the end, or None if `text` is empty or the line would get too long. Refused,
     /// it leaves the line as it was.
+    #[tactic(auto, using(crate::proofs::Plans::EditLemmas::plans))]
     pub fn yank<L: ChangeListener>(
         &mut self,
         text: &str,
@@ -186,6 +190,7 @@ impl LineBuffer {
 
     // Two steps: a range is taken out, which leaves the cursor at `between`, and then a text is put in at its place. It
     // finds room for the text first.
+    #[tactic(auto, using(crate::proofs::Plans::EditLemmas::copies))]
     pub(super) fn exchange<L: ChangeListener>(
         &mut self,
         range: Range<usize>,
@@ -197,7 +202,7 @@ impl LineBuffer {
         requires range { IsRange self.old.text range.start range.end }
         requires between { IsCharBoundary (remove_range self.old.text range.start range.end) between }
         requires boundary { IsCharBoundary (replace_range self.old.text range.start range.end text.now) cursor }
-        ensures steps { Completion L.step L.refused a_copy (exchange_plan self.old range between text.now cursor) self.old self.new listener.old listener.new result }
+        ensures steps { Exchanges L.step L.refused a_copy range between text.now cursor self.old self.new listener.old listener.new result }
         ensures text { OnOk result (self.new.text ≡ replace_range self.old.text range.start range.end text.now) }
     {
         let come = self.line.find_room_instead(range.start, range.end, text)?;
@@ -209,6 +214,7 @@ impl LineBuffer {
     /// Replaces the line's text, and puts the cursor at a byte place of the new one. If the line may not
     /// grow, it takes no more of the text than its limit allows, up to a character's end, and the cursor is
     /// at its end at most. Refused, it leaves the line as it was, or empty.
+    #[tactic(auto, using(crate::proofs::Plans::EditLemmas::plans))]
     pub fn update<L: ChangeListener>(
         &mut self,
         text: &str,
@@ -226,6 +232,7 @@ impl LineBuffer {
     }
 
     // As much of a text as the line may hold.
+    #[tactic(auto, using(crate::proofs::Plans::EditLemmas::limits))]
     fn cut_to_limit<'a>(&self, text: &'a str) -> &'a str
         ensures { result.now ≡ cut_to_limit self.now text.now }
     {
@@ -256,7 +263,7 @@ impl LineBuffer {
         requires order { range.start ≤ range.end }
         requires start { IsCharBoundary self.old.text range.start }
         requires end { IsCharBoundary self.old.text range.end }
-        ensures { Outcome L.step L.refused room_by_step (replace_plan self.old range.start range.end text.now) self.old self.new listener.old listener.new result }
+        ensures { Outcome L.step L.refused room_by_step (replacement_plan self.old range text.now) self.old self.new listener.old listener.new result }
     {
         self.put_instead(range, text, listener)
     }
@@ -284,6 +291,7 @@ impl LineBuffer {
 
     /// Inserts a text at a byte place, and leaves the cursor at its own. Answers whether the place was the
     /// end. Refused, it leaves the line as it was.
+    #[tactic(auto, using(crate::proofs::Plans::PlanLemmas::steps_taken))]
     pub fn insert_str<L: ChangeListener>(
         &mut self,
         idx: usize,

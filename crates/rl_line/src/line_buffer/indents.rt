@@ -19,6 +19,7 @@ impl LineBuffer {
     /// takes the cursor's line. A cursor at the start of a line or after it moves with the text, to that start
     /// at least. Answers true. Refused, it leaves the line as it is after the steps that it took. A dedent takes
     /// no memory: it is refused only if its listener refuses.
+    #[tactic(auto, using(crate::proofs::Plans::IndentLemmas::shifts))]
     pub fn indent<L: ChangeListener>(
         &mut self,
         mvt: &Movement,
@@ -76,6 +77,7 @@ impl LineBuffer {
     }
 
     // Blanks go from the start of a line.
+    #[tactic(auto, using(crate::proofs::Plans::IndentLemmas::parts_of_lines))]
     fn take_blanks<L: DeleteListener>(
         &mut self,
         line: Range<usize>,

@@ -19,6 +19,7 @@ impl LineBuffer {
     /// standard library's case mappings.
     /// Answers whether there is one. If it finds no memory, it leaves the line as it was. If its
     /// listener refuses, it leaves the line as it was or without the word.
+    #[tactic(auto, using(crate::proofs::Plans::LetterCaseLemmas::words))]
     pub fn edit_word<L: ChangeListener>(
         &mut self,
         action: WordAction,

@@ -49,6 +49,7 @@ impl LineBuffer {
     }
 
     // The first character of the cursor's line that is no blank, or the line's end if there is none.
+    #[tactic(auto, using(crate::proofs::Plans::IndentLemmas::parts_of_lines))]
     pub(super) fn first_nonblank(&self) -> usize
         ensures value { result ≡ first_nonblank self.now }
         ensures boundary { IsCharBoundary self.now.text result }
@@ -91,6 +92,7 @@ impl LineBuffer {
     }
 
     // The place before the cluster of a line whose number is the column, or the line's end.
+    #[tactic(auto, using(crate::proofs::Plans::IndentLemmas::parts_of_lines))]
     fn place_in_line(&self, k: usize, column: Unit) -> usize
         requires { k ≤ last_line self.now.text }
         ensures value { result ≡ place_in_line self.now.text k column }

@@ -21,6 +21,7 @@ impl LineBuffer {
     }
 
     /// How many lines the text has, at least one. A newline at its end has an empty line after it.
+    #[tactic(auto, using(crate::proofs::Lines::LineReadLemmas::lines_read))]
     pub fn line_count(&self) -> usize
         ensures count { result ≡ length (lines self.now.text) }
         ensures some { 0 < result }
@@ -29,6 +30,7 @@ impl LineBuffer {
     }
 
     /// The byte range of the text of line `i`, counted from 0, without its newline. None if there is no such line.
+    #[tactic(auto, using(crate::proofs::Lines::LineReadLemmas::lines_read))]
     pub fn line_range(&self, i: usize) -> Option<Range<usize>>
         ensures value { result ≡ range_of_line self.now.text i }
         ensures text { IfSome result (λ r. slice_range self.now.text r.start r.end ≡ text_of_line self.now.text i) }
@@ -42,6 +44,7 @@ impl LineBuffer {
     }
 
     // The start numbered `k`, from 0, in the table.
+    #[tactic(auto, using(crate::proofs::Lines::LineStartLemmas::tables))]
     fn start(&self, k: usize) -> usize
         requires { k < last_line self.now.text }
         ensures start { result ≡ get_or (line_starts self.now.text) k 0 }
@@ -52,6 +55,7 @@ impl LineBuffer {
     }
 
     // The number of the line that a place lies in.
+    #[tactic(auto, using(crate::proofs::Lines::LineStartLemmas::tables))]
     pub(super) fn line_at(&self, pos: usize) -> usize
         requires { pos ≤ length self.now.text }
         ensures value { result ≡ line_number self.now.text pos }
@@ -117,6 +121,7 @@ impl LineBuffer {
     }
 
     // The start of the cursor's line, `k`.
+    #[tactic(auto, using(crate::proofs::Lines::LineReadLemmas::lines_read))]
     pub(super) fn home_of(&self, k: usize) -> usize
         requires k { k ≡ line_number self.now.text self.now.cursor }
         requires within { k ≤ last_line self.now.text }
@@ -130,6 +135,7 @@ impl LineBuffer {
     }
 
     // The end of the text of the cursor's line.
+    #[tactic(auto, using(crate::proofs::Lines::LineReadLemmas::lines_read))]
     pub(super) fn line_end(&self) -> usize
         ensures value { result ≡ line_end self.now }
         ensures after { self.now.cursor ≤ result }
@@ -152,6 +158,7 @@ impl LineBuffer {
     }
 
     // The number of the `n`-th line below the cursor's line `k`, at least one, or of the last line. None on the last.
+    #[tactic(auto, using(crate::proofs::Lines::LineReadLemmas::lines_read))]
     pub(super) fn line_below(&self, k: usize, n: RepeatCount) -> Option<usize>
         requires k { k ≡ line_number self.now.text self.now.cursor }
         requires within { k ≤ last_line self.now.text }

@@ -115,6 +115,7 @@ impl LineBuffer {
     }
 
     // The cursor's line and `n` lines above it, with their newlines.
+    #[tactic(auto, using(crate::proofs::Lines::LineReadLemmas::lines_read))]
     fn lines_up(&self, n: RepeatCount) -> Option<Range<usize>>
         ensures value { result ≡ lines_up self.now.text self.now.cursor n }
         ensures order { IfSome result (λ r. r.start ≤ r.end) }
@@ -130,6 +131,7 @@ impl LineBuffer {
     }
 
     // The cursor's line and `n` lines below it, with their newlines and the one above.
+    #[tactic(auto, using(crate::proofs::Lines::LineReadLemmas::lines_read))]
     fn lines_down(&self, n: RepeatCount) -> Option<Range<usize>>
         ensures value { result ≡ lines_down self.now.text self.now.cursor n }
         ensures order { IfSome result (λ r. r.start ≤ r.end) }

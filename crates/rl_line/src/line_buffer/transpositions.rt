@@ -16,6 +16,7 @@ impl LineBuffer {
     /// (GNU readline: transpose-chars), and moves the cursor past both. Answers whether there are two. Where
     /// it finds no memory, it leaves the line as it was. If its listener refuses, it leaves the line as it
     /// was or without the second cluster.
+    #[tactic(auto, using(crate::proofs::Plans::TranspositionLemmas::no_transposition))]
     pub fn transpose_chars<L: ChangeListener>(&mut self, listener: &mut L) -> Result<bool, Refusal>
         ensures outcome { Outcome L.step L.refused a_copy (transpose_chars_plan self.old) self.old self.new listener.old listener.new result }
         ensures swaps { IfOk result (λ answer. answer ≡ true → SwapsClusters self.old self.new) }
@@ -31,6 +32,7 @@ impl LineBuffer {
 
     // Two steps: takes a cluster out, and puts it in at a place before it, in the room that it left. The cursor goes
     // past the cluster that follows it there.
+    #[tactic(auto, using(crate::proofs::Plans::TranspositionLemmas::pulls))]
     fn pull_back<L: ChangeListener>(
         &mut self,
         front: usize,
@@ -109,6 +111,7 @@ impl LineBuffer {
 
     // Four steps: replaces the second of two ranges by the first's text, and then the first by the second's. In the end
     // the text is as long as before, so it needs more room at most between the two, where it is longest.
+    #[tactic(auto, using(crate::proofs::Plans::TranspositionLemmas::swaps))]
     fn swap<L: ChangeListener>(
         &mut self,
         first: Range<usize>,

@@ -1,12 +1,7 @@
-use Rattle.rl_line.proofs.Common.{arith, ap, sym, refl, [], ◌-◌, ◌+◌, ◌<◌, ◌≡◌, ◌∙◌, length, take, map, entry_of, adds_end}
-use Rattle.rl_line.proofs.Records.EntryLemmas.{adds-before, adds-here, adds-off}
+use Rattle.rl_line.proofs.Common.{arith, ap, sym, ◌-◌, ◌+◌, ◌<◌, ◌≡◌, ◌∙◌, length, take, map, entry_of, adds_end}
+use Rattle.rl_line.proofs.Records.EntryLemmas.{adds-off}
 use Rattle.rl_line.proofs.entries.adds_end.Goals as goal
 use Rattle.rl_line.proofs.entries.adds_end.Goals.{After-is_begin}
-
-pub returns-then-at-eq0 : goal.returns-then-at-eq0
-returns-then-at-eq0 c =
-    sym (adds-here c.loop-left.left [] c.loop-left-test.true refl)
-    ∙ ap (λ n. adds_end c.loop-left.left (map entry_of (take n c.args.entries.now))) (sym c.if-at-eq0.true) ∙ c.loop-left.invariant.rest
 
 inside : (c : After-is_begin) → c.loop-left.at - 1 < length c.args.entries.now
 inside c = omega (arith, c.loop-left.invariant.within, c.if-at-eq0.false)
@@ -16,11 +11,6 @@ rest : (c : After-is_begin) → adds_end c.loop-left.left (map entry_of (take ((
 rest c =
     let one_more : (c.loop-left.at - 1) + 1 ≡ c.loop-left.at = omega (arith, c.if-at-eq0.false) in
     ap (λ n. adds_end c.loop-left.left (map entry_of (take n c.args.entries.now))) one_more ∙ c.loop-left.invariant.rest
-
-pub returns-then-not-is_begin : goal.returns-then-not-is_begin
-returns-then-not-is_begin c =
-    let d = (goal.at.returns-then-not-is_begin c).After-is_begin in
-    sym (adds-before c.args.entries.now (c.loop-left.at - 1) c.loop-left.left _ (inside d) c.index-entries-at.is c.loop-left-test.true (sym c.is_begin.ensures ∙ c.if-not-is_begin.true)) ∙ rest d
 
 pub loop-left-preserved : goal.loop-left-preserved
 loop-left-preserved c =

@@ -1,5 +1,5 @@
-use Rattle.rl_line.proofs.Common.{◌≡◌, ◌+◌, ◌-◌, ◌<◌, ◌≤◌, ℕ, List, arith, length, take, drop, map, refl, sym, ap, subst, ◌∙◌, length-take-le, take_rest, Change, entry_of, IsMatched, level, redo_of}
-use Rattle.rl_line.proofs.Records.ForgettingLemmas.{Forgetting, Forgetting-fits, Forgetting-next, Forgetting-stops, open-stays, unit-is, unit-within}
+use Rattle.rl_line.proofs.Common.{◌≡◌, ◌+◌, ◌-◌, ◌<◌, ◌≤◌, ℕ, List, arith, length, take, drop, map, sym, ap, subst, ◌∙◌, take_rest, Change, entry_of, IsMatched, level, redo_of}
+use Rattle.rl_line.proofs.Records.ForgettingLemmas.{Forgetting, Forgetting-fits, Forgetting-next, unit-is}
 use Rattle.rl_line.proofs.Records.MatchLemmas.{Redoes-of}
 use Rattle.rl_line.proofs.forgetting.oldest_len.Goals as goal
 use Rattle.rl_line.proofs.forgetting.oldest_len.Goals.{After-level}
@@ -12,16 +12,6 @@ unit : (n at : ℕ) (xs : List Change) → IsMatched (map entry_of (drop at xs))
     → map entry_of (take n (take (length xs - at) (drop at xs))) ≡ redo_of (map entry_of (drop at xs))
 unit n at xs m e = ap (λ ys. map entry_of (take n ys)) (take_rest xs at) ∙ unit-is n (drop at xs) m (count n at xs e)
 
-pub loop-at-init : goal.loop-at-init
-loop-at-init c = record { within = omega arith; matched = c.requires; kept = refl }
-
-pub slice_bounds-level-end : goal.slice_bounds-level-end
-slice_bounds-level-end c =
-    let n = c.next_len-len.result in
-    let at = c.loop-at.at in
-    let xs = c.args.entries.now in
-    sym (ap (λ ys. length (take n ys)) (take_rest xs at) ∙ length-take-le n (drop at xs) (unit-within n (drop at xs) c.loop-at.invariant.matched (count n at xs c.next_len-len.ensures)))
-
 pub level-requires : goal.level-requires
 level-requires c =
     subst IsMatched (sym (unit c.next_len-len.result c.loop-at.at c.args.entries.now c.loop-at.invariant.matched c.next_len-len.ensures))
@@ -31,19 +21,10 @@ level-requires c =
 opened : (c : After-level) → c.level.result ≡ level (redo_of (map entry_of (drop c.loop-at.at c.args.entries.now)))
 opened c = c.level.ensures ∙ ap level (unit c.next_len-len.result c.loop-at.at c.args.entries.now c.loop-at.invariant.matched c.next_len-len.ensures)
 
-pub returns-then-level-gt0 : goal.returns-then-level-gt0
-returns-then-level-gt0 c =
-    let is = opened (goal.at.returns-then-level-gt0 c).After-level in
-    Forgetting-stops c.args.most c.args.bytes c.loop-at.at c.args.entries.now
-    (open-stays c.args.most c.args.bytes (map entry_of (drop c.loop-at.at c.args.entries.now)) c.loop-at.invariant.matched (omega (arith, c.if-level-gt0.true, is))) c.loop-at.invariant
-
 next : (c : After-level) → c.level.result ≤ 0 → (0 < c.next_len-len.result) × Forgetting c.args.most c.args.bytes c.args.entries.now (c.loop-at.at + c.next_len-len.result)
 next c none =
     Forgetting-next c.args.most c.args.bytes c.first_that_fits-first.result c.loop-at.at c.next_len-len.result c.args.entries.now c.loop-at-test.true c.first_that_fits-first.ensures
     (count c.next_len-len.result c.loop-at.at c.args.entries.now c.next_len-len.ensures) (omega (arith, none, opened c)) c.loop-at.invariant
-
-pub overflow_add-at : goal.overflow_add-at
-overflow_add-at c = let n = next (goal.at.overflow_add-at c).After-level c.if-level-gt0.false in omega (arith, n.1.within)
 
 pub loop-at-preserved : goal.loop-at-preserved
 loop-at-preserved c = (next (goal.at.loop-at-preserved c).After-level c.if-level-gt0.false).1

@@ -1,7 +1,7 @@
 use Rattle.rl_line.proofs.Common.{◌≡◌, ◌≤◌, ◌+◌, ◌-◌, ◌++◌, length, take, drop, count_by, slice_range, vec_len, sym, ap, ap₂, subst, ◌∙◌, arith, take_rest, length-drop, drop-drop, is_newline, replace_range, after_newlines, IsTable}
-use Rattle.rl_line.proofs.Lines.LineStartLemmas.{IsTable-replaced, IsTable-stays, length-table, IsTable-written, newlines-front, newlines-replaced, newlines-take}
+use Rattle.rl_line.proofs.Lines.LineStartLemmas.{IsTable-replaced, length-table, IsTable-written, newlines-front, newlines-take}
 use Rattle.rl_line.proofs.line_starts.exchange_starts.Goals as goal
-use Rattle.rl_line.proofs.line_starts.exchange_starts.Goals.{After-line_number, Then-stays}
+use Rattle.rl_line.proofs.line_starts.exchange_starts.Goals.{After-line_number}
 
 -- the starts that go with the range
 gone : (c : After-line_number) → c.line_number.result ≡ c.line_number-first.result + count_by is_newline (slice_range c.args.text.now c.args.from c.args.to)
@@ -9,60 +9,6 @@ gone c = omega (arith, c.line_number-first.ensures, c.line_number.ensures, newli
 
 within : (c : After-line_number) → c.line_number.result ≤ vec_len c.args.starts.now.places
 within c = omega (arith, c.line_number.ensures, newlines-take c.args.text.now c.args.to, length-table _ _ c.args.text.now c.requires.table, c.args.starts.now.places.ok.0)
-
-pub overflow_sub-gone : goal.overflow_sub-gone
-overflow_sub-gone c = omega (arith, gone (goal.at.overflow_sub-gone c).After-line_number)
-
-pub move_border-requires-clause-within : goal.move_border-requires-clause-within
-move_border-requires-clause-within c =
-    omega (arith, c.line_number-first.ensures, newlines-take c.args.text.now c.args.from, length-table _ _ c.args.text.now c.requires.table, c.args.starts.now.places.ok.0)
-
--- the table is that of the new text too, where only the border had to move
-stays : (c : Then-stays) → IsTable c.move_border.new.self.places.items c.move_border.new.self.border (replace_range c.args.text.now c.args.from c.args.to c.args.part.now)
-stays c =
-    IsTable-stays _ c.args.text.now c.args.part.now c.args.from c.args.to _ _ c.move_border.ensures.table c.requires.range.0 c.requires.range.2.0 c.requires.come (sym c.stays.ensures ∙ c.if-stays.true)
-
-pub returns-then-stays-clause-table : goal.returns-then-stays-clause-table
-returns-then-stays-clause-table c = stays c
-
-pub returns-then-stays-clause-count : goal.returns-then-stays-clause-count
-returns-then-stays-clause-count c =
-    omega (
-      arith,
-      c.args.starts.now.places.ok.0,
-      length-table _ _ c.args.text.now c.requires.table,
-      c.move_border.ensures.count,
-      c.move_border.new.self.places.ok.0,
-      length-table _ _ _ (stays c),
-      newlines-replaced c.args.text.now c.args.part.now c.args.from c.args.to c.requires.range.0,
-    )
-
-pub open_gap-requires-clause-within : goal.open_gap-requires-clause-within
-open_gap-requires-clause-within c =
-    let d = (goal.at.open_gap-requires-clause-within c).After-line_number in
-    omega (arith, gone d, within d, c.move_border.ensures.count)
-
-pub open_gap-requires-clause-room : goal.open_gap-requires-clause-room
-open_gap-requires-clause-room c =
-    let d = (goal.at.open_gap-requires-clause-room c).After-line_number in
-    omega (arith, gone d, within d, c.move_border.ensures.count, c.move_border.ensures.capacity, c.requires.come, c.requires.room)
-
-pub put_after_newlines-requires-clause-within : goal.put_after_newlines-requires-clause-within
-put_after_newlines-requires-clause-within c =
-    let d = (goal.at.put_after_newlines-requires-clause-within c).After-line_number in
-    let old = c.deref_mut.result.now in
-    let first = c.line_number-first.result in
-    omega (
-      arith,
-      ap length (take_rest old first),
-      length-drop first old,
-      c.deref_mut.ensures.len,
-      c.open_gap.ensures.count,
-      c.move_border.ensures.count,
-      c.requires.come,
-      gone d,
-      within d,
-    )
 
 pub returns-clause-table : goal.returns-clause-table
 returns-clause-table c =
@@ -85,8 +31,3 @@ returns-clause-table c =
     let all = take first places ++ (after_newlines (c.args.from + 1) part ++ drop (first + (c.line_number.result - first)) places) in
     IsTable-written first c.open_gap.new.places.len (first + c.args.come) old c.put_after_newlines.new.places _ all (replace_range text c.args.from c.args.to part) c.deref_mut.ensures.len many size is
     (subst (λ n. IsTable all (first + n) (replace_range text c.args.from c.args.to part)) (sym c.requires.come) made)
-
-pub returns-clause-count : goal.returns-clause-count
-returns-clause-count c =
-    let d = (goal.at.returns-clause-count c).After-line_number in
-    omega (arith, gone d, within d, c.open_gap.ensures.count, c.move_border.ensures.count, c.requires.come)

@@ -7,9 +7,6 @@ stays : (c : goal.Then-stays) → IsTable c.args.starts.now.places.items c.args.
 stays c =
     IsTable-stays _ c.args.text.now c.args.part.now c.args.from c.args.to _ _ c.requires.table c.requires.range.0 c.requires.range.2.0 c.requires.come (sym c.stays.ensures ∙ c.if-stays.true)
 
-pub returns-then-stays-clause-table : goal.returns-then-stays-clause-table
-returns-then-stays-clause-table c = stays c
-
 pub returns-then-stays-clause-count : goal.returns-then-stays-clause-count
 returns-then-stays-clause-count c =
     omega (

@@ -1,6 +1,6 @@
-use Rattle.rl_line.proofs.Common.{AtLevel, Any, IsSome, NeedsRoom, Record, ap, err_from_is_err_and, refl, length, length-map, listener_after, subst, sym, entry_of, entries_to_undo, has_change, level, unit_of, moved, count_over, ◌≡◌, ◌+◌, ◌<◌, ◌^◌, ◌∙◌}
-use Rattle.rl_line.proofs.Records.LevelLemmas.{AtLevel-moved, level-reaches}
-use Rattle.rl_line.proofs.Records.MoveLemmas.{GoesAs, GoesAs-all, GoesOver-of, marks-over, moved-at, unit-reaches, unit-within}
+use Rattle.rl_line.proofs.Common.{AtLevel, Any, IsSome, NeedsRoom, ap, err_from_is_err_and, refl, length, length-map, listener_after, subst, sym, entry_of, entries_to_undo, has_change, level, unit_of, moved, count_over, ◌≡◌, ◌∙◌}
+use Rattle.rl_line.proofs.Records.LevelLemmas.{AtLevel-moved}
+use Rattle.rl_line.proofs.Records.MoveLemmas.{GoesAs, GoesAs-all, GoesOver-of, marks-over, moved-at}
 use Rattle.rl_line.proofs.changeset.Changeset.go_over_units.Goals as goal
 use Rattle.rl_line.proofs.changeset.Changeset.go_over_units.Goals.{After-cut, After-len, After-level-opened, After-unit-unit}
 use Rattle.rl_line.proofs.changeset.Changeset.go_over_units.Given.{Over}
@@ -14,9 +14,6 @@ counted g c = sym (length-map c.unit-unit.result.now entry_of) ∙ ap length c.u
 stood : (g : Over) (c : After-len g) → AtLevel c.self.inside.level c.args.self.now
 stood g c = subst (AtLevel c.self.inside.level) c.self.view_is c.self.invariant
 
-small : (g : Over) (c : After-len g) → length c.args.self.now.recorded + length c.args.self.now.pending < 2 ^ 63
-small g c = subst (λ (r : Record). length r.recorded + length r.pending < 2 ^ 63) c.self.view_is c.len.ensures.small
-
 pub go_over_all-requires-clause-follows : goal.go_over_all-requires-clause-follows
 go_over_all-requires-clause-follows g c = subst IsSome (sym ((part g (goal.at.go_over_all-requires-clause-follows g c).After-unit-unit).line c.args.line.now)) c.requires.follows
 
@@ -27,23 +24,8 @@ returns-in_err-go_over_all-clause-err g c =
     let text = c.args.line.now.text in
     rw (p.1, p.2) (e.0, refl, e.1, subst (Any (NeedsRoom text)) ((part g (goal.at.returns-in_err-go_over_all-clause-err g c).After-unit-unit).texts text) e.2)
 
-pub count_over-recorded-requires : goal.count_over-recorded-requires
-count_over-recorded-requires g c =
-    let d = goal.at.count_over-recorded-requires g c in
-    rw (c.len.ensures.len, c.self.view_is) (unit-reaches c.args.way c.args.n _ c.args.self.now (stood g d.After-len).matched (small g d.After-len) (counted g d.After-unit-unit))
-
-pub cut-requires : goal.cut-requires
-cut-requires g c =
-    let d = goal.at.cut-requires g c in
-    rw (c.count_over-recorded.ensures, c.len.ensures.len, c.self.view_is) (unit-within c.args.way c.args.n _ c.args.self.now (stood g d.After-len).matched (counted g d.After-unit-unit))
-
 opened : (g : Over) (c : After-level-opened g) → c.level-opened.result ≡ level (unit_of c.args.way c.args.n c.args.self.now)
 opened g c = c.level-opened.ensures ∙ ap level c.unit-unit.ensures.entries
-
-pub count_over-self-inside-requires : goal.count_over-self-inside-requires
-count_over-self-inside-requires g c =
-    let d = goal.at.count_over-self-inside-requires g c in
-    level-reaches c.args.way c.args.n c.self.inside.level c.level-opened.result c.args.self.now (small g d.After-len) (opened g d.After-level-opened) (stood g d.After-len)
 
 now : (g : Over) (c : After-cut g) → c.cut.new.self ≡ moved c.args.way c.args.n c.args.self.now
 now g c =

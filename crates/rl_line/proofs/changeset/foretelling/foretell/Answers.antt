@@ -1,41 +1,8 @@
-use Rattle.rl_line.proofs.Common.{arith, ◌≡◌, ◌+◌, ◌-◌, ◌<◌, [], ◌∷◌, ◌++◌, length, map, drop, take, subst, sym, ap, ◌∙◌, drop_all, map-append, take-append-drop, err_from_is_err_and, HeardInPart, entry_to_undo, order, listener_after, inverse, cursor_after, steps_ahead, steps_back}
+use Rattle.rl_line.proofs.Common.{arith, ◌≡◌, ◌+◌, ◌-◌, ◌<◌, [], ◌∷◌, ◌++◌, length, map, drop, take, subst, sym, ap, ◌∙◌, map-append, take-append-drop, err_from_is_err_and, HeardInPart, entry_to_undo, order, listener_after, inverse, steps_ahead, steps_back}
 use Rattle.rl_line.proofs.Records.ChangeLemmas.{length-order}
-use Rattle.rl_line.proofs.Records.HeardLemmas.{HeardInPart-back, back-past, cursor_past_back, cursor_past_back-one_more}
+use Rattle.rl_line.proofs.Records.HeardLemmas.{HeardInPart-back, cursor_past_back}
 use Rattle.rl_line.proofs.Records.UndoLemmas.{entries_from}
 use Rattle.rl_line.proofs.changeset.foretelling.foretell.Goals as goal
-
-pub loop-left-init : goal.loop-left-init
-loop-left-init g c =
-    let xs = order c.args.way c.args.changes.now in
-    let none : drop (length c.args.changes.now) xs ≡ [] = drop_all (length c.args.changes.now) xs (omega (arith, length-order c.args.way c.args.changes.now)) in
-    record {
-      at = ap (λ es. cursor_past_back c.args.cursor (map (entry_to_undo c.args.way) es)) (sym none);
-      heard = ap (λ es. listener_after g.L.DeleteListener.step c.args.cursor (steps_back c.args.cursor (map (entry_to_undo c.args.way) es)) c.args.listener.now) (sym none);
-      within = omega arith;
-    }
-
-pub loop-left-preserved : goal.loop-left-preserved
-loop-left-preserved g c =
-    let step = g.L.DeleteListener.step in
-    let xs = order c.args.way c.args.changes.now in
-    let f = entry_to_undo c.args.way in
-    let x = c.nth_on-change.result.now in
-    let m = c.loop-left.left - 1 in
-    let es = map f (drop (m + 1) xs) in
-    let start = c.args.cursor in
-    let more : c.loop-left.left ≡ m + 1 = omega arith in
-    let inside : m < length xs = omega (arith, length-order c.args.way c.args.changes.now, c.loop-left.invariant.within) in
-    let from = entries_from c.args.way xs m x inside c.nth_on-change.ensures in
-    let at : c.loop-left.before ≡ cursor_past_back start es = c.loop-left.invariant.at ∙ ap (λ k. cursor_past_back start (map f (drop k xs))) more in
-    let heard : c.loop-left.listener ≡ listener_after step start (steps_back start es) c.args.listener.now =
-    c.loop-left.invariant.heard ∙ ap (λ k. listener_after step start (steps_back start (map f (drop k xs))) c.args.listener.now) more in
-    record {
-      at = c.in_ok-before.ensures.after ∙ ap (λ k. cursor_after k (inverse (f x))) at ∙ sym (cursor_past_back-one_more (f x) es start) ∙ ap (cursor_past_back start) (sym from);
-      heard = c.in_ok-before.ensures.told ∙ ap (λ k. listener_after step k (steps_ahead k (inverse (f x) ∷ [])) c.loop-left.listener) at
-          ∙ ap (listener_after step (cursor_past_back start es) (steps_ahead (cursor_past_back start es) (inverse (f x) ∷ []))) heard
-          ∙ sym (back-past step (f x) es start c.args.listener.now) ∙ ap (λ ds. listener_after step start (steps_back start ds) c.args.listener.now) (sym from);
-      within = omega (arith, c.loop-left.invariant.within);
-    }
 
 pub returns-in_err-before-clause-err : goal.returns-in_err-before-clause-err
 returns-in_err-before-clause-err g c =

@@ -1,22 +1,7 @@
-use Rattle.rl_line.proofs.Common.{arith, rules, ◌+◌, inr, true, slice_range, refl, ap, subst, ◌∙◌, replace_range, IsCharBoundary, err_from_is_err_and, exchange_plan, edit_word_plan, Plan, answering}
-use Rattle.rl_base.proofs.Texts.TextLemmas.{IsCharBoundary-before_removal, IsCharBoundary-past_replacement}
-use Rattle.rl_line.proofs.Plans.LetterCaseLemmas.{edit_word_plan-nothing, edit_word_plan-some, edit_word_plan-tells}
-use Rattle.rl_line.proofs.Plans.PlanLemmas.{Done-as, Done-nothing, Done-steps, Stopped-as}
+use Rattle.rl_line.proofs.Common.{rules, ◌+◌, true, slice_range, refl, ap, ◌∙◌, err_from_is_err_and, exchange_plan, edit_word_plan, Plan, answering}
+use Rattle.rl_line.proofs.Plans.LetterCaseLemmas.{edit_word_plan-some}
+use Rattle.rl_line.proofs.Plans.PlanLemmas.{Done-as, Done-steps, Stopped-as}
 use Rattle.rl_line.proofs.line_buffer.LineBuffer.edit_word.Goals as goal
-
-pub returns-in_default : goal.returns-in_default
-returns-in_default g c = Done-nothing _ _ c.args.self.now _ _ (edit_word_plan-nothing c.args.self.now c.args.action c.in_default.ensures.value)
-
-pub returns-in_err-made : goal.returns-in_err-made
-returns-in_err-made g c =
-    let p = err_from_is_err_and c.from_residual.result c.from_residual.ensures.1 in
-    rw (p.1, p.2) (inr (
-      refl,
-      refl,
-      refl,
-      edit_word_plan-tells c.args.self.now c.args.action c.in-Some.word _ c.in-Some.ensures.value
-          (c.range-text.ensures.value ∙ ap (λ t. slice_range t c.in-Some.word.start c.in-Some.word.end) c.as_str.ensures) c.in_err-made.ensures.some,
-    ))
 
 pub returns-in_err-exchange : goal.returns-in_err-exchange
 returns-in_err-exchange g c =
@@ -37,17 +22,3 @@ returns g c =
     (edit_word_plan-some line c.args.action c.in-Some.word c.range-text.result.now made c.pos-at.result (c.in-Some.word.start + c.len.result) c.in-Some.ensures.value
     (c.range-text.ensures.value ∙ ap (λ t. slice_range t c.in-Some.word.start c.in-Some.word.end) c.as_str.ensures)
     (λ a. c.as_str-2.ensures.value ∙ c.in_ok-made.ensures.ascii a) (λ n. c.as_str-2.ensures.value ∙ c.in_ok-made.ensures.others n) c.pos-at.ensures.place (ap (λ n. c.in-Some.word.start + n) (search rules)))
-
-pub exchange-requires-clause-between : goal.exchange-requires-clause-between
-exchange-requires-clause-between g c =
-    let word = c.in-Some.word in
-    IsCharBoundary-before_removal c.args.self.now.text word.start word.end c.pos-at.result c.pos-at.ensures.utf8 c.in-Some.ensures.start c.in-Some.ensures.end c.pos-at.ensures.boundary
-    (omega (arith, c.in-Some.ensures.ahead, c.pos-at.ensures.place))
-
-pub exchange-requires-clause-boundary : goal.exchange-requires-clause-boundary
-exchange-requires-clause-boundary g c =
-    let word = c.in-Some.word in
-    let text = c.args.self.now.text in
-    let made = c.as_str-2.result.now in
-    subst (λ n. IsCharBoundary (replace_range text word.start word.end made) (word.start + n)) (search rules)
-    (IsCharBoundary-past_replacement text word.start word.end made c.pos-at.ensures.utf8 c.in-Some.ensures.order c.in-Some.ensures.end)

@@ -1,8 +1,8 @@
-use Rattle.rl_line.proofs.Common.{arith, ◌≡◌, ◌+◌, ◌-◌, ◌<◌, ◌≤◌, ℕ, [], ◌∷◌, length, map, drop, sym, ap, subst, ◌∙◌, IsUtf8, Line, listener_after, inverse, steps_ahead, steps_back, Measure, Bytes, Newlines, entry_to_undo, size_back, size_back_over, size_of, greatest_back_over, order, drop-map, drop_all, err_from_is_err_and}
+use Rattle.rl_line.proofs.Common.{arith, ◌≡◌, ◌+◌, ◌-◌, ◌<◌, ◌≤◌, ℕ, [], ◌∷◌, length, map, drop, sym, ap, subst, ◌∙◌, IsUtf8, Line, listener_after, inverse, steps_ahead, steps_back, Measure, Bytes, Newlines, entry_to_undo, size_back, size_back_over, size_of, greatest_back_over, order, drop-map}
 use Rattle.rl_line.proofs.Records.ChangeLemmas.{length-order}
-use Rattle.rl_line.proofs.Records.HeardLemmas.{back-one_more, cursor-gone}
-use Rattle.rl_line.proofs.Records.UndoLemmas.{IsBack, IsBack-none, IsBack-fits, IsBack-next, entries_from, line_back-unwind, size_back_over-within}
-use Rattle.rl_line.proofs.Records.RoomLemmas.{NeedsRoom-line, size_back_over-is}
+use Rattle.rl_line.proofs.Records.HeardLemmas.{back-one_more}
+use Rattle.rl_line.proofs.Records.UndoLemmas.{IsBack, IsBack-next, entries_from, line_back-unwind, size_back_over-within}
+use Rattle.rl_line.proofs.Records.RoomLemmas.{size_back_over-is}
 use Rattle.rl_line.proofs.line_buffer.LineBuffer.go_over_all.Given.{Over}
 use Rattle.rl_line.proofs.line_buffer.LineBuffer.go_over_all.Goals as goal
 use Rattle.rl_line.proofs.line_buffer.LineBuffer.go_over_all.Goals.{After-nth_on-change}
@@ -38,36 +38,11 @@ fits g k room c h =
     ap (λ es. size_back_over k es n) (drop-map (entry_to_undo c.args.way) m xs ∙ entries_from c.args.way xs m c.nth_on-change.result.now (inside g c) c.nth_on-change.ensures) ∙ ap (size_back k e) (sym was) in
     omega (arith, size_back_over-within k m (map (entry_to_undo c.args.way) xs) n, same, h)
 
-pub go_over-requires-clause-follows : goal.go_over-requires-clause-follows
-go_over-requires-clause-follows g c =
-    let d = (goal.at.go_over-requires-clause-follows g c).After-nth_on-change in
-    IsBack-fits c.args.way (order c.args.way c.args.changes.now) (c.loop-left.left - 1) c.nth_on-change.result.now c.args.self.now (now g d) (inside g d) c.nth_on-change.ensures (back g d)
-
 pub go_over-requires-clause-room : goal.go_over-requires-clause-room
 go_over-requires-clause-room g c = fits g Bytes _ (goal.at.go_over-requires-clause-room g c).After-nth_on-change c.loop-left.invariant.room
 
 pub go_over-requires-clause-table : goal.go_over-requires-clause-table
 go_over-requires-clause-table g c = fits g Newlines _ (goal.at.go_over-requires-clause-table g c).After-nth_on-change c.loop-left.invariant.table
-
-pub loop-left-init : goal.loop-left-init
-loop-left-init g c =
-    let xs = order c.args.way c.args.changes.now in
-    let line = c.args.self.now in
-    let same : c.find_room_over.new.line.line ≡ line = c.find_room_over.ensures.line ∙ c.self.view_is in
-    let count : length c.args.changes.now ≡ length xs = sym (length-order c.args.way c.args.changes.now) in
-    let none : drop (length c.args.changes.now) xs ≡ [] = drop_all (length c.args.changes.now) xs (omega (arith, count)) in
-    record {
-      back = subst (IsBack c.args.way xs (length c.args.changes.now) line) (sym same) (subst (λ k. IsBack c.args.way xs k line line) (sym count) (IsBack-none c.args.way xs line c.requires.follows));
-      room = rw c.self.view_is at c.in_ok-find_room_over.ensures.room;
-      table = rw c.self.view_is at c.in_ok-find_room_over.ensures.table;
-      within = omega arith;
-      heard = ap (λ es. listener_after g.L.DeleteListener.step line.cursor (steps_back line.cursor (map (entry_to_undo c.args.way) es)) c.args.listener.now) (sym none);
-    }
-
-pub tell_over-requires-clause-after : goal.tell_over-requires-clause-after
-tell_over-requires-clause-after g c =
-    let d = (goal.at.tell_over-requires-clause-after g c).After-nth_on-change in
-    rw (c.pos-before.ensures, c.pos.ensures) (cursor-gone (inverse (entry_to_undo c.args.way c.nth_on-change.result.now)) (now g d) _ c.go_over.ensures.line)
 
 pub loop-left-preserved : goal.loop-left-preserved
 loop-left-preserved g c =
@@ -90,10 +65,3 @@ loop-left-preserved g c =
           ∙ sym (back-one_more step (entry_to_undo c.args.way x) es start (now g d) c.args.listener.now (back g d).so_far)
           ∙ ap (λ ds. listener_after step start.cursor (steps_back start.cursor ds) c.args.listener.now) (sym (entries_from c.args.way xs m x (inside g d) c.nth_on-change.ensures));
     }
-
-pub returns-in_err-find_room_over-clause-err : goal.returns-in_err-find_room_over-clause-err
-returns-in_err-find_room_over-clause-err g c =
-    let p = err_from_is_err_and c.from_residual.result c.from_residual.ensures.1 in
-    let e = rw c.self.view_is at c.in_err-find_room_over.ensures.err in
-    let utf8 = subst IsUtf8 (c.as_str-text.ensures.value ∙ ap (λ (l : Line). l.text) c.self.view_is) c.as_str-text.utf8 in
-    rw (p.1, p.2) (e.0, c.find_room_over.ensures.line ∙ c.self.view_is, NeedsRoom-line (map (entry_to_undo c.args.way) (order c.args.way c.args.changes.now)) c.args.self.now utf8 c.requires.follows e.1)

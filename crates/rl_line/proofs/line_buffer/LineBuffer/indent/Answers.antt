@@ -1,16 +1,7 @@
-use Rattle.rl_line.proofs.Common.{rules, ◌<◌, length, arith, err_from_is_err_and, lines}
+use Rattle.rl_line.proofs.Common.{◌<◌, length, arith, err_from_is_err_and, lines}
 use Rattle.rl_base.proofs.Texts.LineLemmas.{count_of_lines}
-use Rattle.rl_line.proofs.Plans.IndentLemmas.{LinesDone-all, LinesDone-halted, LinesDone-more, LinesDone-none}
+use Rattle.rl_line.proofs.Plans.IndentLemmas.{LinesDone-all, LinesDone-halted, LinesDone-more}
 use Rattle.rl_line.proofs.line_buffer.LineBuffer.indent.Goals as goal
-
-pub loop-k-init : goal.loop-k-init
-loop-k-init g c = LinesDone-none _ _ _ _ c.args.self.now _ c.line_at-first.result c.line_at-last.result (search rules)
-
-pub start_of_line-requires : goal.start_of_line-requires
-start_of_line-requires g c = omega (arith, c.loop-k.invariant.count, c.line_at-last.ensures.within)
-
-pub end_of_line-requires : goal.end_of_line-requires
-end_of_line-requires g c = omega (arith, c.loop-k.invariant.count, c.line_at-last.ensures.within)
 
 pub returns-in_err-shift_line : goal.returns-in_err-shift_line
 returns-in_err-shift_line g c =
@@ -19,15 +10,6 @@ returns-in_err-shift_line g c =
     let small : c.loop-k.k < length (lines now.text) = omega (arith, c.loop-k.invariant.count, c.line_at-last.ensures.within, count_of_lines now.text) in
     rw (p.1, p.2)
     (LinesDone-halted _ _ _ _ _ now _ _ c.loop-k.k _ c.loop-k.invariant _ _ c.start_of_line.ensures.value c.end_of_line.ensures.value c.loop-k-test.true small _ _ _ _ c.in_err-shift_line.ensures)
-
-pub loop-k-preserved : goal.loop-k-preserved
-loop-k-preserved g c =
-    let now = c.loop-k.self in
-    let small : c.loop-k.k < length (lines now.text) = omega (arith, c.loop-k.invariant.count, c.line_at-last.ensures.within, count_of_lines now.text) in
-    LinesDone-more _ _ _ _ _ now _ _ c.loop-k.k _ c.loop-k.invariant _ _ c.start_of_line.ensures.value c.end_of_line.ensures.value c.loop-k-test.true small _ _ c.in_ok-shift_line.ensures
-
-pub returns : goal.returns
-returns g c = LinesDone-all _ _ _ _ _ c.loop-k.self _ _ c.loop-k.k _ c.loop-k.invariant (omega arith)
 
 pub returns-in_ok-shift_line : goal.returns-in_ok-shift_line
 returns-in_ok-shift_line g c =

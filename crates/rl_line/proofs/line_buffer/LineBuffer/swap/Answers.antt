@@ -1,42 +1,14 @@
-use Rattle.rl_line.proofs.Common.{arith, ◌≡◌, refl, inl, inr, ap, length, subst, sym, ◌∙◌, err_from_is_err_and, replace_range, IsCharBoundary, IsUtf8, exchange_plan, Line, Taken, text_in, swap_plan, HasRoom}
-use Rattle.rl_base.proofs.Texts.TextLemmas.{IsCharBoundary-before}
-use Rattle.rl_line.proofs.Plans.EditLemmas.{some_part}
+use Rattle.rl_line.proofs.Common.{◌≡◌, inl, ap, subst, ◌∙◌, err_from_is_err_and, replace_range, IsUtf8, exchange_plan, Line, Taken, swap_plan, HasRoom}
 use Rattle.rl_line.proofs.Plans.PlanLemmas.{Done-steps, Taken-append, Halted-front, Halted-back}
 use Rattle.rl_line.proofs.Plans.TranspositionLemmas.{HalfSwapped, HasRoom-swapped, last_steps, swap-front, swap-halves, places}
 use Rattle.rl_line.proofs.line_buffer.LineBuffer.swap.Given.{Over}
 use Rattle.rl_line.proofs.line_buffer.LineBuffer.swap.Goals as goal
 use Rattle.rl_line.proofs.line_buffer.LineBuffer.swap.Goals.{After-as_str-3, After-find_room_instead}
 
-pub returns-in_err-first_text : goal.returns-in_err-first_text
-returns-in_err-first_text g c =
-    let p = err_from_is_err_and c.from_residual.result c.from_residual.ensures.1 in
-    rw (p.1, p.2) (inr (c.in_err-first_text.ensures.err, refl, refl, omega (arith, c.in_err-first_text.ensures.some)))
-
-pub returns-in_err-second_text : goal.returns-in_err-second_text
-returns-in_err-second_text g c =
-    let p = err_from_is_err_and c.from_residual-in_err-second_text.result c.from_residual-in_err-second_text.ensures.1 in
-    rw (p.1, p.2) (inr (c.in_err-second_text.ensures.err, refl, refl, omega (arith, c.in_err-second_text.ensures.some)))
-
 -- finding room leaves the line as it is
 kept : (g : Over) (c : After-find_room_instead g)
     → c.find_room_instead.new.self.line ≡ c.args.self.now
 kept g c = c.find_room_instead.ensures.line ∙ c.self.view_is
-
-pub returns-in_err-come : goal.returns-in_err-come
-returns-in_err-come g c =
-    let p = err_from_is_err_and c.from_residual-in_err-come.result c.from_residual-in_err-come.ensures.1 in
-    let e = c.in_err-come.ensures.err in
-    let x : c.as_str.result.now ≡ text_in c.args.self.now c.args.first = c.as_str.ensures.value ∙ c.in_ok-first_text.ensures.ok in
-    rw (p.1, p.2) (inr (e.0, kept g (goal.at.returns-in_err-come g c).After-find_room_instead, refl, omega (arith, ap length x, some_part _ c.as_str.result.now e.1)))
-
-pub exchange_steps-requires-clause-cursor : goal.exchange_steps-requires-clause-cursor
-exchange_steps-requires-clause-cursor g c =
-    let line = c.args.self.now in
-    let second = c.args.second in
-    let stop = c.args.first.end in
-    let x = c.as_str-2.result.now in
-    subst (λ (l : Line). IsCharBoundary (replace_range l.text second.start second.end x) stop) (sym (kept g (goal.at.exchange_steps-requires-clause-cursor g c).After-find_room_instead))
-    (IsCharBoundary-before line.text second.start second.end stop x (subst IsUtf8 c.as_str-text.ensures c.as_str-text.utf8) c.as_str-2.utf8 c.requires.second_start c.requires.second_end c.requires.first_end c.requires.apart)
 
 pub returns-in_err-exchange_steps : goal.returns-in_err-exchange_steps
 returns-in_err-exchange_steps g c =

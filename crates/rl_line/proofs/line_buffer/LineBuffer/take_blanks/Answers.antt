@@ -1,23 +1,7 @@
-use Rattle.rl_line.proofs.Common.{rules, inr, ◌+◌, slice_range, ap, subst, sym, ◌∙◌, arith, err_from_is_err_and, remove_range, IsCharBoundary, Line}
-use Rattle.rl_line.proofs.Plans.IndentLemmas.{line_plan-dedent, IsCharBoundary-from_part, IsCharBoundary-pulled}
+use Rattle.rl_line.proofs.Common.{rules, inr, ap, err_from_is_err_and, Line}
+use Rattle.rl_line.proofs.Plans.IndentLemmas.{line_plan-dedent}
 use Rattle.rl_line.proofs.Plans.PlanLemmas.{Completed-single, Halted-single}
 use Rattle.rl_line.proofs.line_buffer.LineBuffer.take_blanks.Goals as goal
-
-pub take_out_before-requires-clause-range : goal.take_out_before-requires-clause-range
-take_out_before-requires-clause-range g c =
-    let gone = c.floor_char_boundary-gone in
-    let part = c.range-text.ensures.value ∙ ap (λ t. slice_range t c.args.line.start c.args.line.end) c.as_str.ensures in
-    (omega arith, c.requires.1, IsCharBoundary-from_part c.args.self.now.text c.args.line.start c.args.line.end gone.result c.requires.0 c.requires.2 (subst (λ t. IsCharBoundary t gone.result) part gone.ensures.boundary))
-
-pub take_out_before-requires-clause-boundary : goal.take_out_before-requires-clause-boundary
-take_out_before-requires-clause-boundary g c =
-    let text = c.args.self.now.text in
-    let start = c.args.line.start in
-    let gone = c.floor_char_boundary-gone in
-    let part = c.range-text.ensures.value ∙ ap (λ t. slice_range t start c.args.line.end) c.as_str.ensures in
-    let stop = IsCharBoundary-from_part text start c.args.line.end gone.result c.requires.0 c.requires.2 (subst (λ t. IsCharBoundary t gone.result) part gone.ensures.boundary) in
-    subst (IsCharBoundary (remove_range text start (start + gone.result))) (sym c.pulled-cursor.ensures)
-    (IsCharBoundary-pulled text start (start + gone.result) gone.result c.pos.result c.pos.ensures.utf8 (omega arith) (omega arith) c.requires.1 stop c.pos.ensures.boundary)
 
 pub returns-in_err-take_out_before :
     goal.returns-in_err-take_out_before

@@ -1,6 +1,6 @@
 use Rattle.rl_line.proofs.Common.{arith, rules, refl, inr, ap, length, err_from_is_err_and, IsCharBoundary-start, Line}
 use Rattle.rl_line.proofs.Plans.EditLemmas.{update_plan-is}
-use Rattle.rl_line.proofs.Plans.PlanLemmas.{Done-followed, Done-single, Halted-before, Halted-followed, Halted-single}
+use Rattle.rl_line.proofs.Plans.PlanLemmas.{Done-followed, Done-single, Halted-before}
 use Rattle.rl_line.proofs.line_buffer.LineBuffer.update.Goals as goal
 
 pub take_out-requires : goal.take_out-requires
@@ -11,12 +11,6 @@ returns-in_err-take_out g c =
     let p = err_from_is_err_and c.from_residual.result c.from_residual.ensures.1 in
     rw (p.1, p.2) (Halted-before _ _ _ _ _ _ _ _ _ _ _ (inr c.in_err-take_out.ensures.step.cause) c.in_err-take_out.ensures.step.kept
     (update_plan-is c.args.self.now c.args.text.now _ c.args.pos _ _ refl (ap length c.as_str.ensures) refl))
-
-pub returns-in_err-put_str : goal.returns-in_err-put_str
-returns-in_err-put_str g c =
-    let p = err_from_is_err_and c.from_residual-in_err-put_str.result c.from_residual-in_err-put_str.ensures.1 in
-    rw (p.1, p.2) (Halted-followed _ _ _ _ _ _ _ _ _ _ _ _ _ c.in_ok-take_out.ensures.step.taken (Halted-single _ _ _ _ _ _ _ _ _ _ _ c.in_err-put_str.ensures.step.cause c.in_err-put_str.ensures.step.kept refl)
-    (update_plan-is c.args.self.now c.args.text.now c.cut_to_limit-cut.result.now c.args.pos _ c.min.result c.cut_to_limit-cut.ensures (ap length c.as_str.ensures) (search rules)))
 
 pub returns : goal.returns
 returns g c =
