@@ -11,13 +11,13 @@ use Rattle.rl_line.specs.Record.{Entry, Changed, cursors_of, entry_of, event_of,
 use Rattle.rl_line.specs.declared.change.Freshness.{Freshness}
 use Rattle.rl_line.specs.Undo.{cursor_stands}
 
--- what an entry makes of an event: where they join, it takes the event in, and `fresh` says what it may be told of its cursors;
+-- what an entry makes of an event: if they join, it takes the event in, and `fresh` says what it may be told of its cursors;
 -- else it stays as it is
 abbrev pub TakesIn : Event → Entry → Entry → Option Freshness → Type 0
 TakesIn event old new (Some fresh) = (joined event old ≡ Some new) × (fresh ≡ freshness_joined (cursors_of old))
 TakesIn event old new None = (joined event old ≡ None) × (new ≡ old)
 
--- the text after an entry, where it fits and the cursor stands
+-- the text after an entry, if it fits and the cursor stands
 abbrev pub text_after : Bool → Entry → List ℕ → Option (List ℕ)
 text_after asks e text = option_and_then (λ now. if cursor_stands asks e now then Some now else None) (apply (event_of e) text)
 
@@ -31,7 +31,7 @@ abbrev pub place : Entry → Option ℕ
 place (Changed kind swap) = Some swap.place
 place _ = None
 
--- the entry that is taken back where a line goes over a change: going ahead, its inverse
+-- the entry that a line takes back when it goes over a change: going ahead, its inverse
 abbrev pub entry_to_undo : Way → Change → Entry
 entry_to_undo Back change = entry_of change
 entry_to_undo Ahead change = inverse (entry_of change)
@@ -41,7 +41,7 @@ abbrev pub order : Way → List Change → List Change
 order Back changes = changes
 order Ahead changes = reverse changes
 
--- the entries that are taken back where a line goes over the changes
+-- the entries that a line takes back when it goes over the changes
 abbrev pub entries_to_undo : Way → List Change → List Entry
 entries_to_undo way changes = map (entry_to_undo way) (order way changes)
 

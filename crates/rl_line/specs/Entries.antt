@@ -21,7 +21,7 @@ Joins event old new true = new ≡ record_step old event
 Joins event old new false =
     (new ≡ old) × (record_step old event ≡ record { recorded = old.recorded ++ entries_of event; pending = []; fresh = freshness_added (entries_of event) })
 
--- how many groups are open after the entries, where d are open before them
+-- how many groups are open after the entries, if d are open before them
 abbrev pub deep : ℕ → List Entry → ℕ
 deep d [] = d
 deep d (Begin ∷ es) = deep (suc d) es

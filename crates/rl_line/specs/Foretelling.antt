@@ -1,4 +1,4 @@
--- What a listener heard of steps that were told it beforehand, where it refused one.
+-- What a listener heard of steps that were told it beforehand, if it refused one.
 use Rattle.std.specs.Prelude.{◌≡◌, ℕ, ◌≤◌, ◌^◌, List, ◌∷◌, ◌++◌, ◌⊎◌}
 use Rattle.rl_base.specs.Event.{Event}
 use Rattle.rl_base.specs.declared.listeners.Refusal.{Refusal}

@@ -1,4 +1,4 @@
--- Forgetting: the oldest units of a record go where more of it is kept than is wanted.
+-- Forgetting: the oldest units of a record go if more of it is kept than is wanted.
 use Rattle.std.specs.Prelude.{◌≡◌, ℕ, ◌+◌, ◌-◌, ◌^◌, ◌≤◌, ◌&&◌, ◌||◌, nat_le, Bool, List, [], ◌∷◌, length, take, drop, reverse, if◌then◌else◌}
 use Rattle.rl_line.specs.Record.{Entry, Record, new_text, old_text}
 use Rattle.rl_line.specs.Units.{UndoUnit, Open, Whole, together, units}

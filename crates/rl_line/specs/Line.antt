@@ -24,15 +24,15 @@ pub record IsLine (text starts : List ℕ) (border cursor limit : ℕ) : Type 0 
 abbrev pub line_of : List ℕ → ℕ → ℕ → Bool → Line
 line_of text cursor limit grow = record { text = text; cursor = cursor; limit = limit; grow = grow }
 
--- the line after a step that made `text` and left the cursor at `cursor`: the limit rises where it has to
+-- the line after a step that made `text` and left the cursor at `cursor`: the limit rises if it has to
 abbrev pub stepped : Line → List ℕ → ℕ → Line
 stepped line text cursor = record line { text = text; cursor = cursor; limit = max line.limit (length text) }
 
--- a line, where its cursor stands between two characters
+-- a line, if its cursor stands between two characters
 abbrev pub if_standing : Line → Option Line
 if_standing line = if is_boundary line.text line.cursor then Some line else None
 
--- the line after an event and with the cursor at a place, where the event fits the text and the cursor comes to stand between two
+-- the line after an event and with the cursor at a place, if the event fits the text and the cursor comes to stand between two
 -- characters
 abbrev pub after_step : Event → ℕ → Line → Option Line
 after_step event cursor line = option_and_then (λ text. if_standing (stepped line text cursor)) (apply event line.text)

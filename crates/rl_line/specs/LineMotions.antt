@@ -14,7 +14,7 @@ home line = start_of_line line.text (line_number line.text line.cursor)
 abbrev pub line_end : Line → ℕ
 line_end line = end_of_line line.text (line_number line.text line.cursor)
 
--- the first character of the cursor's line that is no blank, or the line's end where there is none
+-- the first character of the cursor's line that is no blank, or the line's end if there is none
 abbrev pub first_nonblank : Line → ℕ
 first_nonblank line =
     let text = text_of_line line.text (line_number line.text line.cursor) in

@@ -45,7 +45,7 @@ after_steps steps plan = record plan { steps = steps ++ plan.steps }
 abbrev pub answering : {A B : Type 0} → B → Plan A → Plan B
 answering answer plan = record { steps = plan.steps; cursor = plan.cursor; answer = answer }
 
--- the line after the steps, where each event fits its text and the cursor stands between two characters after it
+-- the line after the steps, if each event fits its text and the cursor stands between two characters after it
 abbrev pub after : List Step → Line → Option Line
 after [] line = Some line
 after (s ∷ ss) line = option_and_then (after ss) (after_step s.0 s.1 line)
@@ -91,7 +91,7 @@ abbrev pub bytes_of : List Step → ℕ
 bytes_of [] = 0
 bytes_of (s ∷ ss) = bytes_told s.0 + bytes_of ss
 
--- where an edit may not have begun: there is something of which it makes a copy
+-- an edit may not have begun: there is something of which it makes a copy
 abbrev pub unbegun : {A : Type 0} → Takes → Plan A → Type 0
 unbegun a_copy plan = 0 < bytes_of plan.steps
 unbegun _ plan = ⊥

@@ -20,7 +20,7 @@ use Rattle.rl_line.specs.LineMotions.{first_nonblank, home, line_end}
 abbrev pub text_in : Line → Range ℕ → List ℕ
 text_in line r = slice_range line.text r.start r.end
 
--- none where there is nothing between the places
+-- none if there is nothing between the places
 abbrev pub unless_empty : ℕ → ℕ → Option (Range ℕ)
 unless_empty i j = if i == j then None else Some (between i j)
 
@@ -31,7 +31,7 @@ from_place line place = option_map (λ q. between q line.cursor) place
 abbrev pub to_place : Line → Option ℕ → Option (Range ℕ)
 to_place line place = option_map (λ q. between line.cursor q) place
 
--- between a place and the cursor, whichever comes first; none where the cursor is there
+-- between a place and the cursor, whichever comes first; none if the cursor is there
 abbrev pub either_way : Line → ℕ → Option (Range ℕ)
 either_way line place = unless_empty (min place line.cursor) (max place line.cursor)
 
@@ -42,7 +42,7 @@ to_hit (ForwardBefore _) pos hit = between pos hit
 to_hit (Backward _) pos hit = between hit pos
 to_hit (BackwardAfter c) pos hit = between (hit + len_utf8 c) pos
 
--- from the first start of a Big word after the text's start, where that is not past the cursor
+-- from the first start of a Big word after the text's start, if that is not past the cursor
 abbrev pub from_first_print : List ℕ → ℕ → Option (Range ℕ)
 from_first_print text pos =
     if pos == 0 then None

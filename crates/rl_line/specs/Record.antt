@@ -18,7 +18,7 @@ pub data Kind : Type 0 where
   Deletion : Kind
   Replacement : Kind
 
--- what a change does: at a place, one text gives way to another; and the cursor's places before and after it, where these were told
+-- what a change does: at a place, one text gives way to another; and the cursor's places before and after it, if these were told
 pub record Swap : Type 0 where
   pub place : ℕ
   pub old : List ℕ
@@ -99,12 +99,12 @@ entries_after event [] = entries_of event
 entries_after event (e ∷ []) = joined_or_added event e
 entries_after event (e ∷ (d ∷ ds)) = e ∷ entries_after event (d ∷ ds)
 
--- the cursors of a change, where they were told
+-- the cursors of a change, if they were told
 abbrev pub cursors_of : Entry → Option (ℕ × ℕ)
 cursors_of (Changed kind swap) = swap.cursors
 cursors_of _ = None
 
--- a change that an event joined has kept the cursor before it where its cursors were told, and else can't be told cursors
+-- a change that an event joined has kept the cursor before it if its cursors were told, and else can't be told cursors
 abbrev pub freshness_joined : Option (ℕ × ℕ) → Freshness
 freshness_joined None = is.Stale
 freshness_joined (Some cursors) = is.Joined cursors.0
@@ -149,7 +149,7 @@ abbrev pub recorded_after : Event → Record → List Entry
 recorded_after (Cursors before after) r = entries_told r.fresh before after r.recorded
 recorded_after event r = entries_after event r.recorded
 
--- what waits to be redone after an event: all of it after the start or the stop of a kill and where cursors are told, and
+-- what waits to be redone after an event: all of it if a kill starts or stops or cursors are told, and
 -- else nothing
 abbrev pub pending_after : Event → List Entry → List Entry
 pending_after Start pending = pending
@@ -206,7 +206,7 @@ abbrev pub new_text : Entry → List ℕ
 new_text (Changed kind swap) = swap.new
 new_text _ = []
 
--- how many bytes come where the entries are taken back, and where they are made again
+-- how many bytes come when the entries are taken back, and when they are made again
 abbrev pub bytes_back : List Entry → ℕ
 bytes_back [] = 0
 bytes_back (e ∷ es) = length (old_text e) + bytes_back es
@@ -240,7 +240,7 @@ agree _ _ = false
 abbrev pub replays_to : ℕ → Record → List ℕ → Bool
 replays_to len r text = agree (unwind r.recorded text) (unwind (take len r.recorded) text)
 
--- what the first entry that is not an End put in, where entries are listed the last first
+-- what the first entry that is not an End put in, of entries that are listed the last first
 abbrev pub put_in_first : List Entry → Option (List ℕ)
 put_in_first (End ∷ es) = put_in_first es
 put_in_first (Changed Insertion swap ∷ es) = Some swap.new

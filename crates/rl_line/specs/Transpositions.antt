@@ -57,7 +57,7 @@ pub record SwapsClusters (old new : Line) : Type 0 where
   pub text : new.text ≡ exchanged_text old front after
   pub len : length new.text ≡ length old.text
 
--- n Emacs words ahead or back, or the place itself where no motion leads on
+-- n Emacs words ahead or back, or the place itself if no motion leads on
 abbrev pub word_end : List ℕ → ℕ → ℕ → ℕ
 word_end text pos n = unwrap_or (next_word text pos AfterEnd Emacs n) pos
 

@@ -13,11 +13,11 @@ use Rattle.rl_line.specs.Plan.{Step, listener_after}
 use Rattle.rl_line.specs.Record.{Entry, Begin, End, Changed, Record, bytes_ahead, bytes_back, cursors_of, event_of, events_ahead, events_back, inverse, past, replay_entries, unwind}
 use Rattle.rl_line.specs.Units.{last_of, redo_of, has_change, undone, redone}
 
--- the cursor after an entry was made, where that was told
+-- the cursor after an entry was made, if that was told
 abbrev pub cursor_told : Entry → Option ℕ
 cursor_told e = option_map (λ (cursors : ℕ × ℕ). cursors.1) (cursors_of e)
 
--- where that is asked: the cursor stands between two characters of the text after an entry, if it was told
+-- if that is asked: the cursor stands between two characters of the text after an entry, if it was told
 abbrev pub cursor_stands : Bool → Entry → List ℕ → Bool
 cursor_stands asks e text = not asks || option_map_or (is_boundary text) (cursor_told e) true
 
@@ -30,7 +30,7 @@ place_after cursor _ = cursor
 abbrev pub cursor_after : ℕ → Entry → ℕ
 cursor_after cursor e = unwrap_or (cursor_told e) (place_after cursor e)
 
--- the line after an entry was made, where the entry fits the text and the cursor comes to stand between two characters
+-- the line after an entry was made, if the entry fits the text and the cursor comes to stand between two characters
 abbrev pub line_after : Entry → Line → Option Line
 line_after e line = after_step (event_of e) (cursor_after line.cursor e) line
 
@@ -63,12 +63,12 @@ listener_back step cursor es before = listener_after step cursor (steps_back cur
 abbrev pub listener_ahead : {L : Type 0} → (L → Event → L) → ℕ → List Entry → L → L
 listener_ahead step cursor es before = listener_after step cursor (steps_ahead cursor es) before
 
--- where entries are taken back in a copy of a text, that takes memory only where there is a change, and the text, or one on the
+-- when entries are taken back in a copy of a text, that takes memory only if there is a change, and the text, or one on the
 -- way, is not empty
 abbrev pub CopiesBack : List Entry → List ℕ → Type 0
 CopiesBack es text = (has_change es ≡ true) × (0 < length text + bytes_back es)
 
--- whether a text can go back over entries, or ahead, is tried on a copy of a part of it, where they are several
+-- whether a text can go back over entries, or ahead, is tried on a copy of a part of it, if they are several
 abbrev pub TriesBack : List Entry → List ℕ → Type 0
 TriesBack es text = (1 < length es) × CopiesBack es text
 

@@ -48,7 +48,7 @@ opens (Whole es ∷ us) = opens us
 abbrev pub level : List Entry → ℕ
 level es = opens (units es)
 
--- the units that an undo of n takes off: the last n, at least one, or all where there are fewer
+-- the units that an undo of n takes off: the last n, at least one, or all if there are fewer
 abbrev pub last_units : ℕ → List Entry → List UndoUnit
 last_units n es = take (max n 1) (units es)
 
@@ -59,7 +59,7 @@ last_of n es = together (last_units n es)
 abbrev pub kept_of : ℕ → List Entry → List Entry
 kept_of n es = together (drop (max n 1) (units es))
 
--- the entries that a redo puts back: the first unit, or all where that is the Begin of an open group
+-- the entries that a redo puts back: the first unit, or all if that is the Begin of an open group
 abbrev pub redo_from : List Entry → List UndoUnit → List Entry
 redo_from es [] = []
 redo_from es (Open ∷ us) = es
@@ -105,7 +105,7 @@ adds_end (suc n) es = not (ends_in_begin es) || adds_end n (end_one es)
 abbrev pub begun : Record → Record
 begun r = record { recorded = r.recorded ++ Begin ∷ []; pending = []; fresh = Stale }
 
--- after n groups were closed, the one that was opened last first; after all were; after one was, where one is open
+-- after n groups were closed, the one that was opened last first; after all were; after one was, if one is open
 abbrev pub with_closed : ℕ → Record → Record
 with_closed n r = record { recorded = end_times n r.recorded; pending = []; fresh = Stale }
 
@@ -129,7 +129,7 @@ abbrev pub touched : List Bool → List Bool
 touched [] = []
 touched (_ ∷ flags) = true ∷ flags
 
--- the open groups after an entry: none where it is an End of no group, or of a group without a change
+-- the open groups after an entry: none if it is an End of no group, or of a group without a change
 abbrev pub mark : Entry → List Bool → Option (List Bool)
 mark Begin flags = Some (false ∷ flags)
 mark End [] = None

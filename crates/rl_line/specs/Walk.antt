@@ -6,7 +6,7 @@ use Rattle.rl_line.specs.declared.change.Freshness.TheVariants.{Stale}
 use Rattle.rl_line.specs.Undo.{cursor_stands}
 use Rattle.rl_line.specs.Record.{Entry, Record, event_of, inverse}
 
--- an entry leads from a text to another, and its cursors before and after it, where told, stand between two characters there
+-- an entry leads from a text to another, and its cursors before and after it, if told, stand between two characters there
 pub record LeadsTo (e : Entry) (text now : List ℕ) : Type 0 where
   pub makes : apply (event_of e) text ≡ Some now
   pub before : cursor_stands true (inverse e) text ≡ true
