@@ -1,6 +1,7 @@
 -- How the lines of a script part it, and how what is written for them joins.
 use Rattle.rl_session.proofs.Common.{◌≡◌, ℕ, zero, suc, length, take, drop, List, [], ◌∷◌, ◌++◌, Option, Some, None, ◌<◌, arith, refl, sym, ap, subst, ◌∙◌, append_assoc, append-nil, inl, inr, eq-eqb, ne_eqb, Nowhere, Passes, is_byte, Appends-trans, Appends-nil, Consumes-trans, Appends, Consumes, IsAtEnd, lines_of, whole_lines, onto_some, started, Outputs, Ran, HasNoNewline, IsSaid, SaidOut, Took, Runs, meaning_of, ScriptLine, Interpreter}
 use borrow.Author.Tests.{eqb-true}
+use Rattle.rl_session.proofs.Common.{add-one, take_rest}
 use Rattle.rl_session.specs.Lines.{onto}
 use Rattle.rl_session.specs.Script.{LineOut}
 
@@ -157,3 +158,5 @@ Ran-last left mid leaves held holds now_holds now new (b ∷ bs) h n e r end k =
       outputs = subst (λ ls. Outputs started ls (h.took.out ++ k.out) new) whole
           (Outputs-append h.took.lines k.lines started now new h.took.out k.out h.took.outputs k.outputs);
     }
+
+pub ruleset lines = (HasNoNewline-nowhere, parted, add-one, take_rest)

@@ -66,8 +66,6 @@ RangeDirection-one {l = l} {e = e} p q =
     let ends = Numbered-one p.ends (subst (λ b. Numbered (2 ^ 64 - 1) b l q.letter) (sym starts.1) q.ends) in
     (starts.0, ends.0, NamesDirection-one p.named (subst (λ b. NamesDirection b e) (sym ends.1) q.named))
 
-pub ruleset movements = (whole, home, eol, bword, fword, find, first, nonblank, bchar, fchar, up, down, buf, bob, eob)
-
 -- one movement at most
 
 pub Names-one : {word : List ℕ} {given : Option (List ℕ)} {m n : Movement} → Names word given m → Names word given n → m ≡ n
@@ -109,3 +107,5 @@ no_kind {c = c} h on char none m cs p =
     let same = Numbered-one h p.counted in
     let bytes = some_same _ on (ap rest same.1 ∙ p.on) in
     let same_char : c ≡ p.c = SpellsChar-one char (subst (λ l. SpellsChar l p.c) (sym bytes) p.char) in none cs (rw (same.1, same_char) p.named)
+
+pub ruleset movements = (whole, home, eol, bword, fword, find, first, nonblank, bchar, fchar, up, down, buf, bob, eob, no-bword, no-fword, no-find)

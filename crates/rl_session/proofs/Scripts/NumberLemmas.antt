@@ -55,3 +55,5 @@ none_holds o p q = let both = p ∙ q in absurd cc
 -- the value of six hexadecimal digits at most
 pub hex-small : (k n : ℕ) → k < 6 → n < 16 ^ k → n < 1048576
 hex-small k n h p = let m : 16 ^ k ≤ 16 ^ 5 = (let one : 0 < 16 = omega arith in let le : k ≤ 5 = omega arith in pow-le-pow_right one le) in omega arith
+
+pub ruleset numbers = (number-nothing, is_nil)
