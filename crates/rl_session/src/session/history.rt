@@ -66,6 +66,7 @@ impl Session {
         self.pair.changes.undo_telling(&mut self.line, n, watch)
     }
 
+    #[tactic(auto, using(crate::proofs::Sessions::SessionLemmas::resting))]
     pub(super) fn do_redo(&mut self) -> Reply
         ensures { Does self.old Command.Redo result self.new }
     {

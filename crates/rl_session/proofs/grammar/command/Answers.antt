@@ -1,6 +1,5 @@
 use Rattle.rl_session.proofs.Common.{◌≡◌, ℕ, true, false, List, Option, None, Some, refl, MatchOption, Says, Do, pos, move, ins, twords, cased, kill, copy, indent, dedent, undo, trunc, holds_text, deletes, SaysNoDeletion, SaysNoCommand, Command}
 use Rattle.rl_session.specs.Grammar.{yank}
-use Rattle.rl_session.proofs.Scripts.WordLemmas.{no-pos, no-move, no-yank, no-twords, no-case, no-kill, no-copy, no-indent, no-dedent, no-undo, no-trunc}
 use Rattle.rl_session.proofs.grammar.command.Goals as goal
 use Rattle.rl_session.proofs.grammar.command.Goals.{After-deletion}
 

@@ -1,5 +1,4 @@
 use Rattle.rl_session.proofs.Common.{◌≡◌, ℕ, true, List, Some, refl, Says, Do, range, del, back, prevword, nextword, to, killrange, deletes, Command}
-use Rattle.rl_session.proofs.Scripts.WordLemmas.{no-del, no-back, no-prevword, no-nextword, no-to, no-killrange}
 use Rattle.rl_session.proofs.grammar.deletion.Goals as goal
 use Rattle.rl_session.proofs.grammar.deletion.Goals.{In_default}
 

@@ -1,4 +1,4 @@
-use Rattle.rl_session.proofs.Scripts.WordLemmas.{ins-no_count, ins-no_char}
+use Rattle.rl_session.proofs.Scripts.WordLemmas.{ins-no_char}
 use Rattle.rl_session.proofs.grammar.insertion.Goals as goal
 
 pub returns-in_err-character : goal.returns-in_err-character

@@ -1,4 +1,4 @@
-use Rattle.rl_session.proofs.Common.{rep, err_from_is_err_and, replaced}
+use Rattle.rl_session.proofs.Common.{err_from_is_err_and, replaced}
 use Rattle.rl_session.proofs.grammar.replacement.Goals as goal
 
 pub returns-in_err-end-clause-err : goal.returns-in_err-end-clause-err

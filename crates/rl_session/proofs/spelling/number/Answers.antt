@@ -1,5 +1,5 @@
 use Rattle.rl_session.proofs.Common.{arith, sym, ◌∙◌, at_drop_all, are_digits, value_from}
-use Rattle.rl_session.proofs.Scripts.NumberLemmas.{number-nothing, number-bad, number-great, number-whole, is_nil, some_length}
+use Rattle.rl_session.proofs.Scripts.NumberLemmas.{number-bad, number-great, number-whole, some_length}
 use Rattle.rl_session.proofs.spelling.number.Goals as goal
 
 pub returns-then-not-is_ascii_digit-clause-value : goal.returns-then-not-is_ascii_digit-clause-value
