@@ -172,11 +172,7 @@ Grows-listener_after b (s ∷ ss) r q =
 -- ---- one entry is there, and stays the only one
 -- the entry that an event adds is told its cursors
 added-cursors : (event : Event) (e : Entry) (p : ℕ × ℕ) → entries_of event ≡ e ∷ [] → cursors_of (with_cursors p e) ≡ Some p
-added-cursors event e p h =
-    elim (none_or_one event) [
-      | inl none ↦ let no : [] ≡ e ∷ [] = sym none ∙ h in cc
-      | inr (k, c, one) ↦ let both : Changed k c ∷ [] ≡ e ∷ [] = sym one ∙ h in let same : Changed k c ≡ e = cc in ap (λ (q : Entry). cursors_of (with_cursors p q)) (sym same)
-    ]
+added-cursors event e p h = grind (arith, none_or_one)
 
 -- and so is one that an event joined
 joint-cursors : (event : Event) (e joint : Entry) (p : ℕ × ℕ) → joined event e ≡ Some joint → cursors_of (with_cursors p joint) ≡ Some p

@@ -1,5 +1,5 @@
 -- Directed kills of a session take one part of its text, which the newest slot holds, so that a yank gives it back.
-use Rattle.rl_session.proofs.Common.{insert_slice, take, drop, take-append-drop, IsUtf8-nil, ◌≡◌, ℕ, ◌+◌, ◌*◌, ◌<◌, ◌≤◌, ◌⊎◌, inl, inr, zero, suc, Bool, true, false, not, cond, List, [], ◌∷◌, ◌++◌, map, length, Option, Some, None, refl, sym, ap, subst, ◌∙◌, arith, rules, length-append, append-nil, and-false, cond_both, eqb-true, eqb-false, le-ltb, map-append, length-between, same_Some, max, ◌==◌, slice_get, slice_set, slice_range, IfSome, repeat, IsCharBoundary, IsUtf8, Range, InsertStr, Stop, apply, Ring, IsRing, next_index, put_at, join_at, in_new_slot, killed_as, reset, yanked, side_mode, ring_step, Action, Direction, Forward, Backward, Movement, BeginningOfLine, EndOfLine, FirstNonBlank, BackwardWord, ForwardWord, ViCharSearch, BeginningOfBuffer, EndOfBuffer, Line, between, stepped, Plan, single, Done, too_long, yank_plan, Between, Told, removal, side_of, is_by_characters, text_in, unless_empty, pair_step, State, Stands, with_ring, Edited, is_vain_yank, lent_plan, IsDirected, AllDirected, IsNoKill, AnyTook, NoneRefused, GivenBack, IsDirectedKill, AllKill, Row, Leads, Run, before_last, commands_of, replies_of, Pair, Command, Yank, Kill, KillRange, Reply}
+use Rattle.rl_session.proofs.Common.{insert_slice, take, drop, take-append-drop, IsUtf8-nil, ◌≡◌, ℕ, ◌+◌, ◌*◌, ◌<◌, ◌≤◌, ◌⊎◌, inl, inr, zero, suc, Bool, true, false, not, cond, List, [], ◌∷◌, ◌++◌, map, length, Option, Some, None, refl, sym, ap, subst, ◌∙◌, arith, rules, length-append, append-nil, and-false, cond_both, eqb-true, eqb-false, le-ltb, map-append, length-between, same_Some, max, ◌==◌, slice_get, slice_set, slice_range, IfSome, repeat, IsCharBoundary, IsUtf8, Range, InsertStr, Stop, apply, Ring, IsRing, put_at, join_at, in_new_slot, killed_as, reset, yanked, side_mode, ring_step, Action, Direction, Forward, Backward, Movement, BeginningOfLine, EndOfLine, FirstNonBlank, BackwardWord, ForwardWord, ViCharSearch, BeginningOfBuffer, EndOfBuffer, Line, between, stepped, Plan, single, Done, too_long, yank_plan, Between, Told, removal, side_of, is_by_characters, text_in, unless_empty, pair_step, State, Stands, with_ring, Edited, is_vain_yank, lent_plan, IsDirected, AllDirected, IsNoKill, AnyTook, NoneRefused, GivenBack, IsDirectedKill, AllKill, Row, Leads, Run, before_last, commands_of, replies_of, Pair, Command, Yank, Kill, KillRange, Reply}
 use Rattle.std.proofs.lemmas.List.{get_or-set_same}
 use Rattle.std.proofs.lemmas.Option.{slice_get-get_or}
 use Rattle.std.proofs.Math.ListN.{length-set}
@@ -28,9 +28,7 @@ get-set : (slots : List (List ℕ)) (i : ℕ) (text : List ℕ) → i < length s
 get-set slots i text h = slice_get-get_or (slice_set slots i text) i [] (rw length-set h) ∙ ap Some (get_or-set_same slots i text [] h)
 
 get-put : (slots : List (List ℕ)) (i : ℕ) (text : List ℕ) → i ≤ length slots → slice_get (put_at i text slots) i ≡ Some text
-get-put slots i text h =
-    cond_both (i == length slots) _ _ (λ now. slice_get now i ≡ Some text) (λ e. ap (slice_get (slots ++ text ∷ [])) (eqb-true i (length slots) e) ∙ get-after slots text)
-    (λ e. let n = eqb-false i (length slots) e in get-set slots i text (omega arith))
+get-put slots i text h = grind (arith, eqb-true, get-after, eqb-false, get-set)
 
 get-join : (slots : List (List ℕ)) (i : ℕ) (mode : Mode) (old text : List ℕ) → slice_get slots i ≡ Some old
     → slice_get (join_at i mode text slots) i ≡ Some (joined mode old text)
@@ -44,9 +42,7 @@ record Newest (r : Ring) (text : List ℕ) : Type 0 where
   last_is : r.last ≡ did.Kill
 
 put-newest : (text : List ℕ) (r : Ring) → 0 < r.size → IsRing r → Newest (in_new_slot text r) text
-put-newest text r some h =
-    let n = next_index-is r.size r.index r.slots some h.within h.at_slot in
-    record { slot_is = get-put r.slots (next_index r.size r.index r.slots) text n.after; last_is = refl }
+put-newest text r some h = grind (arith, next_index-is, get-put)
 
 first_as : (size : ℕ) (last : Action) (text : List ℕ) (mode : Mode) (r : Ring) → size ≡ r.size → 0 < size → IsRing r → IsNoKill last
     → Newest (killed_as size last text mode r) text
@@ -75,9 +71,7 @@ newest-first taken side r some h k =
     flag-newest _ false taken (first_as r.size r.last taken (side_mode side) (record r { killing = true }) refl some (record { within = h.within; at_slot = h.at_slot }) k)
 
 newest-more : (old taken : List ℕ) (side : Direction) (r : Ring) → 0 < r.size → Newest r old → Newest (after_kill taken side r) (joined (side_mode side) old taken)
-newest-more old taken side r some n =
-    flag-newest _ false (joined (side_mode side) old taken)
-    (more_as r.size r.last old taken (side_mode side) (record r { killing = true }) some n.last_is (flag-newest r true old n))
+newest-more old taken side r some n = grind (arith, flag-newest, more_as)
 
 -- a state of a session whose ring has room
 record Roomy (s : State) : Type 0 where
@@ -217,14 +211,7 @@ Missing-took start old new more roomy t m = record {
         (newest-first t.taken t.side old.pair.ring m.roomy.some m.roomy.stands.ring e.1)
 
 Missing-nothing : (start : List ℕ) (old new : State) (more : List Reply) → Roomy new → TookNothing old new → Missing start old (says.Answer false ∷ more) → Missing start new more
-Missing-nothing start old new more roomy t m = record {
-  slot = m.slot;
-  held = subst (λ (k : Ring). Newest k m.slot ⊎ ((m.slot ≡ []) × IsNoKill k.last × AnyTook more)) (sym t.ring_is)
-      (elim m.held [ inl n ↦ inl (flag-newest old.pair.ring false m.slot n) | inr e ↦ inr e ]);
-  swaps = subst (λ (l : Line). Swaps start l.text l.cursor m.slot []) (sym t.line_is) m.swaps;
-  within = subst (λ (l : Line). length start ≤ l.limit) (sym t.line_is) m.within;
-  roomy = roomy;
-}
+Missing-nothing start old new more roomy t m = grind (arith, flag-newest)
 
 Missing-directed : (start : List ℕ) (old new : State) (command : Command) (reply : Reply) (more : List Reply) → IsDirectedKill old.line command → Step old command reply new
     → NoneRefused (reply ∷ more) → Missing start old (reply ∷ more) → Missing start new more × NoneRefused more
@@ -245,25 +232,11 @@ record Yanked (slot : List ℕ) (old new : Line) (before now : Ring) : Type 0 wh
   slot_is : yank now ≡ yank before
 
 yanked_nothing : (slot : List ℕ) (old new : Line) (p q : Pair) (a : Option Bool) → length slot ≡ 0 → Done pair_step (nothing old None) old new p q a → Yanked slot old new p.ring q.ring
-yanked_nothing slot old new p q a empty d =
-    let line : new ≡ old = d.line ∙ ap (λ (l : Line). record l { cursor = old.cursor }) (sym (same_Some _ _ d.taken.line)) in
-    record {
-      text_is = inl (empty, ap (λ (l : Line). l.text) line);
-      cursor_is = ap (λ (l : Line). l.cursor) line ∙ (omega arith);
-      slot_is = ap (λ (k : Pair). yank k.ring) d.taken.listener;
-    }
+yanked_nothing slot old new p q a empty d = grind (arith, same_Some)
 
 yanked_once : (slot : List ℕ) (old new : Line) (p q : Pair) (a c : Option Bool) (at : ℕ) → at ≡ old.cursor + length slot
     → Done pair_step (single (InsertStr old.cursor (repeat 1 slot)) at c) old new p q a → Yanked slot old new p.ring q.ring
-yanked_once slot old new p q a c at e d =
-    let b = first_step (InsertStr old.cursor (repeat 1 slot), at) [] old d.last d.taken.line in
-    let line : new ≡ stepped old b.text at = d.line ∙ ap (λ (l : Line). record l { cursor = at }) (sym (same_Some _ _ b.rest)) in
-    let once : repeat 1 slot ≡ slot = append-nil slot in
-    record {
-      text_is = inr (ap (λ s. apply (InsertStr old.cursor s) old.text) (sym once) ∙ b.makes ∙ ap (λ (l : Line). Some l.text) (sym line));
-      cursor_is = ap (λ (l : Line). l.cursor) line ∙ e;
-      slot_is = ap (λ (k : Pair). yank k.ring) d.taken.listener;
-    }
+yanked_once slot old new p q a c at e d = grind (arith, first_step, same_Some, append-nil)
 
 fits-within : (line : Line) (n : ℕ) → n ≤ line.limit → too_long line n ≡ false
 fits-within line n h = rw (le-ltb line.limit n h) (and-false (not line.grow))

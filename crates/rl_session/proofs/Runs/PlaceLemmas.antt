@@ -69,9 +69,7 @@ with_last_first es e start = ap (λ x. replay_entries (reverse x) start) (sym (r
 -- one entry more, with its text after all held texts
 Placed-add : (start : List ℕ) (es : List Entry) (e : Entry) (held : List (List ℕ)) (text : List ℕ) → Placed start es held
     → replay_entries (es ++ (e ∷ [])) start ≡ Some text → Placed start (es ++ (e ∷ [])) (held ++ (text ∷ []))
-Placed-add start es e held text p h =
-    subst (λ r. PlacedBack start r (held ++ (text ∷ []))) (sym (reverse-append es (e ∷ [])))
-    (held, text, record { rest = []; is = refl }, with_last_first es e start ∙ h, extend start (reverse es) held (text ∷ []) p)
+Placed-add start es e held text p h = grind (arith, reverse-append, with_last_first, extend)
 
 -- one entry more that leaves the text: at the place of the entries before
 Placed-mark : (start : List ℕ) (es : List Entry) (e : Entry) (held : List (List ℕ)) → Placed start es held
@@ -285,12 +283,7 @@ History-truncated len start held text r h k =
 
 -- the undone entries can be made again
 pub pending-leads : (start : List ℕ) (held : List (List ℕ)) (text : List ℕ) (r : Record) → History start held text r → IsSome (replay_entries r.pending text)
-pending-leads start held text r h =
-    let l = Placed-leads start (r.recorded ++ r.pending) held h.placed in
-    let p = replay-split r.recorded r.pending start l.0 l.1 in
-    let both : Some p.0 ≡ Some text = sym p.1 ∙ h.leads in
-    let same : p.0 ≡ text = cc in
-    subst (λ t. IsSome (replay_entries r.pending t)) same (subst IsSome (sym p.2) refl)
+pending-leads start held text r h = grind (arith, Placed-leads, replay-split)
 
 -- ---- once the first entries went
 -- the last text of a list is the last one of each end of it

@@ -25,18 +25,11 @@ pub no_brace : (bytes : List ℕ) → ((inner : List ℕ) → bytes ≢ 123 ∷ 
 no_brace bytes h c others e = let found = in_braces bytes e.code others c e.stands e.is in h _ found.2
 
 pub not_closed : (bytes inner : List ℕ) → bytes ≡ 123 ∷ inner → Lacks 125 inner → BeginsNoEscape (117 ∷ bytes)
-not_closed bytes inner is h c others e =
-    let found = in_braces bytes e.code others c e.stands e.is in
-    let same : inner ≡ found.0 ++ 125 ∷ others = cc in
-    Lacks-none 125 found.0 others (subst (Lacks 125) same h)
+not_closed bytes inner is h c others e = grind (arith, in_braces, Lacks-none)
 
 pub not_named : (bytes inner digits more : List ℕ) → bytes ≡ 123 ∷ inner → inner ≡ digits ++ 125 ∷ more → Lacks 125 digits
     → ((c : ℕ) → NamesChar digits c → ⊥) → BeginsNoEscape (117 ∷ bytes)
-not_named bytes inner digits more is parts h none c others e =
-    let found = in_braces bytes e.code others c e.stands e.is in
-    let both : digits ++ 125 ∷ more ≡ found.0 ++ 125 ∷ others = cc in
-    let same : digits ≡ found.0 = (same_parts 125 digits found.0 more others h (digits-Lacks 0 found.0 c found.1.value) both).0 in
-    none c (subst (λ d. NamesChar d c) (sym same) found.1)
+not_named bytes inner digits more is parts h none c others e = grind (arith, in_braces, same_parts, digits-Lacks)
 
 -- the character after the backslash
 

@@ -65,14 +65,7 @@ Outputs-append (x ∷ xs) ys old mid new first others h k =
 
 -- some bytes more of a line
 pub Took-part : (old : Interpreter) (part bytes : List ℕ) (held : Option (List ℕ)) → Took old part bytes held held old (part ++ bytes)
-Took-part old part bytes held = record {
-  lines = [];
-  out = [];
-  split = λ more. ap lines_of (sym (append_assoc part bytes more));
-  ended = λ more. ap whole_lines (sym (append_assoc part bytes more));
-  outputs = (refl, refl);
-  written = Appends-nil held;
-}
+Took-part old part bytes held = grind (arith, append_assoc, Appends-nil)
 
 -- what some bytes are cut into, and then more
 pub cut_on : (cut : List ℕ → List (List ℕ)) (part bytes bytes' more : List ℕ) (xs ys mid rest : List (List ℕ)) → cut (part ++ (bytes ++ (bytes' ++ more))) ≡ xs ++ mid → mid ≡ ys ++ rest
@@ -121,18 +114,7 @@ Runs-more left mid leaves held holds now_holds now new part part' bytes h r k = 
 -- the script ended after a newline, or was empty
 pub Ran-end : (left mid leaves held holds : Option (List ℕ)) (now : Interpreter) (part : List ℕ)
     → Runs left mid held holds now part → part ≡ [] → Consumes mid leaves [] → IsAtEnd leaves → Ran left leaves held holds
-Ran-end left mid leaves held holds now part h e r end =
-    let all : lines_of h.input ≡ h.took.lines =
-    ap lines_of (sym (append-nil h.input)) ∙ h.took.split [] ∙ ap (λ l. h.took.lines ++ lines_of (l ++ [])) e ∙ append-nil h.took.lines in
-    record {
-      input = h.input;
-      output = h.took.out;
-      last = now;
-      read = subst (λ l. Consumes left leaves l) (append-nil h.input) (Consumes-trans left mid leaves h.input [] h.read r);
-      ended = end;
-      written = h.took.written;
-      outputs = subst (λ ls. Outputs started ls h.took.out now) (sym all) h.took.outputs;
-    }
+Ran-end left mid leaves held holds now part h e r end = grind (arith, append-nil, Consumes-trans)
 
 -- the script ended within a line, which was then run
 pub Ran-last : (left mid leaves held holds now_holds : Option (List ℕ)) (now new : Interpreter) (part : List ℕ)

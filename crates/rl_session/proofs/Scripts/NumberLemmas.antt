@@ -1,5 +1,5 @@
 -- What is no number, and how a number's digits go on.
-use Rattle.rl_session.proofs.Common.{arith, ◌≡◌, ◌≢◌, ℕ, ◌+◌, ◌-◌, ◌*◌, ◌^◌, ◌<◌, ◌≤◌, true, false, List, [], ◌∷◌, length, get_or, drop, Option, Some, None, refl, sym, ap, ◌∙◌, ◌&&◌, ◌==◌, nat_lt, nat_le, and-false, eqb-true, eqb-false, nat_tests, at_drop_more, nil_from_length, are_digits, value_from}
+use Rattle.rl_session.proofs.Common.{arith, ◌≡◌, ◌≢◌, ℕ, ◌+◌, ◌-◌, ◌*◌, ◌^◌, ◌<◌, ◌≤◌, true, false, List, [], ◌∷◌, length, get_or, drop, Option, Some, None, refl, sym, ap, ◌∙◌, ◌&&◌, ◌==◌, nat_le, and-false, eqb-true, eqb-false, nat_tests, at_drop_more, nil_from_length, are_digits, value_from}
 use native.Mathlib.Nat.{pow-le-pow_right}
 use Rattle.rl_session.specs.Spelling.{number_of}
 
@@ -29,10 +29,7 @@ number-great g i v bs h all great =
 
 pub number-whole : (g v : ℕ) (bs : List ℕ) → 0 < length bs → are_digits bs ≡ true → v ≡ value_from 0 bs → v ≤ g → Some v ≡ number_of g bs
 unfolding number_of
-number-whole g v bs some all is fits =
-    let fits' : nat_le (value_from 0 bs) g ≡ true = grind (arith, nat_tests) in
-    let some' : nat_lt 0 (length bs) ≡ true = grind (arith, nat_tests) in
-    rw (some', all, fits') (ap (λ n. Some n) is)
+number-whole g v bs some all is fits = grind (arith)
 
 -- what a test of the length tells
 pub is_nil : (xs : List ℕ) → (length xs == 0) ≡ true → xs ≡ []

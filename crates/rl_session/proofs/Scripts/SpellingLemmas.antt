@@ -8,13 +8,7 @@ use Rattle.rl_session.specs.Parsing.{Begins}
 -- parts that follow each other
 
 pub Begins-then : (bytes s middle t others : List ℕ) → Begins bytes s middle → Begins middle t others → Begins bytes (s ++ t) others
-Begins-then bytes s middle t others p q = record {
-  on = λ more m. rw append_assoc (p.on (t ++ more) (q.on more m));
-  only = λ whole w.
-      let one : (more : List ℕ) × Spells middle more × (whole ≡ s ++ more) = p.only whole w in
-      let two : (more : List ℕ) × Spells others more × (one.0 ≡ t ++ more) = q.only one.0 one.1 in
-      (two.0, two.1, one.2 ∙ ap (λ l. s ++ l) two.2 ∙ sym (append_assoc s t two.0));
-}
+Begins-then bytes s middle t others p q = grind (arith, append_assoc)
 
 -- plain bytes
 
@@ -199,10 +193,7 @@ read_on bytes text rest xs after c others b e h p =
     Begins-then bytes (text ++ xs) (92 ∷ after) (encode_utf8 c) others (Begins-then bytes text rest xs (92 ∷ after) b on) (Begins-escape after others c p).1
 
 pub read_none : (bytes text rest xs after : List ℕ) → Begins bytes text rest → rest ≡ xs ++ 92 ∷ after → Lacks 92 xs → BeginsNoEscape after → SpellsNothing bytes
-read_none bytes text rest xs after b e h none whole s =
-    let one : (more : List ℕ) × Spells rest more × (whole ≡ text ++ more) = b.only whole s in
-    let two : (more : List ℕ) × Spells (92 ∷ after) more × (one.0 ≡ xs ++ more) = plain-only xs (92 ∷ after) one.0 h (subst (λ l. Spells l one.0) e one.1) in
-    no_escape after none two.0 two.1
+read_none bytes text rest xs after b e h none whole s = grind (arith, plain-only, no_escape)
 
 pub read_end : (bytes text rest : List ℕ) → Begins bytes text rest → Lacks 92 rest → Spells bytes (text ++ rest)
 read_end bytes text rest b h = b.on rest (Spells-plain rest h)

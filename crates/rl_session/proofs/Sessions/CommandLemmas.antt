@@ -113,14 +113,7 @@ AddsOne line r e plan = (listener_after record_step line.cursor plan.steps r).re
 
 -- a plan of one step, since that adds the entry
 once : {A : Type 0} (line : Line) (r : Record) (e : Entry) (event : Event) (cursor : ℕ) (a : A) → IsLone event [] → AddsOne line r e (single event cursor a) → Settles line (single event cursor a)
-once line r e event cursor a lone adds = record {
-  quiet = (
-    λ none. absurd (one_longer r.recorded _ e (recorded-next line.cursor event cursor [] r lone ∙ next-nothing event r.recorded line.cursor cursor lone none) adds),
-    lone,
-    tt,
-  );
-  ends = λ some. refl;
-}
+once line r e event cursor a lone adds = grind (arith, one_longer, recorded-next, next-nothing)
 
 removed : (line : Line) (r : Record) (e : Entry) (range : Option (Range ℕ)) (side : Direction) → AddsOne line r e (removal line range side) → Settles line (removal line range side)
 removed line r e None side adds = Settles-nothing line false

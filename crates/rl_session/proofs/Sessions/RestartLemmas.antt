@@ -1,5 +1,5 @@
 -- A text that takes the place of a whole line's.
-use Rattle.rl_session.proofs.Common.{◌≡◌, ◌∙◌, ℕ, ◌+◌, ◌-◌, inl, inr, List, [], ◌∷◌, ◌++◌, length, max, Some, refl, sym, ap, subst, arith, append-nil, length-append, take_all, IsUtf8-nil, slice_range, IsUtf8, Cursors, Replace, apply, Watched, watch_step, Refusal, replace_plan, Line, NeedsRoom, stepped, Done, Grows, Halted, Taken, or_no_memory, Record, Walks, no_changes}
+use Rattle.rl_session.proofs.Common.{◌≡◌, ◌∙◌, ℕ, ◌+◌, ◌-◌, inl, inr, List, [], ◌∷◌, ◌++◌, length, max, Some, refl, sym, ap, subst, arith, append-nil, length-append, take_all, IsUtf8-nil, slice_range, IsUtf8, Cursors, Replace, apply, Watched, watch_step, Refusal, replace_plan, Line, NeedsRoom, Done, Grows, Halted, Taken, or_no_memory, Record, Walks, no_changes}
 use Rattle.rl_base.proofs.Texts.SwapLemmas.{apply-Replace-Swaps}
 use Rattle.rl_line.specs.Plan.{Step}
 use Rattle.rl_line.proofs.Plans.PlanLemmas.{first_step}
@@ -29,16 +29,7 @@ pub Renewed : (old new : Line) (before now : Watched) (text : List ℕ) (end : �
     → Done watch_step (replace_plan old 0 end text) old new before now a
     → (new ≡ record old { text = text; cursor = length text; limit = max old.limit (length text) })
     × (now ≡ watch_step (watch_step before (Replace 0 old.text text)) (Cursors old.cursor (length text)))
-Renewed old new before now text end a e u v d =
-    let part = part-all old.text end e in
-    let b = first_step (all_step old end text) [] old d.last d.taken.line in
-    let made : Some text ≡ Some b.text = sym (apply-all old.text text u v) ∙ ap (λ p. apply (Replace 0 p text) old.text) (sym part) ∙ b.makes in
-    let is : text ≡ b.text = cc in
-    let last : stepped old b.text (0 + length text) ≡ d.last = cc in
-    let place : 0 + length text ≡ length text = omega arith in (
-      d.line ∙ ap (λ (l : Line). record l { cursor = 0 + length text }) (sym last) ∙ ap (λ t. record old { text = t; cursor = 0 + length text; limit = max old.limit (length t) }) (sym is) ∙ ap (λ k. record old { text = text; cursor = k; limit = max old.limit (length text) }) place,
-      d.taken.listener ∙ ap (λ p. watch_step (watch_step before (Replace 0 p text)) (Cursors old.cursor (0 + length text))) part ∙ ap (λ k. watch_step (watch_step before (Replace 0 old.text text)) (Cursors old.cursor k)) place,
-    )
+Renewed old new before now text end a e u v d = grind (arith, part-all, first_step, apply-all)
 
 pub Kept : (old new : Line) (before now : Watched) (text : List ℕ) (end : ℕ) (r : Refusal) → end ≡ length old.text
     → Halted watch_step (or_no_memory (λ _ _ _ _. ⊥)) (replace_plan old 0 end text) old new before now r

@@ -1,5 +1,5 @@
 -- What holds whatever a call answered.
-use Rattle.rl_session.proofs.Common.{ToldOutcome, Outcome, Cut, line_ahead, replay_entries, Bool, false, true, inr, List, [], ◌∷◌, ◌*◌, ◌+◌, ◌<◌, ◌==◌, ◌||◌, cond, Result, Ok, Err, ◌≡◌, ◌∙◌, ap, ap₂, arith, refl, subst, sym, append-nil, inl, ◌≤◌, ℕ, length, take_all, nat_tests, IsCharBoundary-start, IsUtf8-nil, Option, None, max, IsSome, Some, IfOk, IfErr, IsUtf8, Event, InsertStr, Start, apply, Stop, HasText, Refusal, Line, stepped, Moved, Plan, single, Done, Halted, or_no_memory, Takes, nothing_more, a_copy, insert_str_plan, too_long, yank_plan, Told, Record, agree, replays_to, unwind, Redone, Undone, State, AtRest, Follows, Edited, lent_plan, popped, popped_plan, pair_step, pair_refused, Pair, IsCharBoundary, Walks, line_back, bytes_eq-Decides, same_Some}
+use Rattle.rl_session.proofs.Common.{ToldOutcome, Outcome, Cut, replay_entries, Bool, false, true, inr, List, [], ◌∷◌, ◌+◌, ◌<◌, ◌==◌, cond, Result, Ok, Err, ◌≡◌, ◌∙◌, ap, arith, refl, subst, sym, append-nil, inl, ◌≤◌, ℕ, length, take_all, IsCharBoundary-start, IsUtf8-nil, Option, None, max, IsSome, Some, IfOk, IfErr, IsUtf8, Event, InsertStr, Start, Stop, HasText, Refusal, Line, Moved, Plan, single, Done, Halted, or_no_memory, Takes, nothing_more, a_copy, insert_str_plan, too_long, yank_plan, Told, Record, agree, replays_to, unwind, Redone, Undone, State, AtRest, Follows, Edited, lent_plan, popped, popped_plan, pair_step, pair_refused, Pair, IsCharBoundary, Walks, line_back, bytes_eq-Decides, same_Some}
 use Rattle.rl_base.proofs.Texts.EventLemmas.{apply-InsertStr}
 use Rattle.rl_base.specs.declared.listeners.Refusal.TheVariants as why
 use Rattle.rl_line.specs.Plan.{nothing}
@@ -19,15 +19,7 @@ use Rattle.rl_line.proofs.Records.WalkLemmas.{Walks-truncated, Walks-Done, Walks
 pub put_first : {L : Type 0} (step : L → Event → L) (line new : Line) (limit : ℕ) (text : List ℕ) (b n : L) (a : Bool) → IsUtf8 text
     → line ≡ record { text = []; cursor = 0; limit = limit; grow = false } → Done step (insert_str_plan line 0 text) line new b n a
     → new ≡ record { text = text; cursor = 0; limit = max limit (length text); grow = false }
-put_first step line new limit text b n a u e d =
-    let empty : Line = record { text = []; cursor = 0; limit = limit; grow = false } in
-    let whole : apply (InsertStr 0 text) [] ≡ Some text =
-    apply-InsertStr [] 0 text u (IsCharBoundary-start [] IsUtf8-nil) ∙ ap (λ t. Some t) (append-nil text) in
-    let b = first_step (InsertStr 0 text, line.cursor) [] line d.last d.taken.line in
-    let fits : Some text ≡ Some b.text = sym whole ∙ ap (λ (l : Line). apply (InsertStr 0 text) l.text) (sym e) ∙ b.makes in
-    let same : stepped empty text 0 ≡ d.last =
-    ap (λ (l : Line). stepped l text l.cursor) (sym e) ∙ ap (λ t. stepped line t line.cursor) (same_Some _ _ fits) ∙ same_Some _ _ b.rest in
-    d.line ∙ ap (λ (l : Line). record l { cursor = line.cursor }) (sym same) ∙ ap (λ (l : Line). record (stepped empty text 0) { cursor = l.cursor }) e
+put_first step line new limit text b n a u e d = grind (arith, apply-InsertStr, IsCharBoundary-start, IsUtf8-nil, append-nil, first_step, same_Some)
 
 Walks-Moved : (place : Option ℕ) (r : Record) (old new : Line) (a : Bool) → Moved place old new a → Walks r old.text → Walks r new.text
 Walks-Moved None r old new a m w = subst (λ (l : Line). Walks r l.text) (sym m.1) w
@@ -87,9 +79,7 @@ AtRest-out_of_room plan p q old new w d at none h = (d, AtRest-refused plan p q 
 
 -- the record hears nothing of the start and the end of a kill
 pub past_telling : (P : Record → Record → Type 0) (before last now : Pair) → now ≡ pair_step last Stop → P (pair_step before Start).changes last.changes → P before.changes now.changes
-past_telling P before last now e inside =
-    let ended : now.changes ≡ last.changes = ap (λ (k : Pair). k.changes) e ∙ record_step-Stop last.changes in
-    subst (P before.changes) (sym ended) (subst (λ (r : Record). P r last.changes) (record_step-Start before.changes) inside)
+past_telling P before last now e inside = grind (arith, record_step-Stop, record_step-Start)
 
 Walks-Told : (b : Bool) (P : Pair → Pair → Type 0) (p q : Pair) (old new : Line)
     → ((before now : Pair) → P before now → Walks before.changes old.text → Walks now.changes new.text) → Told pair_step b P p q → Walks p.changes old.text → Walks q.changes new.text
@@ -134,15 +124,11 @@ Follows-Walks r line at w = record { back = Walks-back r line w at; ahead = Walk
 
 -- so the recorded changes can be unwound
 pub follows_unwind : (r : Record) (line : Line) → Follows line r → IsSome (unwind r.recorded line.text)
-follows_unwind r line f =
-    let now = value_of (line_back r.recorded line) f.back in
-    subst IsSome (sym (line_back-unwind r.recorded line now.0 now.1)) refl
+follows_unwind r line f = grind (arith, value_of, line_back-unwind)
 
 -- and what was undone can be redone
 pub follows_replay : (r : Record) (line : Line) → Follows line r → IsSome (replay_entries r.pending line.text)
-follows_replay r line f =
-    let now = value_of (line_ahead r.pending line) f.ahead in
-    subst IsSome (sym (line_ahead-replay r.pending line now.0 now.1)) refl
+follows_replay r line f = grind (arith, value_of, line_ahead-replay)
 
 Edited-nothing : {A : Type 0} (a : A) (s : State) → Edited (nothing s.line a) s s a
 Edited-nothing a s = record {
@@ -159,10 +145,7 @@ nothing_lent n old (Some (c ∷ cs)) h left l = absurd (h (omega arith))
 -- in no times any text that is not empty goes in as any other
 yanked-no_times : (line : Line) (s : List ℕ) → 0 < length s
     → yank_plan line s 0 ≡ cond (too_long line (length line.text + 0)) (nothing line None) (single (InsertStr line.cursor []) (line.cursor + 0) (Some (line.cursor == length line.text)))
-yanked-no_times line s some =
-    let none : length s * 0 ≡ 0 = omega arith in
-    let full : (length s == 0) ≡ false = grind (arith, nat_tests) in
-    ap₂ (λ b more. cond (b || too_long line (length line.text + more)) (nothing line None) (single (InsertStr line.cursor []) (line.cursor + more) (Some (line.cursor == length line.text)))) full none
+yanked-no_times line s some = grind (arith)
 
 pub lent-no_times : (line : Line) (s : List ℕ) (slot : Option (List ℕ)) → 0 < length s → HasText slot → yank_plan line s 0 ≡ lent_plan line slot 0
 lent-no_times line s None some h = absurd h
