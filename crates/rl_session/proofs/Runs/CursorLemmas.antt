@@ -148,12 +148,8 @@ heavier event e j ss h lone = cc
 
 Grows-after : (event : Event) (es : List Entry) (ss : List Step) → IsLone event ss → Grows es (entries_after event es)
 Grows-after event [] ss lone = tt
-Grows-after event (e ∷ []) ss lone = from (joined event e) refl
-  where
-    from : (o : Option Entry) → joined event e ≡ o → Grows (e ∷ []) (option_map_or (λ joint. joint ∷ []) o (e ∷ entries_of event))
-    from None h = (omega arith, tt)
-    from (Some j) h = elim (heavier event e j ss h lone) [ inl more ↦ (omega (arith, more), tt) | inr p ↦ (p.0, tt) ]
-Grows-after event (e ∷ (d ∷ ds)) ss lone = (omega arith, Grows-after event (d ∷ ds) ss lone)
+Grows-after event (e ∷ []) ss lone = grind (arith, heavier)
+Grows-after event (e ∷ (d ∷ ds)) ss lone = grind (arith, (Grows-after event (d ∷ ds) ss lone))
 
 Grows-told : (fresh : Freshness) (b a : ℕ) (es : List Entry) → Grows es (entries_told fresh b a es)
 Grows-told fresh b a es = told-cases (λ ks. Grows es ks) fresh b a es (Grows-same es) (λ p. Grows-last_told p es)

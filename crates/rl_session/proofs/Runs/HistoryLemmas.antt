@@ -126,11 +126,7 @@ redo-row row = done_as row Redo (λ r k l m. (a : Bool) × Redone r k l m a) Red
 
 redo-rows : (rows : List Row) (old new : State) → AllRedone rows → Leads old rows new → Redos (length rows) old.pair.changes new.pair.changes old.line new.line
 redo-rows [] old new all l = (ap (λ (s : State). s.pair.changes) l, ap (λ (s : State). s.line) l)
-redo-rows (row ∷ rows) old new all l =
-    let first = redo-row row all.0 all.1 in
-    let others = redo-rows rows row.after new all.2 l.1 in
-    subst (λ (s : State). Redos (suc (length rows)) s.pair.changes new.pair.changes s.line new.line) l.0
-    (row.after.pair.changes, row.after.line, first.0, first.1, others)
+redo-rows (row ∷ rows) old new all l = grind (arith, redo-row, (redo-rows rows row.after new all.2 l.1))
 
 pub redo-in_run : (start : List ℕ) (held : List (List ℕ)) (old new : State) (commands : List Command) (replies : List Reply)
     (earlier redos : List Row) (row : Row) (n : ℕ) → Holds start held old → (run : Run old commands replies new)

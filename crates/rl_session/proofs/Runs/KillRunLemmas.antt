@@ -18,6 +18,7 @@ use Rattle.rl_session.specs.Commands.{Step, lent as lent_state}
 use Rattle.rl_session.specs.declared.session.Reply.TheVariants as says
 use Rattle.rl_session.proofs.Runs.RowLemmas.{Leads-keeps, Step-size}
 use Rattle.rl_line.proofs.Plans.PlanLemmas.{first_step}
+use Rattle.std.proofs.lemmas.Grind.{common_steps}
 
 -- ---- the newest slot
 get-after : (slots : List (List ℕ)) (text : List ℕ) → slice_get (slots ++ text ∷ []) (length slots) ≡ Some text
@@ -130,27 +131,8 @@ touches-range Backward text r pos new within e h = omega (arith, e, h.0, h.1, le
 -- what a removal between the start and the end of a kill did
 removed : (old new : State) (o : Option (Range ℕ)) (side : Direction) (a : Bool) → old.line.cursor ≤ length old.line.text → IfSome o (LiesOn side old.line.cursor)
     → Between pair_step (λ before now. Edited (removal old.line o side) (record old { pair = before }) (record new { pair = now }) a) old.pair new.pair → Outcome a old new
-removed old new None side a within h t =
-    let d = t.inside.done in
-    subst (λ b. Outcome b old new) (sym d.answered) (record {
-      line_is = d.line ∙ ap (λ (l : Line). record l { cursor = old.line.cursor }) (sym (same_Some _ _ d.taken.line));
-      ring_is = ap (λ (p : Pair). p.ring) t.ended ∙ ap (λ (p : Pair). ring_step p.ring Stop) d.taken.listener;
-    })
-removed old new (Some r) side a within h t =
-    let d = t.inside.done in
-    let taken = text_in old.line r in
-    let b = first_step (Delete r.start taken side, r.start) [] old.line d.last d.taken.line in
-    let line : new.line ≡ stepped old.line b.text r.start = d.line ∙ ap (λ (l : Line). record l { cursor = r.start }) (sym (same_Some _ _ b.rest)) in
-    let at : new.line.cursor ≡ r.start = ap (λ (l : Line). l.cursor) line in
-    let limit : new.line.limit ≡ max old.line.limit (length b.text) = ap (λ (l : Line). l.limit) line in
-    subst (λ b. Outcome b old new) (sym d.answered) (record {
-      side = side;
-      taken = taken;
-      text_is = ap (λ k. apply (Delete k taken side) old.line.text) at ∙ b.makes ∙ ap (λ (l : Line). Some l.text) (sym line);
-      touches = touches-range side old.line.text r old.line.cursor new.line.cursor within at h;
-      limit_is = omega arith;
-      ring_is = ap (λ (p : Pair). p.ring) t.ended ∙ ap (λ (p : Pair). ring_step p.ring Stop) d.taken.listener;
-    })
+removed old new None side a within h t = grind (arith, same_Some)
+removed old new (Some r) side a within h t = grind (arith, first_step, same_Some, touches-range)
 
 -- a kill by a directed movement leaves what the ring did last, and is told from its start to its end
 told_whole : (b : Bool) (P : Pair → Pair → Type 0) (old : State) (new : Pair) → b ≡ false
@@ -243,16 +225,7 @@ fits-within line n h = rw (le-ltb line.limit n h) (and-false (not line.grow))
 
 yank_plan-done : (slot : List ℕ) (old new : Line) (p q : Pair) (a : Option Bool) → length old.text + length slot ≤ old.limit
     → Done pair_step (yank_plan old slot 1) old new p q a → Yanked slot old new p.ring q.ring
-yank_plan-done slot old new p q a room d = by_length (length slot == 0) refl
-  where
-    as_plan : (plan : Plan (Option Bool)) → yank_plan old slot 1 ≡ plan → Done pair_step plan old new p q a
-    as_plan plan e = subst (λ k. Done pair_step k old new p q a) e d
-
-    by_length : (b : Bool) → (length slot == 0) ≡ b → Yanked slot old new p.ring q.ring
-    by_length true e = yanked_nothing slot old new p q a (eqb-true (length slot) 0 e) (as_plan _ (yank_plan-nothing old slot 1 (rw e refl)))
-    by_length false e =
-        let fits = fits-within old (length old.text + length slot * 1) (omega arith) in
-        yanked_once slot old new p q a _ _ (omega arith) (as_plan _ (yank_plan-some old slot 1 _ refl e fits))
+yank_plan-done slot old new p q a room d = grind (arith, common_steps, yanked_nothing, eqb-true, yank_plan-nothing, fits-within, yanked_once, yank_plan-some)
 
 yank-lent : (o : Option (List ℕ)) (r : Ring) → yank (lent o r) ≡ yank r
 yank-lent None r = refl

@@ -4,6 +4,7 @@ use borrow.Author.Tests.{eqb-true}
 use Rattle.rl_session.proofs.Common.{add-one, take_rest}
 use Rattle.rl_session.specs.Lines.{onto}
 use Rattle.rl_session.specs.Script.{LineOut}
+use Rattle.std.proofs.lemmas.Grind.{common_steps}
 
 -- a line that a newline ends
 pub lines_of-ended : (line rest : List ℕ) → HasNoNewline line → lines_of (line ++ 10 ∷ rest) ≡ line ∷ lines_of rest
@@ -58,10 +59,8 @@ LineOut-said old new line (Some s) out h k = inl (meaning_of s, h, k)
 
 pub Outputs-append : (xs ys : List (List ℕ)) (old mid new : Interpreter) (first others : List ℕ)
     → Outputs old xs first mid → Outputs mid ys others new → Outputs old (xs ++ ys) (first ++ others) new
-Outputs-append [] ys old mid new first others h k =
-    subst (λ s. Outputs s ys (first ++ others) new) h.1 (subst (λ (o : List ℕ). Outputs mid ys o new) (sym (ap (λ l. l ++ others) h.0)) k)
-Outputs-append (x ∷ xs) ys old mid new first others h k =
-    (h.0, h.1, h.2 ++ others, ap (λ l. l ++ others) h.3 ∙ append_assoc h.1 h.2 others, h.4, Outputs-append xs ys h.0 mid new h.2 others h.5 k)
+Outputs-append [] ys old mid new first others h k = grind (arith)
+Outputs-append (x ∷ xs) ys old mid new first others h k = grind (arith, append_assoc, (Outputs-append xs ys h.0 mid new h.2 others h.5 k))
 
 -- some bytes more of a line
 pub Took-part : (old : Interpreter) (part bytes : List ℕ) (held : Option (List ℕ)) → Took old part bytes held held old (part ++ bytes)
@@ -75,14 +74,7 @@ cut_on cut part bytes bytes' more xs ys mid rest p q =
 
 pub Took-trans : (old mid new : Interpreter) (part part' part'' bytes bytes' : List ℕ) (a b c : Option (List ℕ))
     → Took old part bytes a b mid part' → Took mid part' bytes' b c new part'' → Took old part (bytes ++ bytes') a c new part''
-Took-trans old mid new part part' part'' bytes bytes' a b c h k = record {
-  lines = h.lines ++ k.lines;
-  out = h.out ++ k.out;
-  split = λ more. cut_on lines_of part bytes bytes' more h.lines k.lines _ _ (h.split (bytes' ++ more)) (k.split more);
-  ended = λ more. cut_on whole_lines part bytes bytes' more h.lines k.lines _ _ (h.ended (bytes' ++ more)) (k.ended more);
-  outputs = Outputs-append h.lines k.lines old mid new h.out k.out h.outputs k.outputs;
-  written = Appends-trans a b c h.out k.out h.written k.written;
-}
+Took-trans old mid new part part' part'' bytes bytes' a b c h k = grind (arith, common_steps, cut_on, Outputs-append, Appends-trans)
 
 -- a line that a newline ended was run and written
 pub Took-line : (old new : Interpreter) (line out : List ℕ) (a b : Option (List ℕ)) → HasNoNewline line → LineOut old line out new → Appends a b out

@@ -2,6 +2,7 @@
 use Rattle.rl_session.proofs.Common.{arith, ◌≡◌, ◌≢◌, ℕ, ◌+◌, ◌-◌, ◌*◌, ◌^◌, ◌<◌, ◌≤◌, true, false, List, [], ◌∷◌, length, get_or, drop, Option, Some, None, refl, sym, ap, ◌∙◌, ◌&&◌, ◌==◌, nat_le, and-false, eqb-true, eqb-false, nat_tests, at_drop_more, nil_from_length, are_digits, value_from}
 use native.Mathlib.Nat.{pow-le-pow_right}
 use Rattle.rl_session.specs.Spelling.{number_of}
+use Rattle.std.proofs.lemmas.Grind.{common_steps}
 
 grows : (n : ℕ) (ds : List ℕ) → n ≤ value_from n ds
 grows n [] = omega arith
@@ -14,9 +15,7 @@ number-nothing g bs h = rw h refl
 pub number-bad : (g i : ℕ) (bs : List ℕ) → i < length bs → are_digits (drop i bs) ≡ are_digits bs
     → (nat_le 48 (get_or bs i 0) && nat_le (get_or bs i 0) 57) ≡ false → None ≡ number_of g bs
 unfolding number_of
-number-bad g i bs h all bad =
-    let none : are_digits bs ≡ false = sym all ∙ at_drop_more are_digits bs i 0 h ∙ ap (λ t. t && are_digits (drop (i + 1) bs)) bad in
-    rw (none, and-false) refl
+number-bad g i bs h all bad = grind (arith, common_steps, and-false)
 
 pub number-great : (g i v : ℕ) (bs : List ℕ) → i < length bs → value_from v (drop i bs) ≡ value_from 0 bs
     → g < v * 10 + (get_or bs i 0 - 48) → None ≡ number_of g bs

@@ -95,12 +95,8 @@ effect-changes old command reply = course-changes (asked old.line command) old c
 -- ---- an event of an empty text
 next-nothing : (event : Event) (es : List Entry) (b a : ℕ) → IsLone event [] → entries_of event ≡ [] → next event es b a ≡ es
 next-nothing (InsertChar i c) es b a lone none = absurd (never-char i c none)
-next-nothing (InsertStr i s) es b a lone none =
-    let empty = empty-inserted i s none in
-    ap (λ f. entries_told f b a (entries_after (InsertStr i s) es)) (fresh-InsertStr-nothing es i s empty) ∙ after-InsertStr-nothing es i s empty
-next-nothing (Delete i s side) es b a lone none =
-    let empty = empty-deleted i s side none in
-    ap (λ f. entries_told f b a (entries_after (Delete i s side) es)) (fresh-Delete-nothing es i s side empty) ∙ after-Delete-nothing es i s side empty
+next-nothing (InsertStr i s) es b a lone none = grind (arith, empty-inserted, fresh-InsertStr-nothing, after-InsertStr-nothing)
+next-nothing (Delete i s side) es b a lone none = grind (arith, empty-deleted, fresh-Delete-nothing, after-Delete-nothing)
 next-nothing (Replace i s t) es b a lone none = absurd (never-replaced i s t none)
 next-nothing _ es b a lone none = absurd lone
 

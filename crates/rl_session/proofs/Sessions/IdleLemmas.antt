@@ -6,6 +6,7 @@ use Rattle.rl_line.specs.Plan.{Step}
 use Rattle.rl_line.specs.Ranges.{killed}
 use Rattle.rl_line.proofs.Plans.HearingLemmas.{AreChanges}
 use Rattle.rl_session.proofs.Sessions.PairLemmas.{listener_after-ring}
+use Rattle.rl_session.proofs.Common.{arith}
 
 -- each step changes the text, so none tells the start of a kill
 abbrev pub NoneStarts : List Step → Type 0
@@ -72,9 +73,7 @@ idle-popped r now e h = ap (λ (k : Ring). k.killing) e ∙ idle-popped_ring (ya
 
 -- ---- no plan tells the start of a kill: each step is a change
 pub NoneStarts-insert : (line : Line) (c n : ℕ) → NoneStarts (insert_plan line c n).steps
-NoneStarts-insert line c n =
-    cond_both (too_long line (length line.text + length (encode_utf8 c) * n)) _ _ (λ (p : Plan (Option Bool)). NoneStarts p.steps) (λ e. tt)
-    (λ e. (cond_both (n == 1) _ _ IsChange (λ e. tt) (λ e. tt), tt))
+NoneStarts-insert line c n = grind (arith, cond_both)
 
 pub NoneStarts-yank : (line : Line) (s : List ℕ) (n : ℕ) → NoneStarts (yank_plan line s n).steps
 NoneStarts-yank line s n =

@@ -13,6 +13,7 @@ use Rattle.rl_base.proofs.Texts.LineLemmas.{few-from_none, IsCharBoundary-nth, p
 use Rattle.rl_base.proofs.Clusters.ClusterLemmas.{bytes_in-append, bytes_in-clusters}
 use Rattle.rl_base.proofs.Clusters.WordLemmas.{All-reverse, All-stops, IsCharBoundary-member, IsCharBoundary-stop, nth-is_or, prev_word-some, start_before}
 use Rattle.rl_line.proofs.Records.RecordLemmas.{through}
+use Rattle.std.proofs.lemmas.Grind.{common_steps}
 
 -- the plan's steps are quiet, and it ends where its last step leaves the cursor
 pub record Settles {A : Type 0} (line : Line) (plan : Plan A) : Type 0 where
@@ -150,14 +151,8 @@ Open-line false n text i cursor = Open-put_spaces (parts n) i cursor
 Open-line true n text i cursor = (λ later. tt, tt)
 
 Goes-line : (dedent : Bool) (n : ℕ) (text : List ℕ) (i cursor : ℕ) → Goes cursor (line_plan dedent n text i cursor)
-Goes-line false n text i cursor = record {
-  quiet = Quiet-put_spaces (parts n) i cursor;
-  ends = ap (λ k. pushed i k cursor) (sym (sum-parts n)) ∙ sym (ends-put_spaces (parts n) i cursor);
-}
-Goes-line true n text i cursor = record {
-  quiet = (λ e. pulled-still i (length (blanks n text)) cursor (empty-deleted i (blanks n text) Forward e), tt, tt);
-  ends = refl;
-}
+Goes-line false n text i cursor = grind (arith, Quiet-put_spaces, sum-parts, ends-put_spaces)
+Goes-line true n text i cursor = grind (arith, pulled-still, empty-deleted)
 
 Goes-lines : (dedent : Bool) (n : ℕ) (texts : List (List ℕ)) (i cursor : ℕ) → Goes cursor (lines_plan dedent n texts i cursor)
 Goes-lines dedent n [] i cursor = record { quiet = tt; ends = refl }
@@ -207,15 +202,7 @@ before-last text (p ∷ ps) u e =
         subst (IsCharBoundary text) is (IsCharBoundary-nth text n x u k)
 
 IsCharBoundary-last : (text : List ℕ) (pos q : ℕ) → IsUtf8 text → pos ≡ length text → prev_pos text pos 1 ≡ Some q → IsCharBoundary text q
-IsCharBoundary-last text pos q u end h = from (pos == 0) h
-  where
-    from : (b : Bool) → cond ((1 == 0) || b) None (Some (pos - bytes_in (take 1 (reverse (clusters (take pos text)))))) ≡ Some q → IsCharBoundary text q
-    from true k = cc
-    from false k =
-        let whole : take pos text ≡ text = take_all pos text (omega arith) in
-        let is : length text - bytes_in (take 1 (reverse (clusters text))) ≡ q =
-        ap₂ (λ n t. n - bytes_in (take 1 (reverse (clusters t)))) (sym end) (sym whole) ∙ same_Some _ _ k in
-        subst (IsCharBoundary text) is (before-last text (reverse (clusters text)) u refl)
+IsCharBoundary-last text pos q u end h = grind (arith, common_steps, same_Some, before-last)
 
 IsCharBoundary-meeting : (line : Line) (q : ℕ) → IsUtf8 line.text → IsCharBoundary line.text line.cursor → meeting_place line ≡ Some q → IsCharBoundary line.text q
 IsCharBoundary-meeting line q u bound h = grind (arith, IsCharBoundary-last, eqb-true, same_Some)
@@ -226,17 +213,7 @@ around-some text q around full u bound h = grind (arith, through, same_Some, nex
 
 Settles-pulled_back : (line : Line) (around : Option (ℕ × Range ℕ)) → ((a : ℕ × Range ℕ) → around ≡ Some a → 0 < length (text_in line a.1)) → Settles line (pulled_back line around)
 Settles-pulled_back line None some = Settles-nothing line false
-Settles-pulled_back line (Some a) some =
-    let moved = text_in line a.1 in
-    let wide = some a refl in
-    record {
-      quiet = (
-        λ e. absurd (omega (arith, wide, empty-deleted a.1.start moved Forward e)),
-        tt,
-        (λ e. absurd (omega (arith, wide, empty-inserted a.0 moved e)), tt, tt),
-      );
-      ends = λ steps. refl;
-    }
+Settles-pulled_back line (Some a) some = grind (arith, empty-deleted, empty-inserted)
 
 pub Settles-transpose_chars : (line : Line) → ((text : List ℕ) → NoneEmpty text) → IsUtf8 line.text → IsCharBoundary line.text line.cursor → Settles line (transpose_chars_plan line)
 Settles-transpose_chars line full u bound =

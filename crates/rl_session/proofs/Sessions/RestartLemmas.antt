@@ -3,20 +3,11 @@ use Rattle.rl_session.proofs.Common.{◌≡◌, ◌∙◌, ℕ, ◌+◌, ◌-◌
 use Rattle.rl_base.proofs.Texts.SwapLemmas.{apply-Replace-Swaps}
 use Rattle.rl_line.specs.Plan.{Step}
 use Rattle.rl_line.proofs.Plans.PlanLemmas.{first_step}
+use Rattle.rl_session.proofs.Common.{rules}
 
 -- all of a text gives way to another
 pub apply-all : (old new : List ℕ) → IsUtf8 old → IsUtf8 new → apply (Replace 0 old new) old ≡ Some new
-apply-all old new u v = apply-Replace-Swaps old new 0 old new (record {
-  front = [];
-  rest = [];
-  text_is = sym (append-nil old);
-  after_is = sym (append-nil new);
-  place = refl;
-  front_utf8 = IsUtf8-nil;
-  rest_utf8 = IsUtf8-nil;
-  old_utf8 = u;
-  new_utf8 = v;
-})
+apply-all old new u v = search (rules, apply-Replace-Swaps, append-nil, IsUtf8-nil)
 
 part-all : (text : List ℕ) (end : ℕ) → end ≡ length text → slice_range text 0 end ≡ text
 part-all text end e = take_all (end - 0) text (omega (arith, e))
