@@ -15,11 +15,8 @@ braces bytes inner digits others c e f n = record {
 -- an escape that begins with a u is one in braces
 in_braces : (bytes code others : List ℕ) (c : ℕ) → Escapes code c → 117 ∷ bytes ≡ code ++ others
     → (digits : List ℕ) × NamesChar digits c × (bytes ≡ 123 ∷ (digits ++ 125 ∷ others))
-in_braces bytes code others c (letter {b = b} h) e =
-    let is : b ≡ 117 = cc in
-    let none : None ≡ Some c = subst (λ x. letter_of x ≡ Some c) is h in absurd cc
-in_braces bytes code others c (braced {digits = digits} n) e =
-    let tail : bytes ≡ 123 ∷ ((digits ++ 125 ∷ []) ++ others) = cc in (digits, n, simp append_assoc at tail)
+in_braces bytes code others c (letter {b = b} h) e = grind (arith)
+in_braces bytes code others c (braced {digits = digits} n) e = grind (arith, append_assoc)
 
 pub no_brace : (bytes : List ℕ) → ((inner : List ℕ) → bytes ≢ 123 ∷ inner) → BeginsNoEscape (117 ∷ bytes)
 no_brace bytes h c others e = let found = in_braces bytes e.code others c e.stands e.is in h _ found.2

@@ -63,20 +63,10 @@ digits-Lacks n (b ∷ bs) c h =
 
 -- two escapes that begin the same bytes are one
 two_escapes : (code other rest more : List ℕ) (c d : ℕ) → Escapes code c → Escapes other d → code ++ rest ≡ other ++ more → (c ≡ d) × (rest ≡ more)
-two_escapes code other rest more c d (letter {b = a} p) (letter {b = b} q) e =
-    let same : a ≡ b = cc in
-    let both : Some c ≡ Some d = sym p ∙ ap letter_of same ∙ q in (cc, cc)
-two_escapes code other rest more c d (letter {b = a} p) (braced q) e =
-    let is : a ≡ 117 = cc in
-    let none : None ≡ Some c = subst (λ x. letter_of x ≡ Some c) is p in absurd cc
-two_escapes code other rest more c d (braced p) (letter {b = b} q) e =
-    let is : b ≡ 117 = cc in
-    let none : None ≡ Some d = subst (λ x. letter_of x ≡ Some d) is q in absurd cc
-two_escapes code other rest more c d (braced {digits = xs} p) (braced {digits = ys} q) e =
-    let left : (xs ++ 125 ∷ []) ++ rest ≡ (ys ++ 125 ∷ []) ++ more = cc in
-    let same : (xs ≡ ys) × (rest ≡ more) = same_parts 125 xs ys rest more (digits-Lacks 0 xs c p.value) (digits-Lacks 0 ys d q.value) (simp append_assoc at left) in
-    let both : Some c ≡ Some d = sym p.value ∙ ap (hex_from 0) same.0 ∙ q.value in
-    (cc, same.1)
+two_escapes code other rest more c d (letter {b = a} p) (letter {b = b} q) e = grind (arith)
+two_escapes code other rest more c d (letter {b = a} p) (braced q) e = grind (arith)
+two_escapes code other rest more c d (braced p) (letter {b = b} q) e = grind (arith)
+two_escapes code other rest more c d (braced {digits = xs} p) (braced {digits = ys} q) e = grind (arith, same_parts, digits-Lacks, append_assoc)
 
 BeginsEscape-one : (bytes rest more : List ℕ) (c d : ℕ) → BeginsEscape bytes c rest → BeginsEscape bytes d more → (c ≡ d) × (rest ≡ more)
 BeginsEscape-one bytes rest more c d p q = two_escapes p.code q.code rest more c d p.stands q.stands (sym p.is ∙ q.is)
