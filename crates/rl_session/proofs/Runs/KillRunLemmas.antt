@@ -1,5 +1,5 @@
 -- Directed kills of a session take one part of its text, which the newest slot holds, so that a yank gives it back.
-use Rattle.rl_session.proofs.Common.{insert_slice, take, drop, take-append-drop, IsUtf8-nil, ◌≡◌, ℕ, ◌+◌, ◌*◌, ◌<◌, ◌≤◌, ◌⊎◌, inl, inr, zero, suc, Bool, true, false, not, cond, List, [], ◌∷◌, ◌++◌, map, length, Option, Some, None, refl, sym, ap, subst, ◌∙◌, arith, rules, length-append, append-nil, and-false, cond_both, eqb-true, eqb-false, le-ltb, map-append, length-between, same_Some, max, ◌==◌, slice_get, slice_set, slice_range, IfSome, repeat, IsCharBoundary, IsUtf8, Range, InsertStr, Stop, apply, Ring, IsRing, put_at, join_at, in_new_slot, killed_as, reset, yanked, side_mode, ring_step, Action, Direction, Forward, Backward, Movement, BeginningOfLine, EndOfLine, FirstNonBlank, BackwardWord, ForwardWord, ViCharSearch, BeginningOfBuffer, EndOfBuffer, Line, between, stepped, Plan, single, Done, too_long, yank_plan, Between, Told, removal, side_of, is_by_characters, text_in, unless_empty, pair_step, State, Stands, with_ring, Edited, is_vain_yank, lent_plan, IsDirected, AllDirected, IsNoKill, AnyTook, NoneRefused, GivenBack, IsDirectedKill, AllKill, Row, Leads, Run, before_last, commands_of, replies_of, Pair, Command, Yank, Kill, KillRange, Reply}
+use Rattle.rl_session.proofs.Common.{insert_slice, take, drop, take-append-drop, IsUtf8-nil, ◌≡◌, ℕ, ◌+◌, ◌<◌, ◌≤◌, ◌⊎◌, inl, inr, zero, suc, Bool, true, false, not, cond, List, [], ◌∷◌, ◌++◌, map, length, Option, Some, None, refl, sym, ap, subst, ◌∙◌, arith, rules, length-append, append-nil, and-false, cond_both, eqb-true, eqb-false, le-ltb, map-append, length-between, same_Some, ◌==◌, slice_get, slice_set, slice_range, IfSome, repeat, IsCharBoundary, IsUtf8, Range, InsertStr, apply, Ring, IsRing, put_at, join_at, in_new_slot, killed_as, reset, yanked, side_mode, Action, Direction, Forward, Backward, Movement, BeginningOfLine, EndOfLine, FirstNonBlank, BackwardWord, ForwardWord, ViCharSearch, BeginningOfBuffer, EndOfBuffer, Line, between, single, Done, too_long, yank_plan, Between, Told, removal, side_of, is_by_characters, unless_empty, pair_step, State, Stands, with_ring, Edited, is_vain_yank, lent_plan, IsDirected, AllDirected, IsNoKill, AnyTook, NoneRefused, GivenBack, IsDirectedKill, AllKill, Row, Leads, Run, before_last, commands_of, replies_of, Pair, Command, Yank, Kill, KillRange, Reply}
 use Rattle.std.proofs.lemmas.List.{get_or-set_same}
 use Rattle.std.proofs.lemmas.Option.{slice_get-get_or}
 use Rattle.std.proofs.Math.ListN.{length-set}

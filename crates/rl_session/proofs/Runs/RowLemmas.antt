@@ -1,9 +1,8 @@
 -- What each row of a session keeps, and how a run goes on.
-use Rattle.rl_session.proofs.Common.{None, Some, Option, ap₂, cond_both, popped_ring, turned, yank_size, ring_step, Ring, Event, IsChange, Pair, Append, List, [], ◌∷◌, ◌++◌, ◌≡◌, ◌∙◌, ap, true, false, inl, inr, refl, subst, sym, append_assoc, map-append, ℕ, IsSome, min, IsUtf8, unbounded, Entry, unwind, level, Command, Reply, State, Replays, origin, Start, Course, never, when, stays, goes, edits, lends, pops, tells, Came, popped, Effect, by_steps, puts_begin, puts_ends, puts_end, shortens, takes_back, puts_again, Became, effect, readied, within_bound, no_bound, pair_step, Bound, Row, held, held_of, Leads, Run, AfterEach, commands_of, replies_of, steps_in}
+use Rattle.rl_session.proofs.Common.{None, Some, Option, ap₂, cond_both, popped_ring, turned, yank_size, ring_step, Ring, Event, IsChange, Pair, Append, List, [], ◌∷◌, ◌++◌, ◌≡◌, ◌∙◌, ap, true, false, inl, inr, refl, subst, sym, append_assoc, map-append, ℕ, IsSome, min, IsUtf8, unwind, level, Command, Reply, State, Replays, origin, Start, Course, never, when, stays, goes, edits, lends, pops, tells, Came, popped, Effect, by_steps, puts_begin, puts_ends, puts_end, shortens, takes_back, puts_again, Became, within_bound, no_bound, pair_step, Row, held, held_of, Leads, Run, AfterEach, commands_of, replies_of, steps_in}
 use Rattle.rl_base.proofs.Ring.KillGroupLemmas.{killed_as-size, lent-size, ring_step-size}
 use Rattle.rl_base.specs.KillRing.{yank}
 use Rattle.rl_line.specs.Plan.{Step as PlanStep}
-use Rattle.rl_line.specs.Forgetting.{forgotten}
 use Rattle.rl_line.proofs.Records.ForgettingLemmas.{fitting-stay}
 use Rattle.rl_line.proofs.Records.MarkLemmas.{Kept-begun, Kept-closed, Kept-Redone, Kept-truncated}
 use Rattle.rl_line.proofs.Records.OriginLemmas.{Kept, Kept-Taken, Kept-Undone}

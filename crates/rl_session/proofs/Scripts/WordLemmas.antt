@@ -164,6 +164,10 @@ range-no_start given none command even (range p s) = none _ _ p
 pub range-no_end : (given digits : List ℕ) (a : ℕ) → Numbered (2 ^ 64 - 1) given a digits → None ≡ number_of (2 ^ 64 - 1) digits → SaysNoDeletion (codes "range") given
 range-no_end given digits a h none command even (range p s) = none_holds _ (none ∙ ap (number_of (2 ^ 64 - 1)) (Numbered-one h p).1) s
 
-pub ruleset deletions = (range, del, back, prevword, nextword, to, killrange, no-del, no-back, no-prevword, no-nextword, no-to, no-killrange, range-no_start, range-no_end)
+pub ruleset no_deletions = (no-del, no-back, no-prevword, no-nextword, no-to, no-killrange, range-no_start, range-no_end)
 
-pub ruleset commands = (pos, move, ins, yank, twords, cased, kill, copy, indent, dedent, undo, trunc, no-pos, no-trunc, no-yank, no-twords, no-undo, no-move, no-kill, no-copy, no-indent, no-dedent, no-case, ins-no_count, ins-no_char)
+pub ruleset deletions = (range, del, back, prevword, nextword, to, killrange, no_deletions)
+
+pub ruleset no_commands = (no-pos, no-trunc, no-yank, no-twords, no-undo, no-move, no-kill, no-copy, no-indent, no-dedent, no-case, ins-no_count, ins-no_char)
+
+pub ruleset commands = (pos, move, ins, yank, twords, cased, kill, copy, indent, dedent, undo, trunc, no_commands)

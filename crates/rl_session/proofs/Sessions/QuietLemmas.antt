@@ -1,5 +1,5 @@
 -- What the plans of the edits do with the cursor: a step that adds no entry leaves it, and a plan ends where its last step leaves it.
-use Rattle.rl_session.proofs.Common.{IsCharBoundary-start, ◌≡◌, ℕ, ◌+◌, ◌-◌, ◌*◌, ◌==◌, ◌||◌, ◌≤◌, ◌<◌, Bool, true, false, zero, suc, List, [], ◌∷◌, ◌++◌, length, slice_range, take, drop, take_at, false-eqb, slice_get, take_all, reverse, length-append, ap₂, Option, Some, None, refl, sym, ap, subst, ◌∙◌, cond, eqb-true, arith, sum, length-between, nat_tests, sum_by-cons, encode_utf8, option_and_then, unwrap_or, All, remove_range, repeat, Range, Event, InsertChar, InsertStr, Replace, Direction, Forward, Movement, insert_event, insert_plan, insert_str_plan, replace_plan, too_long, update_plan, yank_plan, yank_pop_plan, blanks, indent_plan, line_plan, lines_plan, parts, pulled, pushed, put_spaces, spaces, word_ahead, delete_plan, kill_plan, removal, side_of, Line, between, stepped, Plan, answering, single, text_in, to_place, Entry, cond_both, length_push, reverse-append, reverse-reverse, length-take-le, length-drop, All-head, All-weaker, same_Some, IsUtf8-take, IsUtf8-drop, IsCharBoundary-end, IsCharBoundary-from_rest, IfSome, option_map, option_or, IsCharBoundary, IsUtf8, clusters, bytes_in, next_pos, prev_pos, PlacedCluster, first_member, next_stop, nth, placed_clusters, Emacs, are_two, clusters_around, first_word, meeting_place, pulled_back, second_word, swap_plan, transpose_chars_plan, transpose_words_plan, word_end, word_start}
+use Rattle.rl_session.proofs.Common.{IsCharBoundary-start, ◌≡◌, ℕ, ◌+◌, ◌-◌, ◌*◌, ◌==◌, ◌||◌, ◌≤◌, ◌<◌, Bool, true, false, zero, suc, List, [], ◌∷◌, ◌++◌, length, slice_range, take, drop, take_at, false-eqb, slice_get, reverse, length-append, Option, Some, None, refl, sym, ap, subst, ◌∙◌, cond, eqb-true, arith, sum, length-between, nat_tests, sum_by-cons, encode_utf8, option_and_then, unwrap_or, All, remove_range, repeat, Range, Event, InsertChar, InsertStr, Replace, Direction, Forward, Movement, insert_event, insert_plan, insert_str_plan, replace_plan, too_long, update_plan, yank_plan, yank_pop_plan, indent_plan, line_plan, lines_plan, parts, pulled, pushed, put_spaces, spaces, word_ahead, delete_plan, kill_plan, removal, side_of, Line, between, stepped, Plan, answering, single, text_in, to_place, Entry, cond_both, length_push, reverse-append, reverse-reverse, length-take-le, length-drop, All-head, All-weaker, same_Some, IsUtf8-take, IsUtf8-drop, IsCharBoundary-end, IsCharBoundary-from_rest, IfSome, option_map, option_or, IsCharBoundary, IsUtf8, clusters, bytes_in, next_pos, prev_pos, PlacedCluster, first_member, next_stop, nth, placed_clusters, Emacs, are_two, clusters_around, first_word, meeting_place, pulled_back, second_word, swap_plan, transpose_chars_plan, transpose_words_plan, word_end, word_start}
 use Rattle.rl_line.proofs.Plans.IndentLemmas.{length-spaces, pushed-none, pushed-pushed, sum-parts}
 use Rattle.rl_base.specs.Event.{Delete}
 use Rattle.rl_line.proofs.Plans.EditLemmas.{length-repeat}
@@ -181,7 +181,8 @@ NoneAtEnd text = All (λ (x : PlacedCluster). x.0 < length text) (placed_cluster
 
 -- after a place that is not the end stands a cluster, which is not empty
 next-some : (text : List ℕ) (q stop : ℕ) → NoneEmpty (drop q text) → IsUtf8 text → IsCharBoundary text q → next_pos text q 1 ≡ Some stop → 0 < length (slice_range text q stop)
-next-some text q stop full u bound h = grind (arith, bytes_in-clusters, IsUtf8-drop, All-head, length-append, bytes_in-append, length-drop, false-eqb, same_Some, length-between)
+next-some text q stop full u bound h =
+    grind (arith, bytes_in-clusters, IsUtf8-drop, All-head, length-append, bytes_in-append, length-drop, false-eqb, same_Some, length-between)
 
 -- the text may be cut before its last cluster
 before-last : (text : List ℕ) (ps : List (List ℕ)) → IsUtf8 text → reverse (clusters text) ≡ ps → IsCharBoundary text (length text - bytes_in (take 1 ps))

@@ -1,5 +1,5 @@
 -- What a command did, by what is replied to the outcome of its call.
-use Rattle.rl_session.proofs.Common.{Outcome, ToldOutcome, Bool, true, false, inr, ◌≡◌, ◌∙◌, ap, subst, sym, Result, Ok, Err, ℕ, Any, Option, IfOk, IfErr, OnOk, OnErr, Start, Refusal, Movement, Line, NeedsRoom, Plan, nothing_more, room_by_step, Told, is_by_characters, kill_plan, Record, Undone, steps_back, texts_back, last_of, Watched, Does, Edited, lent_plan, CutShort, KeepsRing, WatchHears, pair_step, pair_refused, Pair, replied, State, Kill, Undo, Yank, Reply}
+use Rattle.rl_session.proofs.Common.{Outcome, ToldOutcome, Bool, true, false, ◌≡◌, subst, sym, Result, Ok, Err, ℕ, Any, Option, IfOk, IfErr, OnOk, OnErr, Start, Refusal, Movement, NeedsRoom, Plan, room_by_step, Told, is_by_characters, kill_plan, Undone, steps_back, texts_back, last_of, Does, lent_plan, KeepsRing, WatchHears, pair_step, pair_refused, Pair, replied, State, Kill, Undo, Yank, Reply}
 use Rattle.rl_base.specs.KillRing.{yank}
 use Rattle.rl_base.specs.declared.listeners.Refusal.TheVariants as why
 use Rattle.rl_session.specs.Commands.{lent}

@@ -9,7 +9,7 @@ use Rattle.rl_session.specs.Commands.{lent}
 use Rattle.rl_line.proofs.Records.ForgettingLemmas.{Walks-forgotten}
 use Rattle.rl_line.proofs.Records.MoveLemmas.{redo-fits}
 use Rattle.rl_line.proofs.Lines.LineReadLemmas.{range-before, range-some}
-use Rattle.rl_session.proofs.Sessions.IdleLemmas.{NoneStarts, NoneStarts-insert, NoneStarts-yank, NoneStarts-yank_pop, NoneStarts-removal, NoneStarts-kill, NoneStarts-transpose_chars, NoneStarts-transpose_words, NoneStarts-edit_word, NoneStarts-indent, IsIdle, idle-step, idle-Told, ring-Done, ring-Halted}
+use Rattle.rl_session.proofs.Sessions.IdleLemmas.{NoneStarts, NoneStarts-insert, NoneStarts-yank, NoneStarts-removal, NoneStarts-kill, IsIdle, idle-step, idle-Told, ring-Done, ring-Halted}
 use Rattle.rl_session.proofs.Sessions.PairLemmas.{Halted-own, Done-changes, Halted-changes, keeps_changes}
 use Rattle.rl_line.proofs.Records.RecordLemmas.{value_of}
 use Rattle.rl_line.proofs.Records.UndoLemmas.{line_ahead-replay, line_back-unwind}
@@ -65,16 +65,19 @@ AtRest-edit takes plan p q old new (Ok a) at none d = AtRest-pair plan p q old n
 AtRest-edit takes plan p q old new (Err w) at none h = AtRest-stopped takes plan p q old new w at none h
 
 -- the same in the forms that the search of the methods uses, which looks for what their first part says
-pub AtRest-done : {A : Type 0} (plan : Plan A) (p q : Pair) (old new : Line) (a : A) → Done pair_step plan old new p q a → IsCharBoundary old.text old.cursor → NoneStarts plan.steps → AtRest old p
+pub AtRest-done : {A : Type 0} (plan : Plan A) (p q : Pair) (old new : Line) (a : A)
+    → Done pair_step plan old new p q a → IsCharBoundary old.text old.cursor → NoneStarts plan.steps → AtRest old p
     → Done pair_step plan old new p q a × AtRest new q
 AtRest-done plan p q old new a d at none h = (d, AtRest-pair plan p q old new a at none d h)
 
-pub AtRest-halted : {A : Type 0} (plan : Plan A) (p q : Pair) (old new : Line) (w : Refusal) → Halted pair_step pair_refused plan old new p q w → IsCharBoundary old.text old.cursor → NoneStarts plan.steps → AtRest old p
+pub AtRest-halted : {A : Type 0} (plan : Plan A) (p q : Pair) (old new : Line) (w : Refusal)
+    → Halted pair_step pair_refused plan old new p q w → IsCharBoundary old.text old.cursor → NoneStarts plan.steps → AtRest old p
     → Halted pair_step pair_refused plan old new p q w × AtRest new q
 AtRest-halted plan p q old new w d at none h = (d, AtRest-refused plan p q old new w at none (Halted-own nothing_more plan old new p q w d) h)
 
-pub AtRest-out_of_room : {A : Type 0} (plan : Plan A) (p q : Pair) (old new : Line) (w : Refusal) → Halted pair_step (or_no_memory pair_refused) plan old new p q w → IsCharBoundary old.text old.cursor
-    → NoneStarts plan.steps → AtRest old p → Halted pair_step (or_no_memory pair_refused) plan old new p q w × AtRest new q
+pub AtRest-out_of_room : {A : Type 0} (plan : Plan A) (p q : Pair) (old new : Line) (w : Refusal)
+    → Halted pair_step (or_no_memory pair_refused) plan old new p q w → IsCharBoundary old.text old.cursor → NoneStarts plan.steps → AtRest old p
+    → Halted pair_step (or_no_memory pair_refused) plan old new p q w × AtRest new q
 AtRest-out_of_room plan p q old new w d at none h = (d, AtRest-refused plan p q old new w at none d h)
 
 -- the record hears nothing of the start and the end of a kill
@@ -158,4 +161,4 @@ pub ruleset resting = (Walks-forgotten, Walks-begun, Walks-closed, Walks-truncat
 
 pub ruleset places = (range-before, range-some)
 
-pub ruleset edits = (AtRest-done, AtRest-halted, AtRest-out_of_room, NoneStarts-insert, NoneStarts-yank, NoneStarts-yank_pop, NoneStarts-removal, NoneStarts-kill, NoneStarts-transpose_chars, NoneStarts-transpose_words, NoneStarts-edit_word, NoneStarts-indent)
+pub ruleset edits = (AtRest-done, AtRest-halted, AtRest-out_of_room, NoneStarts-insert, NoneStarts-yank, NoneStarts-removal, NoneStarts-kill)
