@@ -1,5 +1,5 @@
 -- Where a place of a text stands on a screen: its row and its column, both from 0.
-use Rattle.std.specs.Prelude.{Bool, ◌&&◌, ◌||◌, ◌==◌, ℕ, ◌+◌, ◌-◌, ◌%◌, min, nat_le, nat_lt, List, [], ◌∷◌, length, if◌then◌else◌}
+use Rattle.std.specs.Prelude.{Bool, ◌&&◌, ◌||◌, ◌==◌, ℕ, ◌+◌, ◌-◌, ◌%◌, min, nat_le, nat_lt, List, [], ◌∷◌, length, Some, slice_get, ◌≡◌, if◌then◌else◌}
 use Rattle.std.specs.Str.{bytes_eq}
 use Rattle.rl_base.specs.Clusters.{clusters}
 use Rattle.rl_base.specs.Widths.{width}
@@ -57,6 +57,10 @@ module _ (screen : Screen) where
   -- those of a text that begins at a column of row 0
   abbrev pub cells_of : ℕ → List ℕ → List (ℕ × (ℕ × ℕ))
   cells_of prompt text = cells 0 (0, prompt) (clusters text)
+
+  -- the k-th of those, from 0, is this place with this cell
+  abbrev pub StandsAt : ℕ → List ℕ → ℕ → ℕ → ℕ × ℕ → Type 0
+  StandsAt prompt text k place at = slice_get (cells_of prompt text) k ≡ Some (place, at)
 
   -- the place in such a text whose cell is the last that is not after the given one
   abbrev pub place_at : ℕ → List ℕ → ℕ × ℕ → ℕ

@@ -3,6 +3,7 @@ use Rattle.std.specs.Prelude.{◌≡◌, ◌⊎◌, ℕ, Bool, true, false, List
 use Rattle.std.specs.Str.{IsCharBoundary}
 use Rattle.rl_base.specs.declared.layout.GraphemeClusterMode.{GraphemeClusterMode}
 use Rattle.rl_base.specs.declared.listeners.Refusal.{Refusal}
+use Rattle.rl_base.specs.declared.motion.Movement.TheVariants.{BackwardChar, ForwardChar}
 use Rattle.rl_line.specs.Edits.{CanInsertStr, CanYankPop, delete_range_plan, insert_plan, insert_str_plan, replace_plan, update_plan, yank_plan, yank_pop_plan}
 use Rattle.rl_line.specs.Indents.{indent_plan}
 use Rattle.rl_line.specs.Deletions.{CanDeleteBy, Told, is_by_characters, kill_plan, kill_range_plan}
@@ -10,14 +11,15 @@ use Rattle.rl_line.specs.Line.{Line}
 use Rattle.rl_line.specs.LineRanges.{IsRange}
 use Rattle.rl_line.specs.Motions.{Moved, destination}
 use Rattle.rl_line.specs.Plan.{Done as Does, Halted, Plan, Takes, a_copy, nothing_more, refusal_of, room_by_step, unbegun}
-use Rattle.rl_line.specs.Transpositions.{transpose_chars_plan}
+use Rattle.rl_line.specs.LetterCase.{edit_word_plan}
+use Rattle.rl_line.specs.Transpositions.{transpose_chars_plan, transpose_words_plan}
 use Rattle.rl_ffi.specs.Answers.{inserted, placed, truth}
 use Rattle.rl_ffi.specs.Calls.{Effect, becomes, leaves, of_named, of_text, only_where}
 use Rattle.rl_ffi.specs.Commands.{HasRoomFor, room_for}
 use Rattle.rl_ffi.specs.ReportLog.{readied}
 use Rattle.rl_ffi.specs.LineReads.{prompted_at}
 use Rattle.rl_ffi.specs.Listeners.{listeners_refused, listeners_step, reported}
-use Rattle.rl_ffi.specs.Numbers.{char_of, count_of, dedents_of, direction_of, mode_of, movement_of}
+use Rattle.rl_ffi.specs.Numbers.{case_of, char_of, count_of, dedents_of, direction_of, mode_of, movement_of}
 use Rattle.rl_ffi.specs.declared.answers.Answer.{Answer}
 use Rattle.rl_ffi.specs.declared.answers.Answer.TheVariants.{BadPlace, BadYankSize, Done, NoMemory, NoRoom, NoSuchNumber}
 use Rattle.rl_ffi.specs.declared.held.LineAndListeners.{LineAndListeners}
@@ -64,6 +66,14 @@ pastes text n = of_named (count_of n) (λ k. of_text text (edits room_by_step (�
 unfoldable pub swaps_chars : Effect LineAndListeners
 swaps_chars = edits a_copy transpose_chars_plan truth
 
+-- the word that ends so many words ahead and the one so many words before it change places
+abbrev pub swaps_words : ℕ → Effect LineAndListeners
+swaps_words n = of_named (count_of n) (λ k. edits a_copy (λ line. transpose_words_plan line k) truth)
+
+-- the letters of the word at the cursor, or ahead, take another case
+abbrev pub recases : ℕ → Effect LineAndListeners
+recases case = of_named (case_of case) (λ action. edits a_copy (λ line. edit_word_plan line action) truth)
+
 -- a text takes the place of the yanked bytes before the cursor; an empty one only takes them out
 unfoldable pub pops : ℕ → List ℕ → Effect LineAndListeners
 pops size text = of_text text (only_where (λ held. CanYankPop held.line size) BadYankSize
@@ -89,6 +99,13 @@ deletes r = in_range r (edits nothing_more (λ line. delete_range_plan line r.fr
 abbrev pub deletes_by : CMovement → Effect LineAndListeners
 deletes_by movement =
     of_named (movement_of movement) (λ m. only_where (λ _. CanDeleteBy m) NoSuchNumber (edits nothing_more (λ line. kill_plan line m) truth))
+
+-- so many clusters after the cursor go, or before it
+abbrev pub deletes_next : ℕ → Effect LineAndListeners
+deletes_next n = of_named (count_of n) (λ k. edits nothing_more (λ line. kill_plan line (ForwardChar k)) truth)
+
+abbrev pub deletes_before : ℕ → Effect LineAndListeners
+deletes_before n = of_named (count_of n) (λ k. edits nothing_more (λ line. kill_plan line (BackwardChar k)) truth)
 
 -- a kill, with room for the reports of its start and its stop; by characters it is told as a deletion, which needs none
 unfoldable pub before_kill : Bool → Listeners → Listeners

@@ -51,6 +51,10 @@ listeners_step t event = reported (λ h. heard_step h event) (kept event t)
 abbrev pub KeptBy : Listeners → Event → Type 0
 KeptBy t event = ((t.tells_record ≡ true) × IsRecorded event) ⊎ ((t.tells_ring ≡ true) × KeepsText t.ring event)
 
+-- the record or the ring refuses an event that it keeps a text of, since memory is out: all is as it was, or only the ring heard it
+abbrev pub RefusesKept : Listeners → Event → Refusal → Listeners → Type 0
+RefusesKept t event why now = (why ≡ NoMemory) × KeptBy t event × ((now ≡ t) ⊎ (now ≡ ringed event t))
+
 -- an event is refused where memory is out for what is kept of it, and all is as it was, or only the ring heard it
 abbrev pub listeners_refused : Listeners → Event → Refusal → Listeners → Type 0
 listeners_refused t event why now = (why ≡ NoMemory) × ((t.reports ≡ true) ⊎ KeptBy t event) × ((now ≡ t) ⊎ (now ≡ ringed event t))

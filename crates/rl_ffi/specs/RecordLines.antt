@@ -1,7 +1,7 @@
 -- What the calls do on a record and a line, each by itself.
 use Rattle.std.specs.Prelude.{◌≡◌, ◌⊎◌, ℕ, ℤ, Bool, true, List, Option, Some, Result, Ok, Err, IsSome, MatchOption, is_some}
 use Rattle.rl_line.specs.Plan.{Step, listener_after}
-use Rattle.rl_line.specs.Record.{Record, replays_to}
+use Rattle.rl_line.specs.Record.{Entry, Record, replays_to}
 use Rattle.rl_line.specs.Undo.{CopiesBack, Redone, TriesAhead, TriesBack, Undone, line_ahead, line_back, steps_ahead, steps_back}
 use Rattle.rl_line.specs.Units.{has_change, last_of, redo_of}
 use Rattle.rl_ffi.specs.Answers.{number, truth}
@@ -48,12 +48,16 @@ EffectOnBoth = Record → LineAndListeners → Answer → Record → LineAndList
 abbrev pub stay : Answer → EffectOnBoth
 stay answer r held n left now = (n ≡ answer) × (left ≡ r) × (now ≡ held)
 
+-- memory is out for going over these entries, which hold a change: the record stays as it was, and so does what goes with it
+abbrev pub OutOfMemory : {A : Type 0} → List Entry → Record → A → Answer → Record → A → Type 0
+OutOfMemory entries r old n left now = (n ≡ NoMemory) × (has_change entries ≡ true) × (left ≡ r) × (now ≡ old)
+
 -- k units are undone in the line, which is reported; or they can't be taken back from it, or they hold a change, and memory is out
 abbrev pub Undoes : ℕ → EffectOnBoth
 Undoes k r held n left now =
     ((answer : Bool) × Undone k r left held.line now.line answer × HearsOf (steps_back held.line.cursor (last_of k r.recorded)) held now × (n ≡ truth answer))
     ⊎ ((¬ (IsSome (line_back (last_of k r.recorded) held.line))) × stay NotReplaying r held n left now)
-    ⊎ ((n ≡ NoMemory) × (has_change (last_of k r.recorded) ≡ true) × (left ≡ r) × (now ≡ held))
+    ⊎ OutOfMemory (last_of k r.recorded) r held n left now
 
 abbrev pub UndoesNamed : Result ℕ Answer → EffectOnBoth
 UndoesNamed (Err why) = stay why
@@ -67,7 +71,7 @@ abbrev pub Redoes : EffectOnBoth
 Redoes r held n left now =
     ((answer : Bool) × Redone r left held.line now.line answer × HearsOf (steps_ahead held.line.cursor (redo_of r.pending)) held now × (n ≡ truth answer))
     ⊎ ((¬ (IsSome (line_ahead (redo_of r.pending) held.line))) × stay NotReplaying r held n left now)
-    ⊎ ((n ≡ NoMemory) × (has_change (redo_of r.pending) ≡ true) × (left ≡ r) × (now ≡ held))
+    ⊎ OutOfMemory (redo_of r.pending) r held n left now
 
 -- both handles are as they were, and closed is answered
 abbrev pub BothStay : Option Held → Option Held → ℤ → Option Held → Option Held → Type 0

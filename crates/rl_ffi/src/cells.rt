@@ -1,7 +1,7 @@
 //! Laying a text out on a screen.
-ghost use Rattle.std.specs.Prelude.{◌≡◌, ◌+◌, ◌≤◌, ◌<◌, ◌^◌, ℕ, List, Some, slice_get};
+ghost use Rattle.std.specs.Prelude.{◌≡◌, ◌+◌, ◌≤◌, ◌<◌, ◌^◌, ℕ, List};
 ghost use Rattle.rl_ffi.specs.declared.cells.Screen.{Screen};
-ghost use Rattle.rl_ffi.specs.Cells.{after, cell, cells_of, is_within, place_at, tabbed, wrapped};
+ghost use Rattle.rl_ffi.specs.Cells.{StandsAt, after, cell, is_within, place_at, tabbed, wrapped};
 
 use rl_base::GraphemeClusterMode;
 use unicode_segmentation::UnicodeSegmentation;
@@ -115,8 +115,8 @@ pub(crate) fn place_at(screen: &Screen, prompt: u16, text: &str, cell: (usize, u
 /// A place between two clusters is found again by its cell, or one after it with the same cell: the place that is found
 /// for the cell of the `k`-th place is the `j`-th for some `j` from `k` on, and has that cell.
 pub fn cells_are_found()
-    ensures each { (screen : Screen) (prompt : ℕ) (text : List ℕ) (k place : ℕ) (at : ℕ × ℕ) → slice_get (cells_of screen prompt text) k ≡ Some (place, at)
+    ensures each { (screen : Screen) (prompt : ℕ) (text : List ℕ) (k place : ℕ) (at : ℕ × ℕ) → StandsAt screen prompt text k place at
         → at ≡ cell screen prompt text place }
-    ensures found { (screen : Screen) (prompt : ℕ) (text : List ℕ) (k place : ℕ) (at : ℕ × ℕ) → slice_get (cells_of screen prompt text) k ≡ Some (place, at)
-        → let c = cell screen prompt text place in (j : ℕ) × (k ≤ j) × (slice_get (cells_of screen prompt text) j ≡ Some (place_at screen prompt text c, c)) }
+    ensures found { (screen : Screen) (prompt : ℕ) (text : List ℕ) (k place : ℕ) (at : ℕ × ℕ) → StandsAt screen prompt text k place at
+        → let c = cell screen prompt text place in (j : ℕ) × (k ≤ j) × StandsAt screen prompt text j (place_at screen prompt text c) c }
 {}

@@ -42,7 +42,8 @@ pub(crate) fn obey(session: &mut Session, command: &Command) -> Reply
 /// A command of C on a session without a bound is a row of a run, since nothing is forgotten after it, also one with a text. So
 /// what is said of runs holds of such calls as it stands.
 pub fn calls_are_rows()
-    ensures commands { (old new : State) (command : Command) (reply : Reply) → old.options.bound ≡ no_bound → Obeys old command reply new → Step old command reply new }
+    ensures commands { (old new : State) (command : Command) (reply : Reply) → old.options.bound ≡ no_bound
+        → Obeys old command reply new → Step old command reply new }
     ensures texts { (old new : State) (text : String Global) (make : String Global → Command) (reply : Reply) → old.options.bound ≡ no_bound
         → ObeysWith (string_bytes text) make old reply new → Step old (make text) reply new }
 {}

@@ -1,16 +1,13 @@
 //! The calls that change a line by itself. Each edit tells the line's listeners what it did.
 ghost use Rattle.std.specs.Prelude.{◌≡◌, false, true, IfErr, OnOk};
-ghost use Rattle.rl_base.specs.declared.motion.Movement.{Movement};
 ghost use Rattle.rl_line.specs.LineRanges.{IsRange};
-ghost use Rattle.rl_line.specs.Deletions.{is_by_characters, kill_plan, kill_range_plan};
-ghost use Rattle.rl_line.specs.LetterCase.{edit_word_plan};
-ghost use Rattle.rl_line.specs.Plan.{a_copy, nothing_more};
-ghost use Rattle.rl_line.specs.Transpositions.{transpose_words_plan};
-ghost use Rattle.rl_ffi.specs.Answers.{merged, truth};
-ghost use Rattle.rl_ffi.specs.Calls.{Through, of_named};
+ghost use Rattle.rl_line.specs.Deletions.{is_by_characters, kill_range_plan};
+ghost use Rattle.rl_ffi.specs.Answers.{merged};
+ghost use Rattle.rl_ffi.specs.Calls.{Through};
 ghost use Rattle.rl_ffi.specs.Commands.{room_for};
 ghost use Rattle.rl_ffi.specs.Held.{a_line};
-ghost use Rattle.rl_ffi.specs.LineEdits.{before_kill, deletes, deletes_by, edits, indents, inserts, kills, kills_by, kills_range, may_grow, moves, pastes, pops, puts_in, replaces, sets_pos, sets_text, swaps_chars};
+ghost use Rattle.rl_ffi.specs.LineEdits.{before_kill, deletes, deletes_before, deletes_by, deletes_next, indents, inserts, kills, kills_by, kills_range, may_grow, moves, pastes, pops, puts_in, recases};
+ghost use Rattle.rl_ffi.specs.LineEdits.{replaces, sets_pos, sets_text, swaps_chars, swaps_words};
 ghost use Rattle.rl_ffi.specs.LineReads.{prompted_at};
 ghost use Rattle.rl_ffi.specs.Listeners.{ThroughTold, handed, handed_back};
 ghost use Rattle.rl_ffi.specs.Numbers.{case_of, count_of};
@@ -280,7 +277,7 @@ pub extern "C" fn lodvarn_line_delete_range(
 }
 
 fn delete(held: &mut LineAndListeners, n: usize) -> Outcome
-    ensures { of_named (count_of n) (λ k. edits nothing_more (λ line. kill_plan line (Movement.ForwardChar k)) truth) held.old (merged result) held.new }
+    ensures { deletes_next n held.old (merged result) held.new }
 {
     let n = count_of(n)?;
     let next = Movement::ForwardChar(n);
@@ -296,13 +293,13 @@ pub extern "C" fn lodvarn_line_delete(
     to: CListeners,
     n: usize,
 ) -> i32
-    ensures { ThroughTold (of_named (count_of n) (λ k. edits nothing_more (λ line. kill_plan line (Movement.ForwardChar k)) truth)) (l.old.value, handed to.entry) result (l.new.value, handed_back to.exit) }
+    ensures { ThroughTold (deletes_next n) (l.old.value, handed to.entry) result (l.new.value, handed_back to.exit) }
 {
     told!(l, to, alloc, held => delete(held, n))
 }
 
 fn backspace(held: &mut LineAndListeners, n: usize) -> Outcome
-    ensures { of_named (count_of n) (λ k. edits nothing_more (λ line. kill_plan line (Movement.BackwardChar k)) truth) held.old (merged result) held.new }
+    ensures { deletes_before n held.old (merged result) held.new }
 {
     let n = count_of(n)?;
     let answer = tried(held.line.backspace(n, &mut held.to))?;
@@ -317,7 +314,7 @@ pub extern "C" fn lodvarn_line_backspace(
     to: CListeners,
     n: usize,
 ) -> i32
-    ensures { ThroughTold (of_named (count_of n) (λ k. edits nothing_more (λ line. kill_plan line (Movement.BackwardChar k)) truth)) (l.old.value, handed to.entry) result (l.new.value, handed_back to.exit) }
+    ensures { ThroughTold (deletes_before n) (l.old.value, handed to.entry) result (l.new.value, handed_back to.exit) }
 {
     told!(l, to, alloc, held => backspace(held, n))
 }
@@ -424,7 +421,7 @@ pub extern "C" fn lodvarn_line_transpose_chars(alloc: Global, l: &mut Handle, to
 }
 
 fn transpose_words(held: &mut LineAndListeners, n: usize) -> Outcome
-    ensures { of_named (count_of n) (λ k. edits a_copy (λ line. transpose_words_plan line k) truth) held.old (merged result) held.new }
+    ensures { swaps_words n held.old (merged result) held.new }
 {
     let n = count_of(n)?;
     let answer = tried(held.line.transpose_words(n, &mut held.to))?;
@@ -439,13 +436,13 @@ pub extern "C" fn lodvarn_line_transpose_words(
     to: CListeners,
     n: usize,
 ) -> i32
-    ensures { ThroughTold (of_named (count_of n) (λ k. edits a_copy (λ line. transpose_words_plan line k) truth)) (l.old.value, handed to.entry) result (l.new.value, handed_back to.exit) }
+    ensures { ThroughTold (swaps_words n) (l.old.value, handed to.entry) result (l.new.value, handed_back to.exit) }
 {
     told!(l, to, alloc, held => transpose_words(held, n))
 }
 
 fn change_case(held: &mut LineAndListeners, case: u32) -> Outcome
-    ensures { of_named (case_of case) (λ action. edits a_copy (λ line. edit_word_plan line action) truth) held.old (merged result) held.new }
+    ensures { recases case held.old (merged result) held.new }
 {
     let action = case_of(case)?;
     let answer = tried(held.line.edit_word(action, &mut held.to))?;
@@ -460,7 +457,7 @@ pub extern "C" fn lodvarn_line_change_case(
     to: CListeners,
     case: u32,
 ) -> i32
-    ensures { ThroughTold (of_named (case_of case) (λ action. edits a_copy (λ line. edit_word_plan line action) truth)) (l.old.value, handed to.entry) result (l.new.value, handed_back to.exit) }
+    ensures { ThroughTold (recases case) (l.old.value, handed to.entry) result (l.new.value, handed_back to.exit) }
 {
     told!(l, to, alloc, held => change_case(held, case))
 }

@@ -1,9 +1,8 @@
 //! What hears of a line's changes.
-ghost use Rattle.std.specs.Prelude.{◌≡◌, ◌⊎◌, IfErr, OnErr, OnOk};
+ghost use Rattle.std.specs.Prelude.{◌≡◌, IfErr, OnErr, OnOk};
 ghost use Rattle.rl_base.specs.Event.{Delete};
-ghost use Rattle.rl_base.specs.declared.listeners.Refusal.TheVariants.{NoMemory};
 ghost use Rattle.rl_ffi.specs.ReportLog.{first_kept};
-ghost use Rattle.rl_ffi.specs.Listeners.{KeptBy, exchanged, fresh_listeners, handles_exchanged, kept, ringed};
+ghost use Rattle.rl_ffi.specs.Listeners.{RefusesKept, exchanged, fresh_listeners, handles_exchanged, kept};
 
 use crate::handle::{Handle, of};
 use crate::held::Held;
@@ -49,7 +48,7 @@ impl Listeners {
     // Tells the ring and the record of a deletion.
     fn delete_kept(&mut self, idx: usize, string: &str, dir: Direction) -> Result<(), Refusal>
         ensures done { OnOk result (self.new ≡ kept (Delete idx string.now dir) self.old) }
-        ensures err { IfErr result (λ why. (why ≡ NoMemory) × KeptBy self.old (Delete idx string.now dir) × ((self.new ≡ self.old) ⊎ (self.new ≡ ringed (Delete idx string.now dir) self.old))) }
+        ensures err { IfErr result (λ why. RefusesKept self.old (Delete idx string.now dir) why self.new) }
     {
         if self.tells_ring {
             self.ring.delete(idx, string, dir)?;

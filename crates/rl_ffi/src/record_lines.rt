@@ -1,10 +1,9 @@
 //! The calls on a record and a line, each by itself.
 ghost use Rattle.std.specs.Prelude.{◌≡◌, Bool, true, IfErr, IfOk, IsSome};
 ghost use Rattle.rl_line.specs.Undo.{Redone, Undone, line_ahead, line_back};
-ghost use Rattle.rl_line.specs.Units.{has_change, last_of, redo_of};
-ghost use Rattle.rl_ffi.specs.declared.answers.Answer.TheVariants.{NoMemory};
+ghost use Rattle.rl_line.specs.Units.{last_of, redo_of};
 ghost use Rattle.rl_ffi.specs.Answers.{merged, truth};
-ghost use Rattle.rl_ffi.specs.RecordLines.{AsksAhead, AsksBack, AsksBoth, AsksFirst, Redoes, ThroughBoth, Undoes, UndoesCounted};
+ghost use Rattle.rl_ffi.specs.RecordLines.{AsksAhead, AsksBack, AsksBoth, AsksFirst, OutOfMemory, Redoes, ThroughBoth, Undoes, UndoesCounted};
 
 use crate::answers::{Answer, Outcome, merged, tried, truth};
 use crate::handle::{Handle, of};
@@ -18,7 +17,7 @@ use std::alloc::Global;
 fn undo_untold(changes: &mut Changeset, line: &mut LineBuffer, n: RepeatCount) -> Outcome
     requires { IsSome (line_back (last_of n changes.old.recorded) line.old) }
     ensures done { IfOk result (λ n'. (answer : Bool) × Undone n changes.old changes.new line.old line.new answer × (n' ≡ truth answer)) }
-    ensures err { IfErr result (λ n'. (n' ≡ NoMemory) × (has_change (last_of n changes.old.recorded) ≡ true) × (changes.new ≡ changes.old) × (line.new ≡ line.old)) }
+    ensures err { IfErr result (λ n'. OutOfMemory (last_of n changes.old.recorded) changes.old line.old n' changes.new line.new) }
 {
     match changes.undo(line, n) {
         Ok(answer) => Ok(truth(answer)),
@@ -78,7 +77,7 @@ pub extern "C" fn lodvarn_record_undo(
 fn redo_untold(changes: &mut Changeset, line: &mut LineBuffer) -> Outcome
     requires { IsSome (line_ahead (redo_of changes.old.pending) line.old) }
     ensures done { IfOk result (λ n. (answer : Bool) × Redone changes.old changes.new line.old line.new answer × (n ≡ truth answer)) }
-    ensures err { IfErr result (λ n. (n ≡ NoMemory) × (has_change (redo_of changes.old.pending) ≡ true) × (changes.new ≡ changes.old) × (line.new ≡ line.old)) }
+    ensures err { IfErr result (λ n. OutOfMemory (redo_of changes.old.pending) changes.old line.old n changes.new line.new) }
 {
     match changes.redo(line) {
         Ok(answer) => Ok(truth(answer)),

@@ -188,6 +188,7 @@ impl ChangeListener for ReportLog {
 /// Who reads late misses no step. Where what waits leads from a text to another, report by report, and an event of that is
 /// heard, what waits leads to the changed text.
 pub fn no_event_is_lost()
-    ensures { (h : ReportLog) (event : Event) (old text new : List ℕ) → LeadsBy false 1 h.waiting old text → IsLineText text → length new < 2 ^ 64 → apply event text ≡ Some new
+    ensures { (h : ReportLog) (event : Event) (old text new : List ℕ) → LeadsBy false 1 h.waiting old text → IsLineText text
+        → length new < 2 ^ 64 → apply event text ≡ Some new
         → LeadsBy false 1 (heard_step h event).waiting old new }
 {}

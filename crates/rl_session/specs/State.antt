@@ -90,6 +90,10 @@ pub record Begins (text : List ℕ) (s : State) : Type 0 where
   pub text_is : s.line.text ≡ text
   pub changes : s.pair.changes ≡ no_changes
 
+-- the watch after it was told that all of a line's text gave way to another, at whose end the cursor stood then
+abbrev pub told_anew : List ℕ → Line → Watched → Watched
+told_anew text line watch = watch_step (watch_step watch (Replace 0 line.text text)) (Cursors line.cursor (length text))
+
 -- the state after a restart: another text, nothing recorded, the ring with its slots, and a watch that was told that all the
 -- old text gave way to the new one. The limit is raised where the text is longer
 abbrev pub restarted : List ℕ → ℕ → State → State
@@ -98,7 +102,7 @@ restarted text pos s = record {
   pair = record {
     ring = reset s.pair.ring;
     changes = no_changes;
-    watch = watch_step (watch_step s.pair.watch (Replace 0 s.line.text text)) (Cursors s.line.cursor (length text));
+    watch = told_anew text s.line s.pair.watch;
   };
   options = s.options;
 }

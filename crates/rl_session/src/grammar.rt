@@ -292,6 +292,7 @@ fn command(word: &str, given: &str) -> Option<Command>
 }
 
 // The replacement of the text between two places by another.
+#[tactic(auto, using(crate::proofs::Scripts::WordLemmas::texts))]
 fn replacement(alloc: Global, given: &str) -> Result<Option<Command>, AllocError>
     ensures ok { IfOk result (λ found. MatchOption found (SaysNoTextCommand (codes "rep") given.now)
         (λ command. Says (codes "rep") (Some given.now) (Do command))) }

@@ -20,6 +20,7 @@ pub fn kills_then_yank()
         → GivenBack old (before_last old run.rows) new }
     ensures ranges { (first old new : State) (earlier commands : List Command) (said replies : List Reply) (kills : List Row) (back : Row)
         → Stands first → 0 < first.pair.ring.size → Run first earlier said old → (run : Run old commands replies new)
-        → run.rows ≡ kills ++ (back ∷ []) → back.command ≡ Yank 1 → IsNoKill old.pair.ring.last → AllKill kills → AnyTook (replies_of kills) → NoneRefused replies
+        → run.rows ≡ kills ++ (back ∷ []) → back.command ≡ Yank 1 → IsNoKill old.pair.ring.last
+        → AllKill kills → AnyTook (replies_of kills) → NoneRefused replies
         → GivenBack old back.before new }
 {}

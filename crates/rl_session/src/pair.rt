@@ -21,6 +21,7 @@ impl DeleteListener for Pair {
 
     ghost refused = { pair_refused };
 
+    #[tactic(auto, using(rl_line::proofs::Records::JoinLemmas::alone))]
     fn start_killing(&mut self) {
         self.ring.start_killing();
         self.watch.start_killing();

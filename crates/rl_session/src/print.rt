@@ -103,6 +103,7 @@ fn plain_len_of_few(text: &[u8], spaces: bool) -> usize
 }
 
 // How many bytes from the front on are printed as they are. The last LANES bytes may overlap those before.
+#[tactic(auto, using(crate::proofs::Scripts::LaneLemmas::fronts))]
 fn plain_len(text: &[u8], spaces: bool) -> usize
     ensures within { result ≤ length text.now }
     ensures plain { escaped spaces text.now ≡ take result text.now ++ escaped spaces (drop result text.now) }

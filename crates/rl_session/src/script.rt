@@ -165,6 +165,7 @@ fn put_line<W: Write>(writer: &mut W, line: &[u8]) -> Result<(), ScriptFault>
 }
 
 // The bytes before the first newline, and those after it, if there is one.
+#[tactic(auto, using(crate::proofs::Scripts::LineLemmas::lines))]
 fn split_line(bytes: &[u8]) -> Option<(&[u8], &[u8])>
     ensures { MatchOption result (HasNoNewline bytes.now)
         (λ found. HasNoNewline found.0.now × (bytes.now ≡ found.0.now ++ 10 ∷ found.1.now)) }

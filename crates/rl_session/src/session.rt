@@ -211,7 +211,8 @@ impl Session {
     /// command that was refused halfway, an undo and a redo.
     pub fn changed(&mut self) -> Option<Splice>
         ensures told { result ≡ told self.old.pair.watch.changed }
-        ensures splices { (asked : List ℕ) → ChangedFrom asked self.old → MatchOption result (self.old.line.text ≡ asked) (λ splice. Splices splice asked self.old.line.text) }
+        ensures splices { (asked : List ℕ) → ChangedFrom asked self.old
+            → MatchOption result (self.old.line.text ≡ asked) (λ splice. Splices splice asked self.old.line.text) }
         ensures again { ChangedFrom self.new.line.text self.new }
         ensures rest { self.new ≡ with_watch (record self.old.pair.watch { changed = untouched }) self.old }
     {
@@ -276,10 +277,13 @@ impl Session {
     pub fn forget_report(&mut self)
         ensures forgotten { self.new ≡ with_watch (past_next self.old.pair.watch) self.old }
         ensures nothing { (read : List ℕ) → ReportedFrom read self.old → next_note self.old.pair.watch ≡ None → self.old.line.text ≡ read }
-        ensures with_texts { (read : List ℕ) (note : Noted) → ReportedFrom read self.old → next_note self.old.pair.watch ≡ Some note → HasTexts (text_room self.old.pair.watch) note.report
+        ensures with_texts { (read : List ℕ) (note : Noted) → ReportedFrom read self.old → next_note self.old.pair.watch ≡ Some note
+            → HasTexts (text_room self.old.pair.watch) note.report
             → TellsByTexts note read × Stand note.report.cursors read (after_texts note read) × ReportedFrom (after_texts note read) self.new }
-        ensures whole { (read : List ℕ) (note : Noted) → ReportedFrom read self.old → next_note self.old.pair.watch ≡ Some note → LacksTexts (text_room self.old.pair.watch) note.report
-            → (next_note self.new.pair.watch ≡ None) × (after_numbers note.report self.old.line.text read ≡ self.old.line.text) × Stand note.report.cursors read self.old.line.text × ReportedFrom self.old.line.text self.new }
+        ensures whole { (read : List ℕ) (note : Noted) → ReportedFrom read self.old → next_note self.old.pair.watch ≡ Some note
+            → LacksTexts (text_room self.old.pair.watch) note.report
+            → (next_note self.new.pair.watch ≡ None) × (after_numbers note.report self.old.line.text read ≡ self.old.line.text)
+            × Stand note.report.cursors read self.old.line.text × ReportedFrom self.old.line.text self.new }
     {
         self.pair.watch.forget_report();
     }
@@ -434,7 +438,8 @@ impl Session {
 /// holds of any row, with the texts that were held by then. A single row, as each command makes one, is a run.
 pub fn runs_compose()
     ensures joined { (old mid new : State) (cs ds : List Command) (rs ss : List Reply) (first : Run old cs rs mid) (second : Run mid ds ss new)
-        → (both : Run old (cs ++ ds) (rs ++ ss) new) × (both.rows ≡ first.rows ++ second.rows) × (held_of both.rows ≡ held_of first.rows ++ held_of second.rows) }
+        → (both : Run old (cs ++ ds) (rs ++ ss) new) × (both.rows ≡ first.rows ++ second.rows)
+        × (held_of both.rows ≡ held_of first.rows ++ held_of second.rows) }
     ensures parts { (old new : State) (cs : List Command) (rs : List Reply) (run : Run old cs rs new) (xs ys : List Row) → run.rows ≡ xs ++ ys
         → (mid : State) × (first : Run old (commands_of xs) (replies_of xs) mid) × (second : Run mid (commands_of ys) (replies_of ys) new)
         × (first.rows ≡ xs) × (second.rows ≡ ys) }

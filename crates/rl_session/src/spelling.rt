@@ -8,6 +8,7 @@ ghost use Rattle.rl_session.specs.Spelling.{number_of, letter_of, hex_digit, Nam
 use std::alloc::{AllocError, Global};
 
 // The number that the digits name, if it is at most the greatest.
+#[tactic(auto, using(crate::proofs::Scripts::NumberLemmas::numbers))]
 pub(crate) fn number(digits: &str, greatest: usize) -> Option<usize>
     ensures value { result ≡ number_of greatest digits.now }
     ensures bound { IfSome result (λ n. n ≤ greatest) }

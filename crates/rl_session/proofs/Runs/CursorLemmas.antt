@@ -148,12 +148,8 @@ heavier event e j ss h lone = cc
 
 Grows-after : (event : Event) (es : List Entry) (ss : List Step) → IsLone event ss → Grows es (entries_after event es)
 Grows-after event [] ss lone = tt
-Grows-after event (e ∷ []) ss lone = from (joined event e) refl
-  where
-    from : (o : Option Entry) → joined event e ≡ o → Grows (e ∷ []) (option_map_or (λ joint. joint ∷ []) o (e ∷ entries_of event))
-    from None h = (omega arith, tt)
-    from (Some j) h = elim (heavier event e j ss h lone) [ inl more ↦ (omega (arith, more), tt) | inr p ↦ (p.0, tt) ]
-Grows-after event (e ∷ (d ∷ ds)) ss lone = (omega arith, Grows-after event (d ∷ ds) ss lone)
+Grows-after event (e ∷ []) ss lone = grind (arith, heavier)
+Grows-after event (e ∷ (d ∷ ds)) ss lone = grind (arith, (Grows-after event (d ∷ ds) ss lone))
 
 Grows-told : (fresh : Freshness) (b a : ℕ) (es : List Entry) → Grows es (entries_told fresh b a es)
 Grows-told fresh b a es = told-cases (λ ks. Grows es ks) fresh b a es (Grows-same es) (λ p. Grows-last_told p es)
@@ -172,11 +168,7 @@ Grows-listener_after b (s ∷ ss) r q =
 -- ---- one entry is there, and stays the only one
 -- the entry that an event adds is told its cursors
 added-cursors : (event : Event) (e : Entry) (p : ℕ × ℕ) → entries_of event ≡ e ∷ [] → cursors_of (with_cursors p e) ≡ Some p
-added-cursors event e p h =
-    elim (none_or_one event) [
-      | inl none ↦ let no : [] ≡ e ∷ [] = sym none ∙ h in cc
-      | inr (k, c, one) ↦ let both : Changed k c ∷ [] ≡ e ∷ [] = sym one ∙ h in let same : Changed k c ≡ e = cc in ap (λ (q : Entry). cursors_of (with_cursors p q)) (sym same)
-    ]
+added-cursors event e p h = grind (arith, none_or_one)
 
 -- and so is one that an event joined
 joint-cursors : (event : Event) (e joint : Entry) (p : ℕ × ℕ) → joined event e ≡ Some joint → cursors_of (with_cursors p joint) ≡ Some p

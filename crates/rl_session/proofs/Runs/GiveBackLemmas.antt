@@ -1,5 +1,5 @@
 -- An undo right after an edit that added one entry gives back text and cursor from before the edit, and a redo those from after it.
-use Rattle.rl_session.proofs.Common.{◌≡◌, ℕ, true, List, [], ◌∷◌, ◌++◌, Some, refl, sym, ap, subst, ◌∙◌, arith, same_Some, option_map, unwrap_or, IsCharBoundary, IsUtf8, apply, Line, Entry, Changed, Record, cursors_of, event_of, inverse, cursor_after, cursor_told, line_after, line_ahead, line_back, place_after, Redone, Undone, is_change, last_of, redo_of, asked, readied, Command, Reply, IsEdit, WasRefused, Leads, Row, Run, Stands, State}
+use Rattle.rl_session.proofs.Common.{◌≡◌, ℕ, true, List, [], ◌∷◌, ◌++◌, Some, refl, sym, ap, subst, ◌∙◌, arith, same_Some, option_map, IsCharBoundary, IsUtf8, apply, Line, Entry, Changed, Record, cursors_of, event_of, inverse, cursor_told, line_after, line_ahead, line_back, Redone, Undone, is_change, last_of, redo_of, asked, readied, Command, Reply, IsEdit, WasRefused, Leads, Row, Run, Stands, State}
 use Rattle.rl_line.proofs.Plans.PlanLemmas.{Fits-from}
 use Rattle.rl_line.proofs.Records.RecordLemmas.{inverse-undoes, then_some}
 use Rattle.rl_line.proofs.Records.UnitLemmas.{last_of-change}
@@ -37,9 +37,7 @@ next-one _ p c = cc
 -- a line that goes over one entry
 over-one : (e : Entry) (line now : Line) (text : List ℕ) (cursor : ℕ) → apply (event_of e) line.text ≡ Some text → cursor_told e ≡ Some cursor → line_after e line ≡ Some now
     → (now.text ≡ text) × (now.cursor ≡ cursor)
-over-one e line now text cursor makes told h =
-    let f = Fits-from (event_of e) (cursor_after line.cursor e) line now h in
-    (ap (λ (l : Line). l.text) f.is ∙ same_Some _ _ (sym f.makes ∙ makes), ap (λ (l : Line). l.cursor) f.is ∙ ap (λ o. unwrap_or o (place_after line.cursor e)) told)
+over-one e line now text cursor makes told h = grind (arith, Fits-from, same_Some)
 
 -- ---- in a run
 -- what a row left whose edit added one entry

@@ -1,12 +1,12 @@
 -- Rows of a session: what they make of its history, and what undos and redos among them do.
-use Rattle.rl_session.proofs.Common.{◌≡◌, rules, ℕ, Bool, suc, List, [], ◌∷◌, ◌++◌, length, min, arith, take, refl, sym, ap, subst, ◌∙◌, append-nil, append_assoc, IsUtf8, Line, listener_after, Record, record_step, unwind, Undone, Redone, Redos, begun, ended, ended_one, level, last_of, last_units, opens, redo_of, truncated, undone, Effect, by_steps, puts_begin, puts_ends, puts_end, shortens, takes_back, puts_again, Became, effect, Does, readied, with_changes, AllRedone, History, Holds, WasHeld, WasRefused, Row, Leads, Run, held, held_by, held_of, steps_in, texts_of_steps, State, with_ring, reset, Append, Command, Undo, Redo, Reply}
+use Rattle.rl_session.proofs.Common.{◌≡◌, rules, ℕ, Bool, List, [], ◌∷◌, ◌++◌, length, min, arith, take, sym, ap, subst, append-nil, append_assoc, Line, listener_after, Record, record_step, unwind, Undone, Redone, Redos, begun, ended, ended_one, level, last_of, last_units, opens, redo_of, truncated, undone, Effect, by_steps, puts_begin, puts_ends, puts_end, shortens, takes_back, puts_again, Became, effect, Does, readied, with_changes, AllRedone, History, Holds, WasHeld, WasRefused, Row, Leads, Run, held, held_by, held_of, steps_in, texts_of_steps, State, with_ring, reset, Append, Command, Undo, Redo, Reply}
 use Rattle.rl_line.specs.Plan.{Step as PlanStep}
 use Rattle.rl_line.proofs.Records.MarkLemmas.{agree-same}
 use Rattle.rl_line.proofs.Records.RecordLemmas.{replay-IsUtf8}
 use Rattle.rl_line.proofs.Records.RedoLemmas.{redos-give-back}
 use Rattle.rl_line.proofs.Records.UndoLemmas.{line_ahead-replay, line_back-unwind}
 use Rattle.rl_line.proofs.Records.UnitLemmas.{kept-last}
-use Rattle.rl_session.specs.Commands.{Step, keeps}
+use Rattle.rl_session.specs.Commands.{keeps}
 use Rattle.rl_session.specs.State.{Begins}
 use Rattle.rl_base.specs.KillRing.{killed}
 use Rattle.rl_session.specs.declared.session.Reply.TheVariants as says
@@ -71,12 +71,7 @@ Holds-Leads start (row ∷ rows) texts old new h l =
     (Holds-Leads start rows (texts ++ held row) row.after new (Holds-row start texts row (subst (λ s. Holds start texts s) (sym l.0) h)) l.1)
 
 pub Holds-Begins : (text : List ℕ) (s : State) → Begins text s → Holds text (text ∷ []) s
-Holds-Begins text s b = rw (b.text_is, b.changes) record {
-  is_text = subst IsUtf8 b.text_is b.stands.utf8;
-  leads = refl;
-  placed = ([], record { rest = []; is = refl });
-  matched = record { recorded = refl; pending = refl };
-}
+Holds-Begins text s b = grind (arith)
 
 -- ---- rows in a run
 -- what holds before a row of a run, and that the later rows go on from it
@@ -96,9 +91,7 @@ row_at start held old new commands replies earlier later row h run e =
 pub done_as : (row : Row) (command : Command) (Did : Record → Record → Line → Line → Type 0)
     → ((old left : State) (reply : Reply) → Does old command reply left → ¬ (WasRefused reply) → Did old.pair.changes left.pair.changes old.line left.line)
     → row.command ≡ command → ¬ (WasRefused row.reply) → Did row.before.pair.changes row.after.pair.changes row.before.line row.after.line
-done_as row command Did done e w =
-    let s = subst (λ c. Step row.before c row.reply row.after) e row.step in
-    subst (λ (x : State). Did row.before.pair.changes x.pair.changes row.before.line x.line) (sym s.settles) (done (readied command row.before) s.left row.reply s.does w)
+done_as row command Did done e w = grind (arith)
 
 -- an undo that was not refused
 Undo-done : (n : ℕ) (old left : State) (reply : Reply) → Does old (Undo n) reply left → ¬ (WasRefused reply) → (a : Bool) × Undone n old.pair.changes left.pair.changes old.line left.line a
@@ -121,10 +114,7 @@ undo-in_run start held old new commands replies earlier later row n h run e is_u
 pub undo-drops : (row : Row) (n : ℕ) → row.command ≡ Undo n → ¬ (WasRefused row.reply)
     → (row.after.pair.changes ≡ undone n row.before.pair.changes)
     × (row.before.pair.changes.recorded ≡ row.after.pair.changes.recorded ++ last_of n row.before.pair.changes.recorded)
-undo-drops row n is_undo done =
-    let d = undo-row row n is_undo done in
-    let es = row.before.pair.changes.recorded in
-    (d.1.record_is, sym (kept-last n es) ∙ ap (λ (r : Record). r.recorded ++ last_of n es) (sym d.1.record_is))
+undo-drops row n is_undo done = grind (arith, undo-row, kept-last)
 
 -- a redo that was not refused
 Redo-done : (old left : State) (reply : Reply) → Does old Redo reply left → ¬ (WasRefused reply) → (a : Bool) × Redone old.pair.changes left.pair.changes old.line left.line a
@@ -136,11 +126,7 @@ redo-row row = done_as row Redo (λ r k l m. (a : Bool) × Redone r k l m a) Red
 
 redo-rows : (rows : List Row) (old new : State) → AllRedone rows → Leads old rows new → Redos (length rows) old.pair.changes new.pair.changes old.line new.line
 redo-rows [] old new all l = (ap (λ (s : State). s.pair.changes) l, ap (λ (s : State). s.line) l)
-redo-rows (row ∷ rows) old new all l =
-    let first = redo-row row all.0 all.1 in
-    let others = redo-rows rows row.after new all.2 l.1 in
-    subst (λ (s : State). Redos (suc (length rows)) s.pair.changes new.pair.changes s.line new.line) l.0
-    (row.after.pair.changes, row.after.line, first.0, first.1, others)
+redo-rows (row ∷ rows) old new all l = grind (arith, redo-row, (redo-rows rows row.after new all.2 l.1))
 
 pub redo-in_run : (start : List ℕ) (held : List (List ℕ)) (old new : State) (commands : List Command) (replies : List Reply)
     (earlier redos : List Row) (row : Row) (n : ℕ) → Holds start held old → (run : Run old commands replies new)

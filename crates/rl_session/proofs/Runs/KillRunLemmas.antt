@@ -1,5 +1,5 @@
 -- Directed kills of a session take one part of its text, which the newest slot holds, so that a yank gives it back.
-use Rattle.rl_session.proofs.Common.{insert_slice, take, drop, take-append-drop, IsUtf8-nil, ◌≡◌, ℕ, ◌+◌, ◌*◌, ◌<◌, ◌≤◌, ◌⊎◌, inl, inr, zero, suc, Bool, true, false, not, cond, List, [], ◌∷◌, ◌++◌, map, length, Option, Some, None, refl, sym, ap, subst, ◌∙◌, arith, rules, length-append, append-nil, and-false, cond_both, eqb-true, eqb-false, le-ltb, map-append, length-between, same_Some, max, ◌==◌, slice_get, slice_set, slice_range, IfSome, repeat, IsCharBoundary, IsUtf8, Range, InsertStr, Stop, apply, Ring, IsRing, next_index, put_at, join_at, in_new_slot, killed_as, reset, yanked, side_mode, ring_step, Action, Direction, Forward, Backward, Movement, BeginningOfLine, EndOfLine, FirstNonBlank, BackwardWord, ForwardWord, ViCharSearch, BeginningOfBuffer, EndOfBuffer, Line, between, stepped, Plan, single, Done, too_long, yank_plan, Between, Told, removal, side_of, is_by_characters, text_in, unless_empty, pair_step, State, Stands, with_ring, Edited, is_vain_yank, lent_plan, IsDirected, AllDirected, IsNoKill, AnyTook, NoneRefused, GivenBack, IsDirectedKill, AllKill, Row, Leads, Run, before_last, commands_of, replies_of, Pair, Command, Yank, Kill, KillRange, Reply}
+use Rattle.rl_session.proofs.Common.{insert_slice, take, drop, take-append-drop, IsUtf8-nil, ◌≡◌, ℕ, ◌+◌, ◌<◌, ◌≤◌, ◌⊎◌, inl, inr, zero, suc, Bool, true, false, not, cond, List, [], ◌∷◌, ◌++◌, map, length, Option, Some, None, refl, sym, ap, subst, ◌∙◌, arith, rules, length-append, append-nil, and-false, cond_both, eqb-true, eqb-false, le-ltb, map-append, length-between, same_Some, ◌==◌, slice_get, slice_set, slice_range, IfSome, repeat, IsCharBoundary, IsUtf8, Range, InsertStr, apply, Ring, IsRing, put_at, join_at, in_new_slot, killed_as, reset, yanked, side_mode, Action, Direction, Forward, Backward, Movement, BeginningOfLine, EndOfLine, FirstNonBlank, BackwardWord, ForwardWord, ViCharSearch, BeginningOfBuffer, EndOfBuffer, Line, between, single, Done, too_long, yank_plan, Between, Told, removal, side_of, is_by_characters, unless_empty, pair_step, State, Stands, with_ring, Edited, is_vain_yank, lent_plan, IsDirected, AllDirected, IsNoKill, AnyTook, NoneRefused, GivenBack, IsDirectedKill, AllKill, Row, Leads, Run, before_last, commands_of, replies_of, Pair, Command, Yank, Kill, KillRange, Reply}
 use Rattle.std.proofs.lemmas.List.{get_or-set_same}
 use Rattle.std.proofs.lemmas.Option.{slice_get-get_or}
 use Rattle.std.proofs.Math.ListN.{length-set}
@@ -18,6 +18,7 @@ use Rattle.rl_session.specs.Commands.{Step, lent as lent_state}
 use Rattle.rl_session.specs.declared.session.Reply.TheVariants as says
 use Rattle.rl_session.proofs.Runs.RowLemmas.{Leads-keeps, Step-size}
 use Rattle.rl_line.proofs.Plans.PlanLemmas.{first_step}
+use Rattle.std.proofs.lemmas.Grind.{common_steps}
 
 -- ---- the newest slot
 get-after : (slots : List (List ℕ)) (text : List ℕ) → slice_get (slots ++ text ∷ []) (length slots) ≡ Some text
@@ -28,9 +29,7 @@ get-set : (slots : List (List ℕ)) (i : ℕ) (text : List ℕ) → i < length s
 get-set slots i text h = slice_get-get_or (slice_set slots i text) i [] (rw length-set h) ∙ ap Some (get_or-set_same slots i text [] h)
 
 get-put : (slots : List (List ℕ)) (i : ℕ) (text : List ℕ) → i ≤ length slots → slice_get (put_at i text slots) i ≡ Some text
-get-put slots i text h =
-    cond_both (i == length slots) _ _ (λ now. slice_get now i ≡ Some text) (λ e. ap (slice_get (slots ++ text ∷ [])) (eqb-true i (length slots) e) ∙ get-after slots text)
-    (λ e. let n = eqb-false i (length slots) e in get-set slots i text (omega arith))
+get-put slots i text h = grind (arith, eqb-true, get-after, eqb-false, get-set)
 
 get-join : (slots : List (List ℕ)) (i : ℕ) (mode : Mode) (old text : List ℕ) → slice_get slots i ≡ Some old
     → slice_get (join_at i mode text slots) i ≡ Some (joined mode old text)
@@ -44,9 +43,7 @@ record Newest (r : Ring) (text : List ℕ) : Type 0 where
   last_is : r.last ≡ did.Kill
 
 put-newest : (text : List ℕ) (r : Ring) → 0 < r.size → IsRing r → Newest (in_new_slot text r) text
-put-newest text r some h =
-    let n = next_index-is r.size r.index r.slots some h.within h.at_slot in
-    record { slot_is = get-put r.slots (next_index r.size r.index r.slots) text n.after; last_is = refl }
+put-newest text r some h = grind (arith, next_index-is, get-put)
 
 first_as : (size : ℕ) (last : Action) (text : List ℕ) (mode : Mode) (r : Ring) → size ≡ r.size → 0 < size → IsRing r → IsNoKill last
     → Newest (killed_as size last text mode r) text
@@ -75,9 +72,7 @@ newest-first taken side r some h k =
     flag-newest _ false taken (first_as r.size r.last taken (side_mode side) (record r { killing = true }) refl some (record { within = h.within; at_slot = h.at_slot }) k)
 
 newest-more : (old taken : List ℕ) (side : Direction) (r : Ring) → 0 < r.size → Newest r old → Newest (after_kill taken side r) (joined (side_mode side) old taken)
-newest-more old taken side r some n =
-    flag-newest _ false (joined (side_mode side) old taken)
-    (more_as r.size r.last old taken (side_mode side) (record r { killing = true }) some n.last_is (flag-newest r true old n))
+newest-more old taken side r some n = grind (arith, flag-newest, more_as)
 
 -- a state of a session whose ring has room
 record Roomy (s : State) : Type 0 where
@@ -136,27 +131,8 @@ touches-range Backward text r pos new within e h = omega (arith, e, h.0, h.1, le
 -- what a removal between the start and the end of a kill did
 removed : (old new : State) (o : Option (Range ℕ)) (side : Direction) (a : Bool) → old.line.cursor ≤ length old.line.text → IfSome o (LiesOn side old.line.cursor)
     → Between pair_step (λ before now. Edited (removal old.line o side) (record old { pair = before }) (record new { pair = now }) a) old.pair new.pair → Outcome a old new
-removed old new None side a within h t =
-    let d = t.inside.done in
-    subst (λ b. Outcome b old new) (sym d.answered) (record {
-      line_is = d.line ∙ ap (λ (l : Line). record l { cursor = old.line.cursor }) (sym (same_Some _ _ d.taken.line));
-      ring_is = ap (λ (p : Pair). p.ring) t.ended ∙ ap (λ (p : Pair). ring_step p.ring Stop) d.taken.listener;
-    })
-removed old new (Some r) side a within h t =
-    let d = t.inside.done in
-    let taken = text_in old.line r in
-    let b = first_step (Delete r.start taken side, r.start) [] old.line d.last d.taken.line in
-    let line : new.line ≡ stepped old.line b.text r.start = d.line ∙ ap (λ (l : Line). record l { cursor = r.start }) (sym (same_Some _ _ b.rest)) in
-    let at : new.line.cursor ≡ r.start = ap (λ (l : Line). l.cursor) line in
-    let limit : new.line.limit ≡ max old.line.limit (length b.text) = ap (λ (l : Line). l.limit) line in
-    subst (λ b. Outcome b old new) (sym d.answered) (record {
-      side = side;
-      taken = taken;
-      text_is = ap (λ k. apply (Delete k taken side) old.line.text) at ∙ b.makes ∙ ap (λ (l : Line). Some l.text) (sym line);
-      touches = touches-range side old.line.text r old.line.cursor new.line.cursor within at h;
-      limit_is = omega arith;
-      ring_is = ap (λ (p : Pair). p.ring) t.ended ∙ ap (λ (p : Pair). ring_step p.ring Stop) d.taken.listener;
-    })
+removed old new None side a within h t = grind (arith, same_Some)
+removed old new (Some r) side a within h t = grind (arith, first_step, same_Some, touches-range)
 
 -- a kill by a directed movement leaves what the ring did last, and is told from its start to its end
 told_whole : (b : Bool) (P : Pair → Pair → Type 0) (old : State) (new : Pair) → b ≡ false
@@ -217,14 +193,7 @@ Missing-took start old new more roomy t m = record {
         (newest-first t.taken t.side old.pair.ring m.roomy.some m.roomy.stands.ring e.1)
 
 Missing-nothing : (start : List ℕ) (old new : State) (more : List Reply) → Roomy new → TookNothing old new → Missing start old (says.Answer false ∷ more) → Missing start new more
-Missing-nothing start old new more roomy t m = record {
-  slot = m.slot;
-  held = subst (λ (k : Ring). Newest k m.slot ⊎ ((m.slot ≡ []) × IsNoKill k.last × AnyTook more)) (sym t.ring_is)
-      (elim m.held [ inl n ↦ inl (flag-newest old.pair.ring false m.slot n) | inr e ↦ inr e ]);
-  swaps = subst (λ (l : Line). Swaps start l.text l.cursor m.slot []) (sym t.line_is) m.swaps;
-  within = subst (λ (l : Line). length start ≤ l.limit) (sym t.line_is) m.within;
-  roomy = roomy;
-}
+Missing-nothing start old new more roomy t m = grind (arith, flag-newest)
 
 Missing-directed : (start : List ℕ) (old new : State) (command : Command) (reply : Reply) (more : List Reply) → IsDirectedKill old.line command → Step old command reply new
     → NoneRefused (reply ∷ more) → Missing start old (reply ∷ more) → Missing start new more × NoneRefused more
@@ -245,41 +214,18 @@ record Yanked (slot : List ℕ) (old new : Line) (before now : Ring) : Type 0 wh
   slot_is : yank now ≡ yank before
 
 yanked_nothing : (slot : List ℕ) (old new : Line) (p q : Pair) (a : Option Bool) → length slot ≡ 0 → Done pair_step (nothing old None) old new p q a → Yanked slot old new p.ring q.ring
-yanked_nothing slot old new p q a empty d =
-    let line : new ≡ old = d.line ∙ ap (λ (l : Line). record l { cursor = old.cursor }) (sym (same_Some _ _ d.taken.line)) in
-    record {
-      text_is = inl (empty, ap (λ (l : Line). l.text) line);
-      cursor_is = ap (λ (l : Line). l.cursor) line ∙ (omega arith);
-      slot_is = ap (λ (k : Pair). yank k.ring) d.taken.listener;
-    }
+yanked_nothing slot old new p q a empty d = grind (arith, same_Some)
 
 yanked_once : (slot : List ℕ) (old new : Line) (p q : Pair) (a c : Option Bool) (at : ℕ) → at ≡ old.cursor + length slot
     → Done pair_step (single (InsertStr old.cursor (repeat 1 slot)) at c) old new p q a → Yanked slot old new p.ring q.ring
-yanked_once slot old new p q a c at e d =
-    let b = first_step (InsertStr old.cursor (repeat 1 slot), at) [] old d.last d.taken.line in
-    let line : new ≡ stepped old b.text at = d.line ∙ ap (λ (l : Line). record l { cursor = at }) (sym (same_Some _ _ b.rest)) in
-    let once : repeat 1 slot ≡ slot = append-nil slot in
-    record {
-      text_is = inr (ap (λ s. apply (InsertStr old.cursor s) old.text) (sym once) ∙ b.makes ∙ ap (λ (l : Line). Some l.text) (sym line));
-      cursor_is = ap (λ (l : Line). l.cursor) line ∙ e;
-      slot_is = ap (λ (k : Pair). yank k.ring) d.taken.listener;
-    }
+yanked_once slot old new p q a c at e d = grind (arith, first_step, same_Some, append-nil)
 
 fits-within : (line : Line) (n : ℕ) → n ≤ line.limit → too_long line n ≡ false
 fits-within line n h = rw (le-ltb line.limit n h) (and-false (not line.grow))
 
 yank_plan-done : (slot : List ℕ) (old new : Line) (p q : Pair) (a : Option Bool) → length old.text + length slot ≤ old.limit
     → Done pair_step (yank_plan old slot 1) old new p q a → Yanked slot old new p.ring q.ring
-yank_plan-done slot old new p q a room d = by_length (length slot == 0) refl
-  where
-    as_plan : (plan : Plan (Option Bool)) → yank_plan old slot 1 ≡ plan → Done pair_step plan old new p q a
-    as_plan plan e = subst (λ k. Done pair_step k old new p q a) e d
-
-    by_length : (b : Bool) → (length slot == 0) ≡ b → Yanked slot old new p.ring q.ring
-    by_length true e = yanked_nothing slot old new p q a (eqb-true (length slot) 0 e) (as_plan _ (yank_plan-nothing old slot 1 (rw e refl)))
-    by_length false e =
-        let fits = fits-within old (length old.text + length slot * 1) (omega arith) in
-        yanked_once slot old new p q a _ _ (omega arith) (as_plan _ (yank_plan-some old slot 1 _ refl e fits))
+yank_plan-done slot old new p q a room d = grind (arith, common_steps, yanked_nothing, eqb-true, yank_plan-nothing, fits-within, yanked_once, yank_plan-some)
 
 yank-lent : (o : Option (List ℕ)) (r : Ring) → yank (lent o r) ≡ yank r
 yank-lent None r = refl

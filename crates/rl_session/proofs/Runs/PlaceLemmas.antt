@@ -13,12 +13,12 @@ use Rattle.rl_line.proofs.Records.ForgettingLemmas.{IsMatched-kept, gone-kept}
 use Rattle.rl_line.proofs.Records.RoomLemmas.{texts_after-more}
 use Rattle.rl_line.proofs.Plans.PlanLemmas.{first_step}
 use Rattle.rl_line.proofs.Records.ToldLemmas.{same-event, told-cases}
+use Rattle.std.proofs.lemmas.Grind.{common_steps}
+use Rattle.rl_session.proofs.Common.{rules}
 
 extend : (start : List ℕ) (es : List Entry) (held more : List (List ℕ)) → PlacedBack start es held → PlacedBack start es (held ++ more)
-extend start [] held more p =
-    (p.0, record { rest = p.1.rest ++ more; is = ap (λ h. h ++ more) p.1.is ∙ append_assoc p.0 (start ∷ p.1.rest) more })
-extend start (e ∷ es) held more p =
-    (p.0, p.1, record { rest = p.2.rest ++ more; is = ap (λ h. h ++ more) p.2.is ∙ append_assoc p.0 (p.1 ∷ p.2.rest) more }, p.3, p.4)
+extend start [] held more p = grind (arith, append_assoc)
+extend start (e ∷ es) held more p = grind (arith, append_assoc)
 
 but_first : (start : List ℕ) (e : Entry) (es : List Entry) (held : List (List ℕ)) → PlacedBack start (e ∷ es) held → PlacedBack start es held
 but_first start e es held p =
@@ -54,11 +54,7 @@ back_again es start = ap (λ x. replay_entries x start) (reverse-reverse es)
 
 -- entries that are placed lead to a held text
 pub Placed-held : (start : List ℕ) (es : List Entry) (held : List (List ℕ)) (text : List ℕ) → Placed start es held → replay_entries es start ≡ Some text → WasHeld text held
-Placed-held start es held text p h =
-    let l = lands start (reverse es) held p in
-    let both : Some l.text ≡ Some text = sym l.leads ∙ back_again es start ∙ h in
-    let same : l.text ≡ text = cc in
-    (l.before, subst (λ t. StandsAfter l.before t held) same l.stands)
+Placed-held start es held text p h = grind (arith, common_steps, lands, back_again)
 
 pub Placed-leads : (start : List ℕ) (es : List Entry) (held : List (List ℕ)) → Placed start es held → (text : List ℕ) × (replay_entries es start ≡ Some text)
 Placed-leads start es held p = let l = lands start (reverse es) held p in (l.text, sym (back_again es start) ∙ l.leads)
@@ -69,17 +65,12 @@ with_last_first es e start = ap (λ x. replay_entries (reverse x) start) (sym (r
 -- one entry more, with its text after all held texts
 Placed-add : (start : List ℕ) (es : List Entry) (e : Entry) (held : List (List ℕ)) (text : List ℕ) → Placed start es held
     → replay_entries (es ++ (e ∷ [])) start ≡ Some text → Placed start (es ++ (e ∷ [])) (held ++ (text ∷ []))
-Placed-add start es e held text p h =
-    subst (λ r. PlacedBack start r (held ++ (text ∷ []))) (sym (reverse-append es (e ∷ [])))
-    (held, text, record { rest = []; is = refl }, with_last_first es e start ∙ h, extend start (reverse es) held (text ∷ []) p)
+Placed-add start es e held text p h = grind (arith, reverse-append, with_last_first, extend)
 
 -- one entry more that leaves the text: at the place of the entries before
 Placed-mark : (start : List ℕ) (es : List Entry) (e : Entry) (held : List (List ℕ)) → Placed start es held
     → replay_entries (es ++ (e ∷ [])) start ≡ replay_entries es start → Placed start (es ++ (e ∷ [])) held
-Placed-mark start es e held p h =
-    let l = lands start (reverse es) held p in
-    subst (λ r. PlacedBack start r held) (sym (reverse-append es (e ∷ [])))
-    (l.before, l.text, l.stands, with_last_first es e start ∙ h ∙ sym (back_again es start) ∙ l.leads, l.placed)
+Placed-mark start es e held p h = grind (arith, common_steps, lands, reverse-append, with_last_first, back_again)
 
 -- ---- marks of groups
 replay-begin : (es : List Entry) (start : List ℕ) → replay_entries (es ++ (Begin ∷ [])) start ≡ replay_entries es start
@@ -108,9 +99,7 @@ Placed-end_one es start held p =
 -- ---- an event
 after-leads : (event : Event) (es : List Entry) (start x y : List ℕ) → IsUtf8 start → replay_entries es start ≡ Some x → apply event x ≡ Some y
     → replay_entries (entries_after event es) start ≡ Some y
-after-leads event es start x y u h k =
-    let v = replay-IsUtf8 es start x u h in
-    replay-unwind (entries_after event es) y start (apply-IsUtf8 event x y v k) (entries_after-unwind event es x y start v k (unwind-replay es start x u h))
+after-leads event es start x y u h k = search (rules, replay-IsUtf8, replay-unwind, apply-IsUtf8, entries_after-unwind, unwind-replay)
 
 -- the entries after an event are placed among the texts held before and the one after it
 Placed-after : (event : Event) (es : List Entry) (start y : List ℕ) (held : List (List ℕ)) → Placed start es held
@@ -142,15 +131,7 @@ alone start es held p = subst (λ l. Placed start l held) (sym (append-nil es)) 
 -- an event that drops what was undone
 History-change : (event : Event) (start : List ℕ) (held : List (List ℕ)) (text next : List ℕ) (r : Record) → History start held text r → apply event text ≡ Some next
     → History start (held ++ (next ∷ [])) next (record { recorded = entries_after event r.recorded; pending = []; fresh = freshness_of event r.recorded })
-History-change event start held text next r h k =
-    let leads = after-leads event r.recorded start text next h.is_text h.leads k in
-    record {
-      is_text = h.is_text;
-      leads = leads;
-      placed = alone start (entries_after event r.recorded) (held ++ (next ∷ []))
-          (Placed-after event r.recorded start next held (recorded-placed start held text r h) leads);
-      matched = record { recorded = IsMatched-after event r.recorded h.matched.recorded; pending = refl };
-    }
+History-change event start held text next r h k = search (rules, after-leads, alone, Placed-after, recorded-placed, IsMatched-after)
 
 -- entries that make the same of a text are placed alike
 PlacedBack-same : (start : List ℕ) (es ks : List Entry) (held : List (List ℕ)) → map event_of es ≡ map event_of ks → PlacedBack start es held → PlacedBack start ks held
@@ -210,13 +191,7 @@ History-steps (s ∷ ss) start held old new r h e =
     (append_assoc held (b.text ∷ []) (texts_of_steps ss b.text) ∙ ap (λ k. held ++ k) (sym (texts_after-more s.0 (map (λ (x : Step). x.0) ss) old.text b.text b.makes))) rest
 
 pub History-begun : (start : List ℕ) (held : List (List ℕ)) (text : List ℕ) (r : Record) → History start held text r → History start held text (begun r)
-History-begun start held text r h = record {
-  is_text = h.is_text;
-  leads = replay-begin r.recorded start ∙ h.leads;
-  placed = alone start (r.recorded ++ (Begin ∷ [])) held
-      (Placed-mark start r.recorded Begin held (recorded-placed start held text r h) (replay-begin r.recorded start));
-  matched = BothMatched-begun r h.matched;
-}
+History-begun start held text r h = search (rules, replay-begin, alone, Placed-mark, recorded-placed, BothMatched-begun)
 
 pub History-closed : (start : List ℕ) (held : List (List ℕ)) (text : List ℕ) (n : ℕ) (r : Record) → n ≤ level r.recorded → History start held text r → History start held text (with_closed n r)
 History-closed start held text n r few h = record {
@@ -285,12 +260,7 @@ History-truncated len start held text r h k =
 
 -- the undone entries can be made again
 pub pending-leads : (start : List ℕ) (held : List (List ℕ)) (text : List ℕ) (r : Record) → History start held text r → IsSome (replay_entries r.pending text)
-pending-leads start held text r h =
-    let l = Placed-leads start (r.recorded ++ r.pending) held h.placed in
-    let p = replay-split r.recorded r.pending start l.0 l.1 in
-    let both : Some p.0 ≡ Some text = sym p.1 ∙ h.leads in
-    let same : p.0 ≡ text = cc in
-    subst (λ t. IsSome (replay_entries r.pending t)) same (subst IsSome (sym p.2) refl)
+pending-leads start held text r h = grind (arith, Placed-leads, replay-split)
 
 -- ---- once the first entries went
 -- the last text of a list is the last one of each end of it

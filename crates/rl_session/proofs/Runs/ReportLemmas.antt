@@ -7,6 +7,7 @@ use Rattle.rl_line.proofs.Records.HeardLemmas.{line_back-ahead}
 use Rattle.rl_line.proofs.Records.UndoLemmas.{line_ahead-replay}
 use Rattle.rl_session.specs.Commands.{keeps}
 use Rattle.rl_session.proofs.Sessions.CourseLemmas.{Heard-Came}
+use Rattle.rl_session.proofs.Common.{arith}
 
 then_same : (xs ys : List Event) (o : Option (List ℕ)) → ((t : List ℕ) → replay xs t ≡ replay ys t) → option_and_then (replay xs) o ≡ option_and_then (replay ys) o
 then_same xs ys None same = refl
@@ -41,10 +42,7 @@ reported-row row =
 
 reported-rows : (rows : List Row) (old new : State) → Leads old rows new → replay (reports_of rows) old.line.text ≡ Some new.line.text
 reported-rows [] old new l = ap (λ (s : State). Some s.line.text) (sym l)
-reported-rows (row ∷ rows) old new l =
-    events-append (reports row) (reports_of rows) old.line.text
-    ∙ ap (option_and_then (replay (reports_of rows))) (ap (λ (s : State). replay (reports row) s.line.text) (sym l.0) ∙ reported-row row)
-    ∙ reported-rows rows row.after new l.1
+reported-rows (row ∷ rows) old new l = grind (arith, events-append, reported-row, (reported-rows rows row.after new l.1))
 
 pub reported-run : (old new : State) (commands : List Command) (replies : List Reply) (run : Run old commands replies new)
     → replay (reports_of run.rows) old.line.text ≡ Some new.line.text

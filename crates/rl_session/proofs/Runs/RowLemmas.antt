@@ -1,9 +1,8 @@
 -- What each row of a session keeps, and how a run goes on.
-use Rattle.rl_session.proofs.Common.{None, Some, Option, ap₂, cond_both, popped_ring, turned, yank_size, ring_step, Ring, Event, IsChange, Pair, Append, List, [], ◌∷◌, ◌++◌, ◌≡◌, ◌∙◌, ap, true, false, inl, inr, refl, subst, sym, append_assoc, map-append, ℕ, IsSome, min, IsUtf8, unbounded, Entry, unwind, level, Command, Reply, State, Replays, origin, Start, Course, never, when, stays, goes, edits, lends, pops, tells, Came, popped, Effect, by_steps, puts_begin, puts_ends, puts_end, shortens, takes_back, puts_again, Became, effect, readied, within_bound, no_bound, pair_step, Bound, Row, held, held_of, Leads, Run, AfterEach, commands_of, replies_of, steps_in}
+use Rattle.rl_session.proofs.Common.{None, Some, Option, ap₂, cond_both, popped_ring, turned, yank_size, ring_step, Ring, Event, IsChange, Pair, Append, List, [], ◌∷◌, ◌++◌, ◌≡◌, ◌∙◌, ap, true, false, inl, inr, refl, subst, sym, append_assoc, map-append, ℕ, IsSome, min, IsUtf8, unwind, level, Command, Reply, State, Replays, origin, Start, Course, never, when, stays, goes, edits, lends, pops, tells, Came, popped, Effect, by_steps, puts_begin, puts_ends, puts_end, shortens, takes_back, puts_again, Became, within_bound, no_bound, pair_step, Row, held, held_of, Leads, Run, AfterEach, commands_of, replies_of, steps_in}
 use Rattle.rl_base.proofs.Ring.KillGroupLemmas.{killed_as-size, lent-size, ring_step-size}
 use Rattle.rl_base.specs.KillRing.{yank}
 use Rattle.rl_line.specs.Plan.{Step as PlanStep}
-use Rattle.rl_line.specs.Forgetting.{forgotten}
 use Rattle.rl_line.proofs.Records.ForgettingLemmas.{fitting-stay}
 use Rattle.rl_line.proofs.Records.MarkLemmas.{Kept-begun, Kept-closed, Kept-Redone, Kept-truncated}
 use Rattle.rl_line.proofs.Records.OriginLemmas.{Kept, Kept-Taken, Kept-Undone}
@@ -14,6 +13,7 @@ use Rattle.rl_session.proofs.Sessions.CourseLemmas.{Heard, Heard-Came}
 use Rattle.rl_session.proofs.Sessions.IdleLemmas.{ring-Done, ring-Halted}
 use Rattle.rl_session.proofs.Sessions.PairLemmas.{Halted-own}
 use Rattle.rl_session.specs.declared.options.Options.{Options}
+use Rattle.rl_session.proofs.Common.{arith}
 
 -- the record leads back to the same text
 abbrev KeepsOrigin : State → State → Type 0
@@ -36,9 +36,7 @@ Kept-Became (puts_again a) old new u d = Kept-Redone old.pair.changes new.pair.c
 
 -- each row keeps the text from which the record came: the ring's resets touch neither line nor record
 Kept-Step : (old : State) (command : Command) (reply : Reply) (new : State) → Step old command reply new → IsUtf8 old.line.text → KeepsOrigin old new
-Kept-Step old command reply new s u =
-    let begun = readied command old in
-    subst (KeepsOrigin old) (sym s.settles) (Kept-Became (effect begun command reply) begun s.left u s.does)
+Kept-Step old command reply new s u = grind (arith, Kept-Became)
 
 -- so the origin stays, whatever the start was called
 pub step_origin : (old : State) (command : Command) (reply : Reply) (new : State) → Step old command reply new → IsUtf8 old.line.text → IsSome (origin old) → origin new ≡ origin old
@@ -93,11 +91,7 @@ Became-lasting (keeps text) old new c d =
 Became-lasting _ old new c d = ap lasting d.1
 
 Step-lasting : (old new : State) (command : Command) (reply : Reply) → Step old command reply new → lasting new ≡ lasting old
-Step-lasting old new command reply s =
-    let begun = readied command old in
-    ap lasting s.settles ∙ cond_both _ _ _ (λ (r : Ring). (s.left.options, r.size) ≡ lasting s.left) (λ e. refl) (λ e. refl)
-    ∙ Became-lasting (effect begun command reply) begun s.left (effect-changes begun command reply) s.does
-    ∙ cond_both _ _ _ (λ (r : Ring). (old.options, r.size) ≡ lasting old) (λ e. refl) (λ e. refl)
+Step-lasting old new command reply s = grind (arith, cond_both, Became-lasting, effect-changes)
 
 pub Step-options : (old new : State) (command : Command) (reply : Reply) → Step old command reply new → new.options ≡ old.options
 Step-options old new command reply s = ap (λ (p : Options × ℕ). p.0) (Step-lasting old new command reply s)
@@ -107,10 +101,7 @@ Step-size old new command reply s = ap (λ (p : Options × ℕ). p.1) (Step-last
 
 -- with no bound among the options nothing is forgotten
 pub within_bound-none : (s : State) → s.options.bound ≡ no_bound → within_bound s ≡ s
-within_bound-none s none =
-    let r = s.pair.changes in
-    ap (λ (b : Bound). record s { pair = record s.pair { changes = forgotten b.entries b.bytes r } }) none
-    ∙ ap (λ (es : List Entry). record s { pair = record s.pair { changes = record r { recorded = es } } }) (fitting-stay unbounded unbounded r.recorded refl)
+within_bound-none s none = grind (arith, fitting-stay)
 
 -- what a row keeps, rows keep
 pub Leads-keeps : (Holds : State → Type 0) → ((row : Row) → Holds row.before → Holds row.after) → (rows : List Row) (old new : State) → Leads old rows new → Holds old → Holds new

@@ -1,5 +1,5 @@
 -- A group that was closed is one unit, whatever happened inside, so that one undo takes it off.
-use Rattle.rl_session.proofs.Common.{rules, ◌≡◌, ◌<◌, ◌+◌, ℕ, inl, inr, zero, suc, true, List, [], ◌∷◌, ◌++◌, length, drop, Some, refl, sym, ap, subst, ◌∙◌, arith, or-false, min, listener_after, listener_after_step, Begin, End, Entry, Record, record_step, replay_entries, IsMatched, begun, end_one, end_times, ended, ended_one, has_change, kept_of, last_of, level, opens, with_closed, Effect, by_steps, puts_begin, puts_end, Became, effect, Does, readied, with_changes, AllStandInGroup, ClosesGroup, Holds, MayStandInGroup, WasRefused, Leads, Row, Run, held, held_of, steps_in, State, with_ring, reset, Append, Command, Reply, Cursors}
+use Rattle.rl_session.proofs.Common.{rules, ◌≡◌, ◌<◌, ◌+◌, ℕ, inl, inr, zero, suc, true, List, [], ◌∷◌, ◌++◌, length, drop, Some, refl, sym, ap, subst, ◌∙◌, arith, or-false, min, listener_after, listener_after_step, Begin, End, Entry, Record, record_step, replay_entries, IsMatched, begun, end_one, end_times, ended, ended_one, has_change, kept_of, last_of, level, opens, with_closed, Effect, by_steps, puts_begin, puts_end, Became, effect, Does, with_changes, AllStandInGroup, ClosesGroup, Holds, MayStandInGroup, WasRefused, Leads, Row, Run, held, held_of, steps_in, State, with_ring, reset, Append, Command, Reply, Cursors}
 use Rattle.rl_line.specs.Plan.{Step}
 use Rattle.rl_line.proofs.Records.GroupLemmas.{has_change-append, Inside, InsideOf, Inside-event, Inside-begun, past_begin}
 use Rattle.rl_line.proofs.Records.LastLemmas.{end_one-begin, end_one-cases, end_one-past, end_times-keeps}
@@ -81,10 +81,7 @@ Inside-end_one front (e ∷ es) m up = by_level (level (e ∷ es)) refl
     }
 
 Inside-ended_one : (front : List Entry) (r : Record) → Inside front r → level front < level (ended_one r).recorded → Inside front (ended_one r)
-Inside-ended_one front r k up =
-    let one : min 1 (level r.recorded) ≡ 1 = omega (arith, ap level k.is, level-group front k.inner k.matched) in
-    let is : (ended_one r).recorded ≡ end_one (front ++ (Begin ∷ k.inner)) = ap (λ n. end_times n r.recorded) one ∙ ap end_one k.is in
-    subst (InsideOf front) (sym is) (Inside-end_one front k.inner k.matched (subst (λ es. level front < level es) is up))
+Inside-ended_one front r k up = grind (arith, level-group, Inside-end_one)
 
 Inside-Became : (front : List Entry) (effect : Effect) (old new : State) → StaysOpen (level front) (level new.pair.changes.recorded) effect → Became effect old new → Inside front old.pair.changes → Inside front new.pair.changes
 Inside-Became front (by_steps course) old new i d k =
@@ -97,12 +94,7 @@ Inside-Became front (keeps text) old new i d k = Inside-same front (with_ring (r
 Inside-Became front _ old new i d k = absurd i
 
 Inside-row : (front : List Entry) (row : Row) → MayStandInGroup (level front) (level row.after.pair.changes.recorded) row.command row.reply → Inside front row.before.pair.changes → Inside front row.after.pair.changes
-Inside-row front row i k =
-    let before = readied row.command row.before in
-    let left = row.step.left in
-    let may = subst (λ (s : State). MayStandInGroup (level front) (level s.pair.changes.recorded) row.command row.reply) row.step.settles i in
-    subst (λ (s : State). Inside front s.pair.changes) (sym row.step.settles)
-    (Inside-Became front (effect before row.command row.reply) before left (stays_open (level front) (level left.pair.changes.recorded) before row.command row.reply may) row.step.does k)
+Inside-row front row i k = grind (arith, Inside-Became, stays_open)
 
 Inside-Leads : (front : List Entry) (rows : List Row) (old new : State) → AllStandInGroup (level front) rows → Leads old rows new → Inside front old.pair.changes → Inside front new.pair.changes
 Inside-Leads front [] old new all l k = Inside-same front old new k l
@@ -140,11 +132,7 @@ kept-closed front r n i all change =
 -- what stands in the record after the begin of a group, once rows stood in it
 group-inside : (inside : List Row) (b e : Row) (mid : State) → b.command ≡ asks.Begin → ¬ (WasRefused b.reply) → AllStandInGroup (level b.before.pair.changes.recorded) inside → Leads b.after inside mid → e.before ≡ mid
     → Inside b.before.pair.changes.recorded e.before.pair.changes
-group-inside inside b e mid is_begin begins all l to_end =
-    let front = b.before.pair.changes.recorded in
-    let first : Inside front b.after.pair.changes =
-    subst (λ (r : Record). Inside front r) (sym (done_as b asks.Begin (λ r k _ _. k ≡ begun r) Begin-done is_begin begins)) (record { inner = []; is = refl; matched = refl }) in
-    subst (λ (s : State). Inside front s.pair.changes) (sym to_end) (Inside-Leads front inside b.after mid all l first)
+group-inside inside b e mid is_begin begins all l to_end = grind (arith, done_as, Begin-done, Inside-Leads)
 
 -- where an undo keeps what was recorded before rows, the text before them is the one after it
 group-undone : (start : List ℕ) (texts : List (List ℕ)) (inside : List Row) (b e u : Row) (mid : State) → Holds start texts b.before → Leads b.after inside mid → e.before ≡ mid

@@ -1,5 +1,5 @@
 -- What begins with an escape, and what does not.
-use Rattle.rl_session.proofs.Common.{arith, ◌≡◌, ◌≢◌, ℕ, ◌<◌, List, [], ◌∷◌, ◌++◌, Some, None, refl, sym, ap, subst, ◌∙◌, append_assoc, inl, inr, ◌⊎◌, encode_utf8, codes, encode_same, encode_ascii, letter_of, NamesChar, Escapes, letter, braced, BeginsEscape, BeginsNoEscape}
+use Rattle.rl_session.proofs.Common.{arith, ◌≡◌, ◌≢◌, ℕ, ◌<◌, List, [], ◌∷◌, ◌++◌, Some, None, refl, sym, ap, ◌∙◌, append_assoc, inl, inr, ◌⊎◌, encode_utf8, codes, encode_same, encode_ascii, letter_of, NamesChar, Escapes, letter, braced, BeginsEscape, BeginsNoEscape}
 use Rattle.rl_session.proofs.Scripts.PartLemmas.{Lacks, Lacks-none, same_parts}
 use Rattle.rl_session.proofs.Scripts.SpellingLemmas.{digits-Lacks, letter-ascii}
 
@@ -15,28 +15,18 @@ braces bytes inner digits others c e f n = record {
 -- an escape that begins with a u is one in braces
 in_braces : (bytes code others : List ℕ) (c : ℕ) → Escapes code c → 117 ∷ bytes ≡ code ++ others
     → (digits : List ℕ) × NamesChar digits c × (bytes ≡ 123 ∷ (digits ++ 125 ∷ others))
-in_braces bytes code others c (letter {b = b} h) e =
-    let is : b ≡ 117 = cc in
-    let none : None ≡ Some c = subst (λ x. letter_of x ≡ Some c) is h in absurd cc
-in_braces bytes code others c (braced {digits = digits} n) e =
-    let tail : bytes ≡ 123 ∷ ((digits ++ 125 ∷ []) ++ others) = cc in (digits, n, simp append_assoc at tail)
+in_braces bytes code others c (letter {b = b} h) e = grind (arith)
+in_braces bytes code others c (braced {digits = digits} n) e = grind (arith, append_assoc)
 
 pub no_brace : (bytes : List ℕ) → ((inner : List ℕ) → bytes ≢ 123 ∷ inner) → BeginsNoEscape (117 ∷ bytes)
 no_brace bytes h c others e = let found = in_braces bytes e.code others c e.stands e.is in h _ found.2
 
 pub not_closed : (bytes inner : List ℕ) → bytes ≡ 123 ∷ inner → Lacks 125 inner → BeginsNoEscape (117 ∷ bytes)
-not_closed bytes inner is h c others e =
-    let found = in_braces bytes e.code others c e.stands e.is in
-    let same : inner ≡ found.0 ++ 125 ∷ others = cc in
-    Lacks-none 125 found.0 others (subst (Lacks 125) same h)
+not_closed bytes inner is h c others e = grind (arith, in_braces, Lacks-none)
 
 pub not_named : (bytes inner digits more : List ℕ) → bytes ≡ 123 ∷ inner → inner ≡ digits ++ 125 ∷ more → Lacks 125 digits
     → ((c : ℕ) → NamesChar digits c → ⊥) → BeginsNoEscape (117 ∷ bytes)
-not_named bytes inner digits more is parts h none c others e =
-    let found = in_braces bytes e.code others c e.stands e.is in
-    let both : digits ++ 125 ∷ more ≡ found.0 ++ 125 ∷ others = cc in
-    let same : digits ≡ found.0 = (same_parts 125 digits found.0 more others h (digits-Lacks 0 found.0 c found.1.value) both).0 in
-    none c (subst (λ d. NamesChar d c) (sym same) found.1)
+not_named bytes inner digits more is parts h none c others e = grind (arith, in_braces, same_parts, digits-Lacks)
 
 -- the character after the backslash
 

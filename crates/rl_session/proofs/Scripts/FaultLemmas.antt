@@ -256,13 +256,7 @@ none_of (Some script) lines e = (lines_of script, ap (λ l. l ++ lines_of script
 -- where nothing of the next line was written
 stopped_whole : (fault : ScriptFault) (left leaves held holds : Option (List ℕ)) (h : StoppedBy fault left leaves held holds) → h.cut ≡ []
     → IfSome left (λ script. (others : List (List ℕ)) × (lines_of script ≡ h.lines ++ others)) → Stopped left held holds
-stopped_whole fault left leaves held holds h none front = record {
-  lines = h.lines;
-  out = h.out;
-  front = front;
-  written = subst (λ l. Appends held holds l) (ap (λ l. h.out ++ l) none ∙ append-nil h.out) h.written;
-  outputs = Cut-whole h.lines started h.now h.out h.outputs;
-}
+stopped_whole fault left leaves held holds h none front = grind (arith, append-nil, Cut-whole)
 
 pub Stopped-by : (fault : ScriptFault) (left leaves held holds : Option (List ℕ)) → StoppedBy fault left leaves held holds → Stopped left held holds
 Stopped-by Read left leaves held holds h =

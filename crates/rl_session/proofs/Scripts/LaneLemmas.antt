@@ -37,3 +37,6 @@ plain-front spaces (b ∷ bs) (suc n) l h =
 -- two parts, which may overlap
 pub ArePlain-both : (spaces : Bool) (text : List ℕ) (i from to : ℕ) → ArePlain spaces text 0 i → ArePlain spaces text from to → from ≤ i → ArePlain spaces text 0 to
 ArePlain-both spaces text i from to front back meets k a b = elim (cases_lt k i) [ inl before ↦ front k a before | inr not_before ↦ back k (omega arith) b ]
+
+-- for attributes, which cannot name a lemma with a dash
+pub ruleset fronts = (plain-front)

@@ -1,8 +1,10 @@
 -- How the lines of a script part it, and how what is written for them joins.
 use Rattle.rl_session.proofs.Common.{◌≡◌, ℕ, zero, suc, length, take, drop, List, [], ◌∷◌, ◌++◌, Option, Some, None, ◌<◌, arith, refl, sym, ap, subst, ◌∙◌, append_assoc, append-nil, inl, inr, eq-eqb, ne_eqb, Nowhere, Passes, is_byte, Appends-trans, Appends-nil, Consumes-trans, Appends, Consumes, IsAtEnd, lines_of, whole_lines, onto_some, started, Outputs, Ran, HasNoNewline, IsSaid, SaidOut, Took, Runs, meaning_of, ScriptLine, Interpreter}
 use borrow.Author.Tests.{eqb-true}
+use Rattle.rl_session.proofs.Common.{add-one, take_rest}
 use Rattle.rl_session.specs.Lines.{onto}
 use Rattle.rl_session.specs.Script.{LineOut}
+use Rattle.std.proofs.lemmas.Grind.{common_steps}
 
 -- a line that a newline ends
 pub lines_of-ended : (line rest : List ℕ) → HasNoNewline line → lines_of (line ++ 10 ∷ rest) ≡ line ∷ lines_of rest
@@ -57,21 +59,12 @@ LineOut-said old new line (Some s) out h k = inl (meaning_of s, h, k)
 
 pub Outputs-append : (xs ys : List (List ℕ)) (old mid new : Interpreter) (first others : List ℕ)
     → Outputs old xs first mid → Outputs mid ys others new → Outputs old (xs ++ ys) (first ++ others) new
-Outputs-append [] ys old mid new first others h k =
-    subst (λ s. Outputs s ys (first ++ others) new) h.1 (subst (λ (o : List ℕ). Outputs mid ys o new) (sym (ap (λ l. l ++ others) h.0)) k)
-Outputs-append (x ∷ xs) ys old mid new first others h k =
-    (h.0, h.1, h.2 ++ others, ap (λ l. l ++ others) h.3 ∙ append_assoc h.1 h.2 others, h.4, Outputs-append xs ys h.0 mid new h.2 others h.5 k)
+Outputs-append [] ys old mid new first others h k = grind (arith)
+Outputs-append (x ∷ xs) ys old mid new first others h k = grind (arith, append_assoc, (Outputs-append xs ys h.0 mid new h.2 others h.5 k))
 
 -- some bytes more of a line
 pub Took-part : (old : Interpreter) (part bytes : List ℕ) (held : Option (List ℕ)) → Took old part bytes held held old (part ++ bytes)
-Took-part old part bytes held = record {
-  lines = [];
-  out = [];
-  split = λ more. ap lines_of (sym (append_assoc part bytes more));
-  ended = λ more. ap whole_lines (sym (append_assoc part bytes more));
-  outputs = (refl, refl);
-  written = Appends-nil held;
-}
+Took-part old part bytes held = grind (arith, append_assoc, Appends-nil)
 
 -- what some bytes are cut into, and then more
 pub cut_on : (cut : List ℕ → List (List ℕ)) (part bytes bytes' more : List ℕ) (xs ys mid rest : List (List ℕ)) → cut (part ++ (bytes ++ (bytes' ++ more))) ≡ xs ++ mid → mid ≡ ys ++ rest
@@ -81,14 +74,7 @@ cut_on cut part bytes bytes' more xs ys mid rest p q =
 
 pub Took-trans : (old mid new : Interpreter) (part part' part'' bytes bytes' : List ℕ) (a b c : Option (List ℕ))
     → Took old part bytes a b mid part' → Took mid part' bytes' b c new part'' → Took old part (bytes ++ bytes') a c new part''
-Took-trans old mid new part part' part'' bytes bytes' a b c h k = record {
-  lines = h.lines ++ k.lines;
-  out = h.out ++ k.out;
-  split = λ more. cut_on lines_of part bytes bytes' more h.lines k.lines _ _ (h.split (bytes' ++ more)) (k.split more);
-  ended = λ more. cut_on whole_lines part bytes bytes' more h.lines k.lines _ _ (h.ended (bytes' ++ more)) (k.ended more);
-  outputs = Outputs-append h.lines k.lines old mid new h.out k.out h.outputs k.outputs;
-  written = Appends-trans a b c h.out k.out h.written k.written;
-}
+Took-trans old mid new part part' part'' bytes bytes' a b c h k = grind (arith, common_steps, cut_on, Outputs-append, Appends-trans)
 
 -- a line that a newline ended was run and written
 pub Took-line : (old new : Interpreter) (line out : List ℕ) (a b : Option (List ℕ)) → HasNoNewline line → LineOut old line out new → Appends a b out
@@ -120,18 +106,7 @@ Runs-more left mid leaves held holds now_holds now new part part' bytes h r k = 
 -- the script ended after a newline, or was empty
 pub Ran-end : (left mid leaves held holds : Option (List ℕ)) (now : Interpreter) (part : List ℕ)
     → Runs left mid held holds now part → part ≡ [] → Consumes mid leaves [] → IsAtEnd leaves → Ran left leaves held holds
-Ran-end left mid leaves held holds now part h e r end =
-    let all : lines_of h.input ≡ h.took.lines =
-    ap lines_of (sym (append-nil h.input)) ∙ h.took.split [] ∙ ap (λ l. h.took.lines ++ lines_of (l ++ [])) e ∙ append-nil h.took.lines in
-    record {
-      input = h.input;
-      output = h.took.out;
-      last = now;
-      read = subst (λ l. Consumes left leaves l) (append-nil h.input) (Consumes-trans left mid leaves h.input [] h.read r);
-      ended = end;
-      written = h.took.written;
-      outputs = subst (λ ls. Outputs started ls h.took.out now) (sym all) h.took.outputs;
-    }
+Ran-end left mid leaves held holds now part h e r end = grind (arith, append-nil, Consumes-trans)
 
 -- the script ended within a line, which was then run
 pub Ran-last : (left mid leaves held holds now_holds : Option (List ℕ)) (now new : Interpreter) (part : List ℕ)
@@ -157,3 +132,5 @@ Ran-last left mid leaves held holds now_holds now new (b ∷ bs) h n e r end k =
       outputs = subst (λ ls. Outputs started ls (h.took.out ++ k.out) new) whole
           (Outputs-append h.took.lines k.lines started now new h.took.out k.out h.took.outputs k.outputs);
     }
+
+pub ruleset lines = (HasNoNewline-nowhere, parted, add-one, take_rest)

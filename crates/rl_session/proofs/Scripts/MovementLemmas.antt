@@ -1,4 +1,5 @@
 -- One movement at most is named, by what stands after its word.
+use Rattle.rl_session.proofs.Common.{arith}
 use Rattle.rl_session.proofs.Common.{◌≡◌, ℕ, ◌-◌, ◌^◌, List, Option, Some, refl, sym, ap, subst, ◌∙◌, codes, GraphemeClusterMode, Direction, At, CharSearch, Movement, BackwardChar, ForwardChar, LineUp, LineDown, Word, WordAction, NamesWord, big, emacs, vi, NamesAt, start, before, NamesSearch, till, back_onto, back_till, NamesAction, cap, low, upper, NamesMode, unicode, wcwidth, nozwj, CountWord, CountAtWord, CountSearch, Names, whole, home, eol, bword, fword, find, first, nonblank, bchar, fchar, up, down, buf, bob, eob, AmountMovement, NamesDirection, ahead, backward, RangeDirection, word, rest, SpellsChar, Numbered, HasNoWord, HasNoAt, HasNoSearch, NamesNothing}
 use Rattle.rl_session.specs.Grammar.{after, onto}
 use Rattle.rl_session.proofs.Scripts.NumberLemmas.{some_same}
@@ -47,26 +48,13 @@ CountWord-one {w = w} p q =
     let same = Numbered-one p.counted q.counted in (same.0, NamesWord-one p.named (subst (λ l. NamesWord l w) (sym same.1) q.named))
 
 pub CountAtWord-one : {given : List ℕ} {m n : ℕ} {a b : At} {v w : Word} → CountAtWord given m a v → CountAtWord given n b w → (m ≡ n) × (a ≡ b) × (v ≡ w)
-CountAtWord-one {b = b} {w = w} p q =
-    let same = Numbered-one p.counted q.counted in
-    let kinds : p.kind ≡ q.kind = some_same _ p.on (ap rest same.1 ∙ q.on) in
-    let placed : NamesAt (word p.after) b = subst (λ l. NamesAt (word l) b) (sym same.1) q.placed in
-    (same.0, NamesAt-one p.placed placed, NamesWord-one p.named (subst (λ l. NamesWord l w) (sym kinds) q.named))
+CountAtWord-one {b = b} {w = w} p q = grind (arith, Numbered-one, some_same, NamesAt-one, NamesWord-one)
 
 pub CountSearch-one : {given : List ℕ} {m n : ℕ} {s t : CharSearch} → CountSearch given m s → CountSearch given n t → (m ≡ n) × (s ≡ t)
-CountSearch-one {t = t} p q =
-    let same = Numbered-one p.counted q.counted in
-    let bytes : p.bytes ≡ q.bytes = some_same _ p.on (ap rest same.1 ∙ q.on) in
-    let char : p.c ≡ q.c = SpellsChar-one p.char (subst (λ l. SpellsChar l q.c) (sym bytes) q.char) in
-    let named : NamesSearch (word p.after) p.c t = rw (same.1, char) q.named in (same.0, NamesSearch-one p.named named)
+CountSearch-one {t = t} p q = grind (arith, Numbered-one, some_same, SpellsChar-one, NamesSearch-one)
 
 pub RangeDirection-one : {given : List ℕ} {i j k l : ℕ} {d e : Direction} → RangeDirection given i j d → RangeDirection given k l e → (i ≡ k) × (j ≡ l) × (d ≡ e)
-RangeDirection-one {l = l} {e = e} p q =
-    let starts = Numbered-one p.starts q.starts in
-    let ends = Numbered-one p.ends (subst (λ b. Numbered (2 ^ 64 - 1) b l q.letter) (sym starts.1) q.ends) in
-    (starts.0, ends.0, NamesDirection-one p.named (subst (λ b. NamesDirection b e) (sym ends.1) q.named))
-
-pub ruleset movements = (whole, home, eol, bword, fword, find, first, nonblank, bchar, fchar, up, down, buf, bob, eob)
+RangeDirection-one {l = l} {e = e} p q = grind (arith, Numbered-one, NamesDirection-one)
 
 -- one movement at most
 
@@ -105,7 +93,6 @@ no-find given none movement (find p) = none _ _ p
 -- the characters, then the kind of search, are what they are
 pub no_kind : {given after bytes : List ℕ} {n c : ℕ} → Numbered 65535 given n after → rest after ≡ Some bytes → SpellsChar bytes c
     → ((cs : CharSearch) → NamesSearch (word after) c cs → ⊥) → HasNoSearch given
-no_kind {c = c} h on char none m cs p =
-    let same = Numbered-one h p.counted in
-    let bytes = some_same _ on (ap rest same.1 ∙ p.on) in
-    let same_char : c ≡ p.c = SpellsChar-one char (subst (λ l. SpellsChar l p.c) (sym bytes) p.char) in none cs (rw (same.1, same_char) p.named)
+no_kind {c = c} h on char none m cs p = grind (arith, Numbered-one, some_same, SpellsChar-one)
+
+pub ruleset movements = (whole, home, eol, bword, fword, find, first, nonblank, bchar, fchar, up, down, buf, bob, eob, no-bword, no-fword, no-find)

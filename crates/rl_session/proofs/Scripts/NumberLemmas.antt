@@ -1,7 +1,8 @@
 -- What is no number, and how a number's digits go on.
-use Rattle.rl_session.proofs.Common.{arith, ◌≡◌, ◌≢◌, ℕ, ◌+◌, ◌-◌, ◌*◌, ◌^◌, ◌<◌, ◌≤◌, true, false, List, [], ◌∷◌, length, get_or, drop, Option, Some, None, refl, sym, ap, ◌∙◌, ◌&&◌, ◌==◌, nat_lt, nat_le, and-false, eqb-true, eqb-false, nat_tests, at_drop_more, nil_from_length, are_digits, value_from}
+use Rattle.rl_session.proofs.Common.{arith, ◌≡◌, ◌≢◌, ℕ, ◌+◌, ◌-◌, ◌*◌, ◌^◌, ◌<◌, ◌≤◌, true, false, List, [], ◌∷◌, length, get_or, drop, Option, Some, None, refl, sym, ap, ◌∙◌, ◌&&◌, ◌==◌, nat_le, and-false, eqb-true, eqb-false, nat_tests, at_drop_more, nil_from_length, are_digits, value_from}
 use native.Mathlib.Nat.{pow-le-pow_right}
 use Rattle.rl_session.specs.Spelling.{number_of}
+use Rattle.std.proofs.lemmas.Grind.{common_steps}
 
 grows : (n : ℕ) (ds : List ℕ) → n ≤ value_from n ds
 grows n [] = omega arith
@@ -14,9 +15,7 @@ number-nothing g bs h = rw h refl
 pub number-bad : (g i : ℕ) (bs : List ℕ) → i < length bs → are_digits (drop i bs) ≡ are_digits bs
     → (nat_le 48 (get_or bs i 0) && nat_le (get_or bs i 0) 57) ≡ false → None ≡ number_of g bs
 unfolding number_of
-number-bad g i bs h all bad =
-    let none : are_digits bs ≡ false = sym all ∙ at_drop_more are_digits bs i 0 h ∙ ap (λ t. t && are_digits (drop (i + 1) bs)) bad in
-    rw (none, and-false) refl
+number-bad g i bs h all bad = grind (arith, common_steps, and-false)
 
 pub number-great : (g i v : ℕ) (bs : List ℕ) → i < length bs → value_from v (drop i bs) ≡ value_from 0 bs
     → g < v * 10 + (get_or bs i 0 - 48) → None ≡ number_of g bs
@@ -29,10 +28,7 @@ number-great g i v bs h all great =
 
 pub number-whole : (g v : ℕ) (bs : List ℕ) → 0 < length bs → are_digits bs ≡ true → v ≡ value_from 0 bs → v ≤ g → Some v ≡ number_of g bs
 unfolding number_of
-number-whole g v bs some all is fits =
-    let fits' : nat_le (value_from 0 bs) g ≡ true = grind (arith, nat_tests) in
-    let some' : nat_lt 0 (length bs) ≡ true = grind (arith, nat_tests) in
-    rw (some', all, fits') (ap (λ n. Some n) is)
+number-whole g v bs some all is fits = grind (arith)
 
 -- what a test of the length tells
 pub is_nil : (xs : List ℕ) → (length xs == 0) ≡ true → xs ≡ []
@@ -55,3 +51,5 @@ none_holds o p q = let both = p ∙ q in absurd cc
 -- the value of six hexadecimal digits at most
 pub hex-small : (k n : ℕ) → k < 6 → n < 16 ^ k → n < 1048576
 hex-small k n h p = let m : 16 ^ k ≤ 16 ^ 5 = (let one : 0 < 16 = omega arith in let le : k ≤ 5 = omega arith in pow-le-pow_right one le) in omega arith
+
+pub ruleset numbers = (number-nothing, is_nil)

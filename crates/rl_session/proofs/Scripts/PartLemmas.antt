@@ -14,9 +14,7 @@ pub same_parts : (c : ℕ) (xs ys us vs : List ℕ) → Lacks c xs → Lacks c y
 same_parts c [] [] us vs p q e = (refl, cc)
 same_parts c [] (y ∷ ys) us vs p q e = absurd (q.0 cc)
 same_parts c (x ∷ xs) [] us vs p q e = absurd (p.0 cc)
-same_parts c (x ∷ xs) (y ∷ ys) us vs p q e =
-    let more : (xs ≡ ys) × (us ≡ vs) = same_parts c xs ys us vs p.1 q.1 cc in
-    let left : xs ≡ ys = more.0 in (cc, more.1)
+same_parts c (x ∷ xs) (y ∷ ys) us vs p q e = grind (arith, (same_parts c xs ys us vs p.1 q.1 cc))
 
 pub Lacks-none : (c : ℕ) (xs ys : List ℕ) → Lacks c (xs ++ c ∷ ys) → ⊥
 Lacks-none c [] ys h = h.0 refl

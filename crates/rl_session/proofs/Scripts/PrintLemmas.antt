@@ -13,17 +13,7 @@ space-read true b bytes text n s =
     elim (eqb_tells b 32) [ inl p ↦ rw p.1 (by_letter 115 32 bytes text (omega arith) refl s) | inr p ↦ rw p.0 (plain n s) ]
 
 byte-read : (spaces : Bool) (b : ℕ) (bytes text : List ℕ) → Spells bytes text → Spells (escape_of spaces b ++ bytes) (b ∷ text)
-byte-read spaces b bytes text s =
-    elim (eqb_tells b 92) [
-      | inl p ↦ rw p.1 (by_letter 92 92 bytes text (omega arith) refl s)
-      | inr p ↦ elim (eqb_tells b 10) [
-        | inl q ↦ rw q.1 (by_letter 110 10 bytes text (omega arith) refl s)
-        | inr q ↦ elim (eqb_tells b 13) [
-          | inl u ↦ rw u.1 (by_letter 114 13 bytes text (omega arith) refl s)
-          | inr u ↦ elim (eqb_tells b 9) [ inl v ↦ rw v.1 (by_letter 116 9 bytes text (omega arith) refl s) | inr v ↦ rw (p.0, q.0, u.0, v.0) (space-read spaces b bytes text p.1 s) ]
-        ]
-      ]
-    ]
+byte-read spaces b bytes text s = grind (arith, eqb_tells, by_letter, space-read)
 
 pub escaped_read : (spaces : Bool) (t : List ℕ) → Spells (escaped spaces t) t
 escaped_read spaces [] = nothing

@@ -8,13 +8,7 @@ use Rattle.rl_session.specs.Parsing.{Begins}
 -- parts that follow each other
 
 pub Begins-then : (bytes s middle t others : List ℕ) → Begins bytes s middle → Begins middle t others → Begins bytes (s ++ t) others
-Begins-then bytes s middle t others p q = record {
-  on = λ more m. rw append_assoc (p.on (t ++ more) (q.on more m));
-  only = λ whole w.
-      let one : (more : List ℕ) × Spells middle more × (whole ≡ s ++ more) = p.only whole w in
-      let two : (more : List ℕ) × Spells others more × (one.0 ≡ t ++ more) = q.only one.0 one.1 in
-      (two.0, two.1, one.2 ∙ ap (λ l. s ++ l) two.2 ∙ sym (append_assoc s t two.0));
-}
+Begins-then bytes s middle t others p q = grind (arith, append_assoc)
 
 -- plain bytes
 
@@ -69,20 +63,10 @@ digits-Lacks n (b ∷ bs) c h =
 
 -- two escapes that begin the same bytes are one
 two_escapes : (code other rest more : List ℕ) (c d : ℕ) → Escapes code c → Escapes other d → code ++ rest ≡ other ++ more → (c ≡ d) × (rest ≡ more)
-two_escapes code other rest more c d (letter {b = a} p) (letter {b = b} q) e =
-    let same : a ≡ b = cc in
-    let both : Some c ≡ Some d = sym p ∙ ap letter_of same ∙ q in (cc, cc)
-two_escapes code other rest more c d (letter {b = a} p) (braced q) e =
-    let is : a ≡ 117 = cc in
-    let none : None ≡ Some c = subst (λ x. letter_of x ≡ Some c) is p in absurd cc
-two_escapes code other rest more c d (braced p) (letter {b = b} q) e =
-    let is : b ≡ 117 = cc in
-    let none : None ≡ Some d = subst (λ x. letter_of x ≡ Some d) is q in absurd cc
-two_escapes code other rest more c d (braced {digits = xs} p) (braced {digits = ys} q) e =
-    let left : (xs ++ 125 ∷ []) ++ rest ≡ (ys ++ 125 ∷ []) ++ more = cc in
-    let same : (xs ≡ ys) × (rest ≡ more) = same_parts 125 xs ys rest more (digits-Lacks 0 xs c p.value) (digits-Lacks 0 ys d q.value) (simp append_assoc at left) in
-    let both : Some c ≡ Some d = sym p.value ∙ ap (hex_from 0) same.0 ∙ q.value in
-    (cc, same.1)
+two_escapes code other rest more c d (letter {b = a} p) (letter {b = b} q) e = grind (arith)
+two_escapes code other rest more c d (letter {b = a} p) (braced q) e = grind (arith)
+two_escapes code other rest more c d (braced p) (letter {b = b} q) e = grind (arith)
+two_escapes code other rest more c d (braced {digits = xs} p) (braced {digits = ys} q) e = grind (arith, same_parts, digits-Lacks, append_assoc)
 
 BeginsEscape-one : (bytes rest more : List ℕ) (c d : ℕ) → BeginsEscape bytes c rest → BeginsEscape bytes d more → (c ≡ d) × (rest ≡ more)
 BeginsEscape-one bytes rest more c d p q = two_escapes p.code q.code rest more c d p.stands q.stands (sym p.is ∙ q.is)
@@ -199,10 +183,7 @@ read_on bytes text rest xs after c others b e h p =
     Begins-then bytes (text ++ xs) (92 ∷ after) (encode_utf8 c) others (Begins-then bytes text rest xs (92 ∷ after) b on) (Begins-escape after others c p).1
 
 pub read_none : (bytes text rest xs after : List ℕ) → Begins bytes text rest → rest ≡ xs ++ 92 ∷ after → Lacks 92 xs → BeginsNoEscape after → SpellsNothing bytes
-read_none bytes text rest xs after b e h none whole s =
-    let one : (more : List ℕ) × Spells rest more × (whole ≡ text ++ more) = b.only whole s in
-    let two : (more : List ℕ) × Spells (92 ∷ after) more × (one.0 ≡ xs ++ more) = plain-only xs (92 ∷ after) one.0 h (subst (λ l. Spells l one.0) e one.1) in
-    no_escape after none two.0 two.1
+read_none bytes text rest xs after b e h none whole s = grind (arith, plain-only, no_escape)
 
 pub read_end : (bytes text rest : List ℕ) → Begins bytes text rest → Lacks 92 rest → Spells bytes (text ++ rest)
 read_end bytes text rest b h = b.on rest (Spells-plain rest h)

@@ -3,6 +3,7 @@ use Rattle.rl_session.proofs.Common.{◌≡◌, ℕ, ◌-◌, ◌^◌, List, [],
 use Rattle.rl_session.specs.declared.session.Command.TheVariants.{Delete}
 use Rattle.rl_session.specs.declared.settings.Setting.TheVariants.{Mode}
 use Rattle.rl_session.specs.Grammar.{yank, keeps}
+use Rattle.rl_session.specs.Parsing.{new_text, pasted, updated, put_in, replaced, kept}
 use Rattle.rl_session.proofs.Scripts.NumberLemmas.{some_same, none_holds}
 use Rattle.rl_session.proofs.Scripts.PartLemmas.{Lacks}
 use Rattle.rl_session.proofs.Scripts.SpellingLemmas.{Spells-one, SpellsChar-one}
@@ -43,11 +44,7 @@ RangeText-one {t = t} {d = d} p q =
 -- the words by the function that reads them
 pub ruleset lone_words = (no_text, yankpop, keep, killline, killbuf, discline, discbuf, tchars, begin, end, endone, redo, line_place)
 
-pub ruleset texts = (text, paste, update, str, rep, keep)
-
-pub ruleset deletions = (range, del, back, prevword, nextword, to, killrange)
-
-pub ruleset commands = (pos, move, ins, yank, twords, cased, kill, copy, indent, dedent, undo, trunc)
+pub ruleset texts = (text, paste, update, str, rep, keep, new_text, pasted, updated, put_in, replaced, kept)
 
 pub ruleset settings = (limit, ring, mode)
 
@@ -166,3 +163,11 @@ range-no_start given none command even (range p s) = none _ _ p
 
 pub range-no_end : (given digits : List ℕ) (a : ℕ) → Numbered (2 ^ 64 - 1) given a digits → None ≡ number_of (2 ^ 64 - 1) digits → SaysNoDeletion (codes "range") given
 range-no_end given digits a h none command even (range p s) = none_holds _ (none ∙ ap (number_of (2 ^ 64 - 1)) (Numbered-one h p).1) s
+
+pub ruleset no_deletions = (no-del, no-back, no-prevword, no-nextword, no-to, no-killrange, range-no_start, range-no_end)
+
+pub ruleset deletions = (range, del, back, prevword, nextword, to, killrange, no_deletions)
+
+pub ruleset no_commands = (no-pos, no-trunc, no-yank, no-twords, no-undo, no-move, no-kill, no-copy, no-indent, no-dedent, no-case, ins-no_count, ins-no_char)
+
+pub ruleset commands = (pos, move, ins, yank, twords, cased, kill, copy, indent, dedent, undo, trunc, no_commands)

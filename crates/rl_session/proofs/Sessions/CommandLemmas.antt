@@ -95,12 +95,8 @@ effect-changes old command reply = course-changes (asked old.line command) old c
 -- ---- an event of an empty text
 next-nothing : (event : Event) (es : List Entry) (b a : ℕ) → IsLone event [] → entries_of event ≡ [] → next event es b a ≡ es
 next-nothing (InsertChar i c) es b a lone none = absurd (never-char i c none)
-next-nothing (InsertStr i s) es b a lone none =
-    let empty = empty-inserted i s none in
-    ap (λ f. entries_told f b a (entries_after (InsertStr i s) es)) (fresh-InsertStr-nothing es i s empty) ∙ after-InsertStr-nothing es i s empty
-next-nothing (Delete i s side) es b a lone none =
-    let empty = empty-deleted i s side none in
-    ap (λ f. entries_told f b a (entries_after (Delete i s side) es)) (fresh-Delete-nothing es i s side empty) ∙ after-Delete-nothing es i s side empty
+next-nothing (InsertStr i s) es b a lone none = grind (arith, empty-inserted, fresh-InsertStr-nothing, after-InsertStr-nothing)
+next-nothing (Delete i s side) es b a lone none = grind (arith, empty-deleted, fresh-Delete-nothing, after-Delete-nothing)
 next-nothing (Replace i s t) es b a lone none = absurd (never-replaced i s t none)
 next-nothing _ es b a lone none = absurd lone
 
@@ -113,14 +109,7 @@ AddsOne line r e plan = (listener_after record_step line.cursor plan.steps r).re
 
 -- a plan of one step, since that adds the entry
 once : {A : Type 0} (line : Line) (r : Record) (e : Entry) (event : Event) (cursor : ℕ) (a : A) → IsLone event [] → AddsOne line r e (single event cursor a) → Settles line (single event cursor a)
-once line r e event cursor a lone adds = record {
-  quiet = (
-    λ none. absurd (one_longer r.recorded _ e (recorded-next line.cursor event cursor [] r lone ∙ next-nothing event r.recorded line.cursor cursor lone none) adds),
-    lone,
-    tt,
-  );
-  ends = λ some. refl;
-}
+once line r e event cursor a lone adds = grind (arith, one_longer, recorded-next, next-nothing)
 
 removed : (line : Line) (r : Record) (e : Entry) (range : Option (Range ℕ)) (side : Direction) → AddsOne line r e (removal line range side) → Settles line (removal line range side)
 removed line r e None side adds = Settles-nothing line false

@@ -1,11 +1,12 @@
 -- No kill is on between the commands of a session: only a kill tells its start, and it tells its end too.
-use Rattle.rl_session.proofs.Common.{sym, cond_both, ◌≡◌, ℕ, ◌+◌, ◌-◌, ◌*◌, ◌==◌, ◌||◌, Bool, true, false, List, [], ◌∷◌, ◌++◌, length, Option, Some, None, ap, subst, ◌∙◌, inl, inr, encode_utf8, remove_range, Range, Event, InsertChar, InsertStr, Replace, IsChange, Ring, after_deletion, popped_ring, ring_step, turned, yank_popped, yank_size, yanked, Direction, Refusal, Movement, insert_plan, too_long, yank_plan, yank_pop_plan, indent_plan, line_plan, lines_plan, parts, pushed, put_spaces, Told, kill_plan, removal, side_of, WordAction, edit_word_plan, respell, word_ahead, Line, stepped, Plan, listener_after, Done, Halted, or_no_memory, Entry, Begin, End, Changed, cursor_after, steps_ahead, are_two, first_word, pulled_back, second_word, transpose_chars_plan, transpose_words_plan, pair_step, pair_refused, Pair}
+use Rattle.rl_session.proofs.Common.{sym, cond_both, ◌≡◌, ℕ, ◌+◌, ◌-◌, ◌*◌, ◌==◌, ◌||◌, Bool, true, false, List, [], ◌∷◌, ◌++◌, length, Option, Some, None, ap, subst, ◌∙◌, inl, inr, remove_range, Range, Event, InsertChar, InsertStr, Replace, IsChange, Ring, after_deletion, popped_ring, ring_step, turned, yank_popped, yank_size, yanked, Direction, Refusal, Movement, insert_plan, too_long, yank_plan, yank_pop_plan, indent_plan, line_plan, lines_plan, parts, pushed, put_spaces, Told, kill_plan, removal, side_of, WordAction, edit_word_plan, respell, word_ahead, Line, stepped, Plan, listener_after, Done, Halted, or_no_memory, Entry, Begin, End, Changed, cursor_after, steps_ahead, are_two, first_word, pulled_back, second_word, transpose_chars_plan, transpose_words_plan, pair_step, pair_refused, Pair}
 use Rattle.rl_base.specs.Event.{Delete}
 use Rattle.rl_base.specs.KillRing.{lent, yank}
 use Rattle.rl_line.specs.Plan.{Step}
 use Rattle.rl_line.specs.Ranges.{killed}
 use Rattle.rl_line.proofs.Plans.HearingLemmas.{AreChanges}
 use Rattle.rl_session.proofs.Sessions.PairLemmas.{listener_after-ring}
+use Rattle.rl_session.proofs.Common.{arith}
 
 -- each step changes the text, so none tells the start of a kill
 abbrev pub NoneStarts : List Step → Type 0
@@ -72,9 +73,7 @@ idle-popped r now e h = ap (λ (k : Ring). k.killing) e ∙ idle-popped_ring (ya
 
 -- ---- no plan tells the start of a kill: each step is a change
 pub NoneStarts-insert : (line : Line) (c n : ℕ) → NoneStarts (insert_plan line c n).steps
-NoneStarts-insert line c n =
-    cond_both (too_long line (length line.text + length (encode_utf8 c) * n)) _ _ (λ (p : Plan (Option Bool)). NoneStarts p.steps) (λ e. tt)
-    (λ e. (cond_both (n == 1) _ _ IsChange (λ e. tt) (λ e. tt), tt))
+NoneStarts-insert line c n = grind (arith, cond_both)
 
 pub NoneStarts-yank : (line : Line) (s : List ℕ) (n : ℕ) → NoneStarts (yank_plan line s n).steps
 NoneStarts-yank line s n =

@@ -3,6 +3,7 @@ use Rattle.rl_session.proofs.Common.{◌≡◌, ℕ, ◌∷◌, [], List, refl, 
 use Rattle.rl_base.specs.declared.listeners.Refusal.TheVariants as why
 use Rattle.rl_line.specs.Plan.{Step}
 use Rattle.rl_line.proofs.Plans.PlanLemmas.{Halted-caused}
+use Rattle.rl_session.proofs.Common.{rules}
 
 pub listener_after-changes : (cursor : ℕ) (steps : List Step) (p : Pair) → (listener_after pair_step cursor steps p).changes ≡ listener_after record_step cursor steps p.changes
 listener_after-changes cursor [] p = refl
@@ -47,15 +48,7 @@ Halted-own takes plan old new p q w h =
 
 pub Halted-changes : {A : Type 0} (plan : Plan A) (old new : Line) (p q : Pair) (w : Refusal) → Halted pair_step (or_no_memory pair_refused) plan old new p q w
     → Halted record_step keeps_changes plan old new p.changes q.changes w
-Halted-changes plan old new p q w h = record {
-  first = h.first;
-  next = h.next;
-  others = h.others;
-  split = h.split;
-  middle = h.middle.changes;
-  taken = Taken-changes h.first old new p h.middle h.taken;
-  cause = cause-changes h.middle q h.next.0 w h.cause;
-}
+Halted-changes plan old new p q w h = search (rules, Taken-changes, cause-changes)
 
 -- whichever refusal it was, memory is out
 cause-memory : (takes : Takes) (p q : Pair) (e : Event) (w : Refusal) → refusal_of pair_refused takes p e w q → refusal_of pair_refused takes p e why.NoMemory q

@@ -1,5 +1,5 @@
 -- What the plans of the edits do with the cursor: a step that adds no entry leaves it, and a plan ends where its last step leaves it.
-use Rattle.rl_session.proofs.Common.{IsCharBoundary-start, ◌≡◌, ℕ, ◌+◌, ◌-◌, ◌*◌, ◌==◌, ◌||◌, ◌≤◌, ◌<◌, Bool, true, false, zero, suc, List, [], ◌∷◌, ◌++◌, length, slice_range, take, drop, take_at, false-eqb, slice_get, take_all, reverse, length-append, ap₂, Option, Some, None, refl, sym, ap, subst, ◌∙◌, cond, eqb-true, arith, sum, length-between, nat_tests, sum_by-cons, encode_utf8, nat_lt, option_and_then, unwrap_or, All, remove_range, repeat, Range, Event, InsertChar, InsertStr, Replace, Direction, Forward, Movement, ForwardChar, cut_to_limit, insert_event, insert_plan, insert_str_plan, replace_plan, too_long, update_plan, yank_plan, yank_pop_plan, blanks, indent_plan, line_plan, lines_plan, parts, pulled, pushed, put_spaces, spaces, word_ahead, delete_plan, kill_plan, removal, side_of, Line, between, stepped, Plan, answering, single, text_in, to_place, Entry, cond_both, length_push, reverse-append, reverse-reverse, length-take-le, length-drop, All-head, All-weaker, same_Some, IsUtf8-take, IsUtf8-drop, IsCharBoundary-end, IsCharBoundary-from_rest, IfSome, option_map, option_or, IsCharBoundary, IsUtf8, clusters, bytes_in, next_pos, prev_pos, PlacedCluster, first_member, next_stop, nth, placed_clusters, Emacs, are_two, clusters_around, first_word, meeting_place, pulled_back, second_word, swap_plan, transpose_chars_plan, transpose_words_plan, word_end, word_start}
+use Rattle.rl_session.proofs.Common.{IsCharBoundary-start, ◌≡◌, ℕ, ◌+◌, ◌-◌, ◌*◌, ◌==◌, ◌||◌, ◌≤◌, ◌<◌, Bool, true, false, zero, suc, List, [], ◌∷◌, ◌++◌, length, slice_range, take, drop, take_at, false-eqb, slice_get, reverse, length-append, Option, Some, None, refl, sym, ap, subst, ◌∙◌, cond, eqb-true, arith, sum, length-between, nat_tests, sum_by-cons, encode_utf8, option_and_then, unwrap_or, All, remove_range, repeat, Range, Event, InsertChar, InsertStr, Replace, Direction, Forward, Movement, insert_event, insert_plan, insert_str_plan, replace_plan, too_long, update_plan, yank_plan, yank_pop_plan, indent_plan, line_plan, lines_plan, parts, pulled, pushed, put_spaces, spaces, word_ahead, delete_plan, kill_plan, removal, side_of, Line, between, stepped, Plan, answering, single, text_in, to_place, Entry, cond_both, length_push, reverse-append, reverse-reverse, length-take-le, length-drop, All-head, All-weaker, same_Some, IsUtf8-take, IsUtf8-drop, IsCharBoundary-end, IsCharBoundary-from_rest, IfSome, option_map, option_or, IsCharBoundary, IsUtf8, clusters, bytes_in, next_pos, prev_pos, PlacedCluster, first_member, next_stop, nth, placed_clusters, Emacs, are_two, clusters_around, first_word, meeting_place, pulled_back, second_word, swap_plan, transpose_chars_plan, transpose_words_plan, word_end, word_start}
 use Rattle.rl_line.proofs.Plans.IndentLemmas.{length-spaces, pushed-none, pushed-pushed, sum-parts}
 use Rattle.rl_base.specs.Event.{Delete}
 use Rattle.rl_line.proofs.Plans.EditLemmas.{length-repeat}
@@ -13,6 +13,7 @@ use Rattle.rl_base.proofs.Texts.LineLemmas.{few-from_none, IsCharBoundary-nth, p
 use Rattle.rl_base.proofs.Clusters.ClusterLemmas.{bytes_in-append, bytes_in-clusters}
 use Rattle.rl_base.proofs.Clusters.WordLemmas.{All-reverse, All-stops, IsCharBoundary-member, IsCharBoundary-stop, nth-is_or, prev_word-some, start_before}
 use Rattle.rl_line.proofs.Records.RecordLemmas.{through}
+use Rattle.std.proofs.lemmas.Grind.{common_steps}
 
 -- the plan's steps are quiet, and it ends where its last step leaves the cursor
 pub record Settles {A : Type 0} (line : Line) (plan : Plan A) : Type 0 where
@@ -48,9 +49,7 @@ Settles-single line event cursor a same lone = record { quiet = (same, lone, tt)
 
 -- ---- what is put in
 inserted-still : (i c n cursor : ℕ) → entries_of (insert_event i c n) ≡ [] → cursor + length (encode_utf8 c) * n ≡ cursor
-inserted-still i c n cursor =
-    cond_both (n == 1) _ _ (λ event. entries_of event ≡ [] → cursor + length (encode_utf8 c) * n ≡ cursor) (λ e none. absurd (never-char i c none))
-    (λ e none. omega (arith, length-repeat n (encode_utf8 c), empty-inserted i (repeat n (encode_utf8 c)) none))
+inserted-still i c n cursor = grind (arith, never-char, length-repeat, empty-inserted)
 
 pub Settles-insert : (line : Line) (c n : ℕ) → Settles line (insert_plan line c n)
 Settles-insert line c n =
@@ -90,9 +89,7 @@ MovesBy-to_place line None = tt
 MovesBy-to_place line (Some q) = λ e. refl
 
 pub Settles-delete : (line : Line) (n : ℕ) → Settles line (delete_plan line n)
-Settles-delete line n =
-    let k = Settles-kill line (ForwardChar n) (MovesBy-to_place line _) in
-    record { quiet = k.quiet; ends = k.ends }
+Settles-delete line n = grind (arith, Settles-kill, MovesBy-to_place)
 
 pub Settles-yank_pop : (line : Line) (z : ℕ) (s : List ℕ) → line.cursor ≤ length line.text → Settles line (yank_pop_plan line z s)
 Settles-yank_pop line z s within =
@@ -108,17 +105,7 @@ Settles-yank_pop line z s within =
     yank-end line s n = cond_both ((length s == 0) || too_long line (length line.text + length s * n)) _ _ (λ (p : Plan (Option Bool)). p.cursor ≡ ends_at line.cursor p.steps) (λ e. refl) (λ e. refl)
 
 pub Settles-update : (line : Line) (s : List ℕ) (q : ℕ) → line.cursor ≤ length line.text → Settles line (update_plan line s q)
-Settles-update line s q within =
-    let cut = cut_to_limit line s in
-    let gone = text_in line (between 0 (length line.text)) in
-    record {
-      quiet = (
-        λ e. omega (arith, length-between line.text 0 (length line.text) (omega arith), empty-deleted 0 gone Forward e),
-        tt,
-        (λ e. omega (arith, empty-inserted 0 cut e), tt, tt),
-      );
-      ends = λ some. refl;
-    }
+Settles-update line s q within = grind (arith, length-between, empty-deleted, empty-inserted)
 
 -- ---- indents
 -- steps of which none is a replacement
@@ -164,14 +151,8 @@ Open-line false n text i cursor = Open-put_spaces (parts n) i cursor
 Open-line true n text i cursor = (λ later. tt, tt)
 
 Goes-line : (dedent : Bool) (n : ℕ) (text : List ℕ) (i cursor : ℕ) → Goes cursor (line_plan dedent n text i cursor)
-Goes-line false n text i cursor = record {
-  quiet = Quiet-put_spaces (parts n) i cursor;
-  ends = ap (λ k. pushed i k cursor) (sym (sum-parts n)) ∙ sym (ends-put_spaces (parts n) i cursor);
-}
-Goes-line true n text i cursor = record {
-  quiet = (λ e. pulled-still i (length (blanks n text)) cursor (empty-deleted i (blanks n text) Forward e), tt, tt);
-  ends = refl;
-}
+Goes-line false n text i cursor = grind (arith, Quiet-put_spaces, sum-parts, ends-put_spaces)
+Goes-line true n text i cursor = grind (arith, pulled-still, empty-deleted)
 
 Goes-lines : (dedent : Bool) (n : ℕ) (texts : List (List ℕ)) (i cursor : ℕ) → Goes cursor (lines_plan dedent n texts i cursor)
 Goes-lines dedent n [] i cursor = record { quiet = tt; ends = refl }
@@ -200,27 +181,8 @@ NoneAtEnd text = All (λ (x : PlacedCluster). x.0 < length text) (placed_cluster
 
 -- after a place that is not the end stands a cluster, which is not empty
 next-some : (text : List ℕ) (q stop : ℕ) → NoneEmpty (drop q text) → IsUtf8 text → IsCharBoundary text q → next_pos text q 1 ≡ Some stop → 0 < length (slice_range text q stop)
-next-some text q stop full u bound h = from (q == length text) refl h
-  where
-    rest : List ℕ
-    rest = drop q text
-
-    first : (ps : List (List ℕ)) → clusters rest ≡ ps → (0 < length rest) → (0 < bytes_in (take 1 ps)) × (bytes_in (take 1 ps) ≤ length rest)
-    first [] e some = absurd (omega (arith, ap bytes_in e, bytes_in-clusters rest (IsUtf8-drop text q u bound)))
-    first (p ∷ ps) e some =
-        let wide : 0 < length p = All-head (λ (p : List ℕ). 0 < length p) p ps (subst (All (λ (p : List ℕ). 0 < length p)) e full) in
-        let one : bytes_in (p ∷ []) ≡ length p = length-append p [] ∙ (omega arith) in (
-          omega (arith, wide, one),
-          omega (arith, one, ap bytes_in e, bytes_in-clusters rest (IsUtf8-drop text q u bound), bytes_in-append (p ∷ []) ps),
-        )
-
-    from : (b : Bool) → (q == length text) ≡ b → cond ((1 == 0) || b) None (Some (q + bytes_in (take 1 (clusters rest)))) ≡ Some stop → 0 < length (slice_range text q stop)
-    from true e k = cc
-    from false e k =
-        let left : length rest ≡ length text - q = length-drop q text in
-        let f = first (clusters rest) refl (omega (arith, left, bound.0, false-eqb q (length text) (sym e))) in
-        let is : q + bytes_in (take 1 (clusters rest)) ≡ stop = same_Some _ _ k in
-        omega (arith, length-between text q stop (omega (arith, left, f.1, is, bound.0)), f.0, is)
+next-some text q stop full u bound h =
+    grind (arith, bytes_in-clusters, IsUtf8-drop, All-head, length-append, bytes_in-append, length-drop, false-eqb, same_Some, length-between)
 
 -- the text may be cut before its last cluster
 before-last : (text : List ℕ) (ps : List (List ℕ)) → IsUtf8 text → reverse (clusters text) ≡ ps → IsCharBoundary text (length text - bytes_in (take 1 ps))
@@ -241,49 +203,18 @@ before-last text (p ∷ ps) u e =
         subst (IsCharBoundary text) is (IsCharBoundary-nth text n x u k)
 
 IsCharBoundary-last : (text : List ℕ) (pos q : ℕ) → IsUtf8 text → pos ≡ length text → prev_pos text pos 1 ≡ Some q → IsCharBoundary text q
-IsCharBoundary-last text pos q u end h = from (pos == 0) h
-  where
-    from : (b : Bool) → cond ((1 == 0) || b) None (Some (pos - bytes_in (take 1 (reverse (clusters (take pos text)))))) ≡ Some q → IsCharBoundary text q
-    from true k = cc
-    from false k =
-        let whole : take pos text ≡ text = take_all pos text (omega arith) in
-        let is : length text - bytes_in (take 1 (reverse (clusters text))) ≡ q =
-        ap₂ (λ n t. n - bytes_in (take 1 (reverse (clusters t)))) (sym end) (sym whole) ∙ same_Some _ _ k in
-        subst (IsCharBoundary text) is (before-last text (reverse (clusters text)) u refl)
+IsCharBoundary-last text pos q u end h = grind (arith, common_steps, same_Some, before-last)
 
 IsCharBoundary-meeting : (line : Line) (q : ℕ) → IsUtf8 line.text → IsCharBoundary line.text line.cursor → meeting_place line ≡ Some q → IsCharBoundary line.text q
-IsCharBoundary-meeting line q u bound h = from (nat_lt (length (clusters line.text)) 2) (line.cursor == length line.text) refl h
-  where
-    from : (few b : Bool) → (line.cursor == length line.text) ≡ b → cond few None (cond b (prev_pos line.text line.cursor 1) (Some line.cursor)) ≡ Some q → IsCharBoundary line.text q
-    from true b e k = cc
-    from false true e k = IsCharBoundary-last line.text line.cursor q u (eqb-true line.cursor (length line.text) e) k
-    from false false e k = subst (IsCharBoundary line.text) (same_Some _ _ k) bound
+IsCharBoundary-meeting line q u bound h = grind (arith, IsCharBoundary-last, eqb-true, same_Some)
 
 around-some : (text : List ℕ) (q : ℕ) (around : ℕ × Range ℕ) → NoneEmpty (drop q text) → IsUtf8 text → IsCharBoundary text q → clusters_around text q ≡ Some around
     → 0 < length (slice_range text around.1.start around.1.end)
-around-some text q around full u bound h =
-    let p = through (λ (front : ℕ). option_map (λ stop. (front, between q stop)) (next_pos text q 1)) (prev_pos text q 1) around h in
-    from p.0 (next_pos text q 1) refl p.2
-  where
-    from : (front : ℕ) (o : Option ℕ) → next_pos text q 1 ≡ o → option_map (λ stop. (front, between q stop)) o ≡ Some around
-        → 0 < length (slice_range text around.1.start around.1.end)
-    from front None e k = cc
-    from front (Some stop) e k =
-        subst (λ (a : ℕ × Range ℕ). 0 < length (slice_range text a.1.start a.1.end)) (same_Some _ _ k) (next-some text q stop full u bound e)
+around-some text q around full u bound h = grind (arith, through, same_Some, next-some)
 
 Settles-pulled_back : (line : Line) (around : Option (ℕ × Range ℕ)) → ((a : ℕ × Range ℕ) → around ≡ Some a → 0 < length (text_in line a.1)) → Settles line (pulled_back line around)
 Settles-pulled_back line None some = Settles-nothing line false
-Settles-pulled_back line (Some a) some =
-    let moved = text_in line a.1 in
-    let wide = some a refl in
-    record {
-      quiet = (
-        λ e. absurd (omega (arith, wide, empty-deleted a.1.start moved Forward e)),
-        tt,
-        (λ e. absurd (omega (arith, wide, empty-inserted a.0 moved e)), tt, tt),
-      );
-      ends = λ steps. refl;
-    }
+Settles-pulled_back line (Some a) some = grind (arith, empty-deleted, empty-inserted)
 
 pub Settles-transpose_chars : (line : Line) → ((text : List ℕ) → NoneEmpty text) → IsUtf8 line.text → IsCharBoundary line.text line.cursor → Settles line (transpose_chars_plan line)
 Settles-transpose_chars line full u bound =
@@ -344,26 +275,7 @@ IsUtf8-word_ahead line u at = from (first_member (placed_clusters rest)) (IsChar
 -- two words: the second is not empty, and where the first is, its text is taken out at the cursor
 Settles-swap : (line : Line) (first second : Range ℕ) → first.start ≤ first.end → first.end ≤ second.start → second.start < second.end → second.end ≤ length line.text
     → Settles line (answering true (swap_plan line first second))
-Settles-swap line first second order apart wide within =
-    let one = text_in line first in
-    let other = text_in line second in
-    let some : 0 < length other = omega (arith, length-between line.text second.start second.end within, wide) in
-    record {
-      quiet = (
-        λ e. absurd (omega (arith, some, empty-deleted second.start other Forward e)),
-        tt,
-        (
-          λ e. refl,
-          tt,
-          (
-            λ e. omega (arith, length-between line.text first.start first.end (omega arith), empty-deleted first.start one Forward e, order),
-            tt,
-            (λ e. absurd (omega (arith, some, empty-inserted first.start other e)), tt, tt),
-          ),
-        ),
-      );
-      ends = λ steps. refl;
-    }
+Settles-swap line first second order apart wide within = grind (arith, apart, length-between, empty-deleted, empty-inserted)
 
 apart : (first second : Range ℕ) → are_two first second ≡ true → (first.start ≡ second.start → ⊥) × (first.end ≤ second.start)
 apart first second h = grind (arith, nat_tests)

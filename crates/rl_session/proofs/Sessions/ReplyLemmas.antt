@@ -1,10 +1,11 @@
 -- What a command did, by what is replied to the outcome of its call.
-use Rattle.rl_session.proofs.Common.{Outcome, ToldOutcome, Bool, true, false, inr, ◌≡◌, ◌∙◌, ap, subst, sym, Result, Ok, Err, ℕ, Any, Option, IfOk, IfErr, OnOk, OnErr, Start, Refusal, Movement, Line, NeedsRoom, Plan, nothing_more, room_by_step, Told, is_by_characters, kill_plan, Record, Undone, steps_back, texts_back, last_of, Watched, Does, Edited, lent_plan, CutShort, KeepsRing, WatchHears, pair_step, pair_refused, Pair, replied, State, Kill, Undo, Yank, Reply}
+use Rattle.rl_session.proofs.Common.{Outcome, ToldOutcome, Bool, true, false, ◌≡◌, subst, sym, Result, Ok, Err, ℕ, Any, Option, IfOk, IfErr, OnOk, OnErr, Start, Refusal, Movement, NeedsRoom, Plan, room_by_step, Told, is_by_characters, kill_plan, Undone, steps_back, texts_back, last_of, Does, lent_plan, KeepsRing, WatchHears, pair_step, pair_refused, Pair, replied, State, Kill, Undo, Yank, Reply}
 use Rattle.rl_base.specs.KillRing.{yank}
 use Rattle.rl_base.specs.declared.listeners.Refusal.TheVariants as why
 use Rattle.rl_session.specs.Commands.{lent}
 use Rattle.rl_session.specs.declared.session.Reply.TheVariants as says
 use Rattle.rl_session.proofs.Sessions.PairLemmas.{Halted-pair}
+use Rattle.rl_session.proofs.Common.{arith}
 
 -- what holds of a call's own state and reply holds of those that they are
 carried : (P : State → Reply → Type 0) {inside old : State} {given reply : Reply} → inside ≡ old → reply ≡ given → P inside given → P old reply
@@ -17,27 +18,19 @@ Told-each false P Q p q f t = record { last = t.last; inside = f (pair_step p St
 
 pub Kill-replied : (m : Movement) {inside old : State} (new : State) (outcome : Result Bool Refusal) {reply : Reply} → inside ≡ old → reply ≡ replied says.Answer outcome → new.options ≡ inside.options
     → ToldOutcome pair_step pair_refused (is_by_characters m) (kill_plan inside.line m) inside.line new.line inside.pair new.pair outcome → Does old (Kill m) reply new
-Kill-replied m {inside} new (Ok a) v e options d =
-    carried (λ s r. Does s (Kill m) r new) v e (Told-each (is_by_characters m) _ _ inside.pair new.pair (λ before now i. record { done = i; options = options }) d)
-Kill-replied m {inside} new (Err w) v e options h =
-    carried (λ s r. Does s (Kill m) r new) v e (Told-each (is_by_characters m) _ _ inside.pair new.pair (λ before now i. inr (record { halted = Halted-pair nothing_more (kill_plan inside.line m) inside.line new.line before now w i; options = options })) h)
+Kill-replied m {inside} new (Ok a) v e options d = grind (arith, carried, Told-each)
+Kill-replied m {inside} new (Err w) v e options h = grind (arith, carried, Told-each, Halted-pair)
 
 -- a yank whose text goes in as the one that was lent
 pub Yank-replied : (n : ℕ) (plan : Plan (Option Bool)) (inside old new : State) (outcome : Result (Option Bool) Refusal) {reply : Reply} → lent old ≡ inside → plan ≡ lent_plan old.line (yank old.pair.ring) n
     → reply ≡ replied says.Inserted outcome → new.options ≡ inside.options
     → Outcome pair_step pair_refused room_by_step plan inside.line new.line inside.pair new.pair outcome → Does old (Yank n) reply new
-Yank-replied n plan inside old new (Ok a) l p e options d =
-    subst (λ r. Does old (Yank n) r new) (sym e) (subst (λ s. Edited (lent_plan old.line (yank old.pair.ring) n) s new a) (sym l) (subst (λ q. Edited q inside new a) p (record { done = d; options = options })))
-Yank-replied n plan inside old new (Err w) l p e options h =
-    subst (λ r. Does old (Yank n) r new) (sym e)
-    (inr (subst (λ s. CutShort room_by_step (lent_plan old.line (yank old.pair.ring) n) s new) (sym l) (subst (λ q. CutShort room_by_step q inside new) p (record { halted = Halted-pair room_by_step plan inside.line new.line inside.pair new.pair w h; options = options }))))
+Yank-replied n plan inside old new (Ok a) l p e options d = grind (arith)
+Yank-replied n plan inside old new (Err w) l p e options h = grind (arith, Halted-pair)
 
 -- a refused undo changed nothing
 same_state : (old new : State) → KeepsRing old new → new.pair.changes ≡ old.pair.changes → new.line ≡ old.line → new.pair.watch ≡ old.pair.watch → new ≡ old
-same_state old new k r l w =
-    k ∙ ap (λ (line : Line). record old { line = line; pair = record old.pair { changes = new.pair.changes; watch = new.pair.watch } }) l
-    ∙ ap (λ (changes : Record). record old { pair = record old.pair { changes = changes; watch = new.pair.watch } }) r
-    ∙ ap (λ (watch : Watched). record old { pair = record old.pair { watch = watch } }) w
+same_state old new k r l w = grind (arith)
 
 -- the watch hears of the steps of an undo, and where that is refused of none
 pub Undo-replied : (n : ℕ) {inside old : State} (new : State) (outcome : Result Bool Refusal) {reply : Reply} → inside ≡ old → reply ≡ replied says.Answer outcome → KeepsRing inside new

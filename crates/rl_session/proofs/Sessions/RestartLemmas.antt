@@ -1,22 +1,13 @@
 -- A text that takes the place of a whole line's.
-use Rattle.rl_session.proofs.Common.{◌≡◌, ◌∙◌, ℕ, ◌+◌, ◌-◌, inl, inr, List, [], ◌∷◌, ◌++◌, length, max, Some, refl, sym, ap, subst, arith, append-nil, length-append, take_all, IsUtf8-nil, slice_range, IsUtf8, Cursors, Replace, apply, Watched, watch_step, Refusal, replace_plan, Line, NeedsRoom, stepped, Done, Grows, Halted, Taken, or_no_memory, Record, Walks, no_changes}
+use Rattle.rl_session.proofs.Common.{◌≡◌, ◌∙◌, ℕ, ◌+◌, ◌-◌, inl, inr, List, [], ◌∷◌, ◌++◌, length, max, Some, refl, sym, ap, subst, arith, append-nil, length-append, take_all, IsUtf8-nil, slice_range, IsUtf8, Cursors, Replace, apply, Watched, watch_step, Refusal, replace_plan, Line, NeedsRoom, Done, Grows, Halted, Taken, or_no_memory, Record, Walks, no_changes}
 use Rattle.rl_base.proofs.Texts.SwapLemmas.{apply-Replace-Swaps}
 use Rattle.rl_line.specs.Plan.{Step}
 use Rattle.rl_line.proofs.Plans.PlanLemmas.{first_step}
+use Rattle.rl_session.proofs.Common.{rules}
 
 -- all of a text gives way to another
 pub apply-all : (old new : List ℕ) → IsUtf8 old → IsUtf8 new → apply (Replace 0 old new) old ≡ Some new
-apply-all old new u v = apply-Replace-Swaps old new 0 old new (record {
-  front = [];
-  rest = [];
-  text_is = sym (append-nil old);
-  after_is = sym (append-nil new);
-  place = refl;
-  front_utf8 = IsUtf8-nil;
-  rest_utf8 = IsUtf8-nil;
-  old_utf8 = u;
-  new_utf8 = v;
-})
+apply-all old new u v = search (rules, apply-Replace-Swaps, append-nil, IsUtf8-nil)
 
 part-all : (text : List ℕ) (end : ℕ) → end ≡ length text → slice_range text 0 end ≡ text
 part-all text end e = take_all (end - 0) text (omega (arith, e))
@@ -29,16 +20,7 @@ pub Renewed : (old new : Line) (before now : Watched) (text : List ℕ) (end : �
     → Done watch_step (replace_plan old 0 end text) old new before now a
     → (new ≡ record old { text = text; cursor = length text; limit = max old.limit (length text) })
     × (now ≡ watch_step (watch_step before (Replace 0 old.text text)) (Cursors old.cursor (length text)))
-Renewed old new before now text end a e u v d =
-    let part = part-all old.text end e in
-    let b = first_step (all_step old end text) [] old d.last d.taken.line in
-    let made : Some text ≡ Some b.text = sym (apply-all old.text text u v) ∙ ap (λ p. apply (Replace 0 p text) old.text) (sym part) ∙ b.makes in
-    let is : text ≡ b.text = cc in
-    let last : stepped old b.text (0 + length text) ≡ d.last = cc in
-    let place : 0 + length text ≡ length text = omega arith in (
-      d.line ∙ ap (λ (l : Line). record l { cursor = 0 + length text }) (sym last) ∙ ap (λ t. record old { text = t; cursor = 0 + length text; limit = max old.limit (length t) }) (sym is) ∙ ap (λ k. record old { text = text; cursor = k; limit = max old.limit (length text) }) place,
-      d.taken.listener ∙ ap (λ p. watch_step (watch_step before (Replace 0 p text)) (Cursors old.cursor (0 + length text))) part ∙ ap (λ k. watch_step (watch_step before (Replace 0 old.text text)) (Cursors old.cursor k)) place,
-    )
+Renewed old new before now text end a e u v d = grind (arith, part-all, first_step, apply-all)
 
 pub Kept : (old new : Line) (before now : Watched) (text : List ℕ) (end : ℕ) (r : Refusal) → end ≡ length old.text
     → Halted watch_step (or_no_memory (λ _ _ _ _. ⊥)) (replace_plan old 0 end text) old new before now r

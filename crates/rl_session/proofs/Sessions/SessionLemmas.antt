@@ -1,30 +1,25 @@
 -- What holds whatever a call answered.
-use Rattle.rl_session.proofs.Common.{ToldOutcome, Outcome, Cut, line_ahead, replay_entries, Bool, false, true, inr, List, [], ◌∷◌, ◌*◌, ◌+◌, ◌<◌, ◌==◌, ◌||◌, cond, Result, Ok, Err, ◌≡◌, ◌∙◌, ap, ap₂, arith, refl, subst, sym, append-nil, inl, ◌≤◌, ℕ, length, take_all, nat_tests, IsCharBoundary-start, IsUtf8-nil, Option, None, max, IsSome, Some, IfOk, IfErr, IsUtf8, Event, InsertStr, Start, apply, Stop, HasText, Refusal, Line, stepped, Moved, Plan, single, Done, Halted, or_no_memory, Takes, nothing_more, a_copy, insert_str_plan, too_long, yank_plan, Told, Record, agree, replays_to, unwind, Redone, Undone, adds_end, begun, with_closed, State, AtRest, Follows, Edited, lent_plan, popped, popped_plan, pair_step, pair_refused, Pair, IsCharBoundary, Walks, line_back, bytes_eq-Decides, same_Some}
+use Rattle.rl_session.proofs.Common.{ToldOutcome, Outcome, Cut, replay_entries, Bool, false, true, inr, List, [], ◌∷◌, ◌+◌, ◌<◌, ◌==◌, cond, Result, Ok, Err, ◌≡◌, ◌∙◌, ap, arith, refl, subst, sym, append-nil, inl, ◌≤◌, ℕ, length, take_all, IsCharBoundary-start, IsUtf8-nil, Option, None, max, IsSome, Some, IfOk, IfErr, IsUtf8, Event, InsertStr, Start, Stop, HasText, Refusal, Line, Moved, Plan, single, Done, Halted, or_no_memory, Takes, nothing_more, a_copy, insert_str_plan, too_long, yank_plan, Told, Record, agree, replays_to, unwind, Redone, Undone, State, AtRest, Follows, Edited, lent_plan, popped, popped_plan, pair_step, pair_refused, Pair, IsCharBoundary, Walks, line_back, bytes_eq-Decides, same_Some}
 use Rattle.rl_base.proofs.Texts.EventLemmas.{apply-InsertStr}
 use Rattle.rl_base.specs.declared.listeners.Refusal.TheVariants as why
 use Rattle.rl_line.specs.Plan.{nothing}
 use Rattle.rl_line.proofs.Records.JoinLemmas.{record_step-Start, record_step-Stop}
 use Rattle.rl_line.proofs.Plans.PlanLemmas.{first_step}
 use Rattle.rl_session.specs.Commands.{lent}
-use Rattle.rl_session.proofs.Sessions.IdleLemmas.{NoneStarts, IsIdle, idle-step, idle-Told, ring-Done, ring-Halted}
+use Rattle.rl_line.proofs.Records.ForgettingLemmas.{Walks-forgotten}
+use Rattle.rl_line.proofs.Records.MoveLemmas.{redo-fits}
+use Rattle.rl_line.proofs.Lines.LineReadLemmas.{range-before, range-some}
+use Rattle.rl_session.proofs.Sessions.IdleLemmas.{NoneStarts, NoneStarts-insert, NoneStarts-yank, NoneStarts-removal, NoneStarts-kill, IsIdle, idle-step, idle-Told, ring-Done, ring-Halted}
 use Rattle.rl_session.proofs.Sessions.PairLemmas.{Halted-own, Done-changes, Halted-changes, keeps_changes}
 use Rattle.rl_line.proofs.Records.RecordLemmas.{value_of}
 use Rattle.rl_line.proofs.Records.UndoLemmas.{line_ahead-replay, line_back-unwind}
-use Rattle.rl_line.proofs.Records.WalkLemmas.{Walks-Done, Walks-Halted, Walks-Redone, Walks-Undone, Walks-ahead, Walks-back, Walks-begun, Walks-closed}
+use Rattle.rl_line.proofs.Records.WalkLemmas.{Walks-truncated, Walks-Done, Walks-Halted, Walks-Redone, Walks-Undone, Walks-ahead, Walks-back, Walks-begun, Walks-closed}
 
 -- a text that goes into an empty line
 pub put_first : {L : Type 0} (step : L → Event → L) (line new : Line) (limit : ℕ) (text : List ℕ) (b n : L) (a : Bool) → IsUtf8 text
     → line ≡ record { text = []; cursor = 0; limit = limit; grow = false } → Done step (insert_str_plan line 0 text) line new b n a
     → new ≡ record { text = text; cursor = 0; limit = max limit (length text); grow = false }
-put_first step line new limit text b n a u e d =
-    let empty : Line = record { text = []; cursor = 0; limit = limit; grow = false } in
-    let whole : apply (InsertStr 0 text) [] ≡ Some text =
-    apply-InsertStr [] 0 text u (IsCharBoundary-start [] IsUtf8-nil) ∙ ap (λ t. Some t) (append-nil text) in
-    let b = first_step (InsertStr 0 text, line.cursor) [] line d.last d.taken.line in
-    let fits : Some text ≡ Some b.text = sym whole ∙ ap (λ (l : Line). apply (InsertStr 0 text) l.text) (sym e) ∙ b.makes in
-    let same : stepped empty text 0 ≡ d.last =
-    ap (λ (l : Line). stepped l text l.cursor) (sym e) ∙ ap (λ t. stepped line t line.cursor) (same_Some _ _ fits) ∙ same_Some _ _ b.rest in
-    d.line ∙ ap (λ (l : Line). record l { cursor = line.cursor }) (sym same) ∙ ap (λ (l : Line). record (stepped empty text 0) { cursor = l.cursor }) e
+put_first step line new limit text b n a u e d = grind (arith, apply-InsertStr, IsCharBoundary-start, IsUtf8-nil, append-nil, first_step, same_Some)
 
 Walks-Moved : (place : Option ℕ) (r : Record) (old new : Line) (a : Bool) → Moved place old new a → Walks r old.text → Walks r new.text
 Walks-Moved None r old new a m w = subst (λ (l : Line). Walks r l.text) (sym m.1) w
@@ -69,11 +64,25 @@ pub AtRest-edit : {A : Type 0} (takes : Takes) (plan : Plan A) (p q : Pair) (old
 AtRest-edit takes plan p q old new (Ok a) at none d = AtRest-pair plan p q old new a at none d
 AtRest-edit takes plan p q old new (Err w) at none h = AtRest-stopped takes plan p q old new w at none h
 
+-- the same in the forms that the search of the methods uses, which looks for what their first part says
+pub AtRest-done : {A : Type 0} (plan : Plan A) (p q : Pair) (old new : Line) (a : A)
+    → Done pair_step plan old new p q a → IsCharBoundary old.text old.cursor → NoneStarts plan.steps → AtRest old p
+    → Done pair_step plan old new p q a × AtRest new q
+AtRest-done plan p q old new a d at none h = (d, AtRest-pair plan p q old new a at none d h)
+
+pub AtRest-halted : {A : Type 0} (plan : Plan A) (p q : Pair) (old new : Line) (w : Refusal)
+    → Halted pair_step pair_refused plan old new p q w → IsCharBoundary old.text old.cursor → NoneStarts plan.steps → AtRest old p
+    → Halted pair_step pair_refused plan old new p q w × AtRest new q
+AtRest-halted plan p q old new w d at none h = (d, AtRest-refused plan p q old new w at none (Halted-own nothing_more plan old new p q w d) h)
+
+pub AtRest-out_of_room : {A : Type 0} (plan : Plan A) (p q : Pair) (old new : Line) (w : Refusal)
+    → Halted pair_step (or_no_memory pair_refused) plan old new p q w → IsCharBoundary old.text old.cursor → NoneStarts plan.steps → AtRest old p
+    → Halted pair_step (or_no_memory pair_refused) plan old new p q w × AtRest new q
+AtRest-out_of_room plan p q old new w d at none h = (d, AtRest-refused plan p q old new w at none d h)
+
 -- the record hears nothing of the start and the end of a kill
 pub past_telling : (P : Record → Record → Type 0) (before last now : Pair) → now ≡ pair_step last Stop → P (pair_step before Start).changes last.changes → P before.changes now.changes
-past_telling P before last now e inside =
-    let ended : now.changes ≡ last.changes = ap (λ (k : Pair). k.changes) e ∙ record_step-Stop last.changes in
-    subst (P before.changes) (sym ended) (subst (λ (r : Record). P r last.changes) (record_step-Start before.changes) inside)
+past_telling P before last now e inside = grind (arith, record_step-Stop, record_step-Start)
 
 Walks-Told : (b : Bool) (P : Pair → Pair → Type 0) (p q : Pair) (old new : Line)
     → ((before now : Pair) → P before now → Walks before.changes old.text → Walks now.changes new.text) → Told pair_step b P p q → Walks p.changes old.text → Walks q.changes new.text
@@ -101,20 +110,9 @@ pub Walks-undo : (X : Type 0) (n : ℕ) (r now : Record) (old new : Line) (resul
 Walks-undo X n r now old new (Ok a) d h = Walks-Undone n r now old new a d
 Walks-undo X n r now old new (Err w) d h = Walks-same r now old new (h.1, h.2)
 
-pub Walks-redo : (X : Type 0) (r now : Record) (old new : Line) (result : Result Bool Refusal) → IfOk result (λ a. Redone r now old new a)
-    → IfErr result (λ w. (w ≡ why.NoMemory) × (now ≡ r) × (new ≡ old) × X) → Walks r old.text → Walks now new.text
-Walks-redo X r now old new (Ok a) d h = Walks-Redone r now old new a d
-Walks-redo X r now old new (Err w) d h = Walks-same r now old new (h.1, h.2)
-
-pub Walks-begin : (X : Type 0) (r now : Record) (line : Line) (result : Result ℕ Refusal) → IfOk result (λ a. (a ≡ length r.recorded) × (now ≡ begun r)) → IfErr result (λ w. (w ≡ why.NoMemory) × (now ≡ r) × X)
-    → Walks r line.text → Walks now line.text
-Walks-begin X r now line (Ok a) d h w = subst (λ (k : Record). Walks k line.text) (sym d.1) (Walks-begun r line.text w)
-Walks-begin X r now line (Err v) d h w = subst (λ (k : Record). Walks k line.text) (sym h.1) w
-
-pub Walks-end : (X : Type 0) (n : ℕ) (r now : Record) (line : Line) (result : Result Bool Refusal) → IfOk result (λ a. (a ≡ adds_end n r.recorded) × (now ≡ with_closed n r))
-    → IfErr result (λ w. (w ≡ why.NoMemory) × (now ≡ r) × X) → Walks r line.text → Walks now line.text
-Walks-end X n r now line (Ok a) d h w = subst (λ (k : Record). Walks k line.text) (sym d.1) (Walks-closed n r line.text w)
-Walks-end X n r now line (Err v) d h w = subst (λ (k : Record). Walks k line.text) (sym h.1) w
+-- in a form that the search uses: a redo that was done
+pub redone-walks : (r now : Record) (old new : Line) (a : Bool) → Redone r now old new a → Walks r old.text → Redone r now old new a × Walks now new.text
+redone-walks r now old new a d w = (d, Walks-Redone r now old new a d w)
 
 -- all entries lead to the text
 pub replays-all : (len : ℕ) (r : Record) (line : Line) → IsCharBoundary line.text line.cursor → length r.recorded ≤ len → Walks r line.text → replays_to len r line.text ≡ true
@@ -129,15 +127,11 @@ Follows-Walks r line at w = record { back = Walks-back r line w at; ahead = Walk
 
 -- so the recorded changes can be unwound
 pub follows_unwind : (r : Record) (line : Line) → Follows line r → IsSome (unwind r.recorded line.text)
-follows_unwind r line f =
-    let now = value_of (line_back r.recorded line) f.back in
-    subst IsSome (sym (line_back-unwind r.recorded line now.0 now.1)) refl
+follows_unwind r line f = grind (arith, value_of, line_back-unwind)
 
 -- and what was undone can be redone
 pub follows_replay : (r : Record) (line : Line) → Follows line r → IsSome (replay_entries r.pending line.text)
-follows_replay r line f =
-    let now = value_of (line_ahead r.pending line) f.ahead in
-    subst IsSome (sym (line_ahead-replay r.pending line now.0 now.1)) refl
+follows_replay r line f = grind (arith, value_of, line_ahead-replay)
 
 Edited-nothing : {A : Type 0} (a : A) (s : State) → Edited (nothing s.line a) s s a
 Edited-nothing a s = record {
@@ -154,10 +148,7 @@ nothing_lent n old (Some (c ∷ cs)) h left l = absurd (h (omega arith))
 -- in no times any text that is not empty goes in as any other
 yanked-no_times : (line : Line) (s : List ℕ) → 0 < length s
     → yank_plan line s 0 ≡ cond (too_long line (length line.text + 0)) (nothing line None) (single (InsertStr line.cursor []) (line.cursor + 0) (Some (line.cursor == length line.text)))
-yanked-no_times line s some =
-    let none : length s * 0 ≡ 0 = omega arith in
-    let full : (length s == 0) ≡ false = grind (arith, nat_tests) in
-    ap₂ (λ b more. cond (b || too_long line (length line.text + more)) (nothing line None) (single (InsertStr line.cursor []) (line.cursor + more) (Some (line.cursor == length line.text)))) full none
+yanked-no_times line s some = grind (arith)
 
 pub lent-no_times : (line : Line) (s : List ℕ) (slot : Option (List ℕ)) → 0 < length s → HasText slot → yank_plan line s 0 ≡ lent_plan line slot 0
 lent-no_times line s None some h = absurd h
@@ -165,3 +156,9 @@ lent-no_times line s (Some t) some h = yanked-no_times line s some ∙ sym (yank
 
 pub nothing_popped : (old : State) (slot : Option (ℕ × List ℕ)) → slot ≡ None → (left : State) → left ≡ popped old → Edited (popped_plan old.line slot) (popped old) left None
 nothing_popped old slot e left l = subst (λ s. Edited (popped_plan old.line s) (popped old) left None) (sym e) (subst (λ s. Edited (popped_plan old.line None) (popped old) s None) (sym l) (Edited-nothing None (popped old)))
+
+pub ruleset resting = (Walks-forgotten, Walks-begun, Walks-closed, Walks-truncated, replays-all, redone-walks, redo-fits, Walks-ahead)
+
+pub ruleset places = (range-before, range-some)
+
+pub ruleset edits = (AtRest-done, AtRest-halted, AtRest-out_of_room, NoneStarts-insert, NoneStarts-yank, NoneStarts-removal, NoneStarts-kill)

@@ -117,11 +117,7 @@ goes_on asked w event before after text new k u small large c at e to = Covers-a
 -- reports lead on over one more change, and over marks
 lead_on : (read : List ℕ) (w : Watched) (event : Event) (before after : ℕ) (text new : List ℕ) → IsLineText read × ReportsLead true w.reports read text → IsUtf8 text → length text < 2 ^ 64 → length new < 2 ^ 64
     → IsChange event → IsCharBoundary text before → apply event text ≡ Some new → IsCharBoundary new after → IsLineText read × ReportsLead true (watch_step (watch_step w event) (Cursors before after)).reports read new
-lead_on read w event before after text new k u small large c at e to = (k.0, from w.reports k.1)
-  where
-    from : (reports : Option Queue) → ReportsLead true reports read text → ReportsLead true (option_map (λ (q : Queue). queue_step q (Cursors before after)) (option_map (λ (q : Queue). queue_step q event) reports)) read new
-    from None h = absurd h
-    from (Some q) h = placed q event before after read text new h k.0 (record { utf8 = u; fits = small }) large c at e to
+lead_on read w event before after text new k u small large c at e to = grind (arith, placed)
 
 lead_over : (read : List ℕ) (w : Watched) (text : List ℕ) → IsLineText read × ReportsLead true w.reports read text → IsUtf8 text → length text < 2 ^ 64
     → (IsLineText read × ReportsLead true (watch_step w Start).reports read text) × (IsLineText read × ReportsLead true (watch_step w Stop).reports read text)
@@ -168,19 +164,10 @@ present s read k = record { utf8 = k.stands.utf8; fits = omega (arith, k.stands.
 -- where reading left off, once it went on
 goes_on_from : (s : State) (read text : List ℕ) → ReportedFrom read s → IsLineText text → ReportsLead true (option_map forgotten s.pair.watch.reports) text s.line.text
     → ReportedFrom text (with_watch (past_next s.pair.watch) s)
-goes_on_from s read text k u l = record {
-  stands = record { utf8 = k.stands.utf8; cursor = k.stands.cursor; within = k.stands.within; ring = k.stands.ring; idle = k.stands.idle };
-  bounded = k.bounded;
-  text = u;
-  leads = l;
-}
+goes_on_from s read text k u l = grind (arith)
 
 pub reads_nothing : (s : State) (read : List ℕ) → ReportedFrom read s → next_note s.pair.watch ≡ None → s.line.text ≡ read
-reads_nothing s read k = from s.pair.watch.reports k.leads
-  where
-    from : (reports : Option Queue) → ReportsLead true reports read s.line.text → option_and_then (λ (q : Queue). oldest q.waiting) reports ≡ None → s.line.text ≡ read
-    from None l h = absurd l
-    from (Some q) l h = nothing true q read s.line.text l h
+reads_nothing s read k = grind (arith, nothing)
 
 pub reads_texts : (s : State) (read : List ℕ) (note : Noted) → ReportedFrom read s → next_note s.pair.watch ≡ Some note → HasTexts (text_room s.pair.watch) note.report
     → TellsByTexts note read × Stand note.report.cursors read (after_texts note read) × ReportedFrom (after_texts note read) (with_watch (past_next s.pair.watch) s)

@@ -8,6 +8,7 @@ use crate::session::replies::{answered, done, handed_out};
 use crate::session::{Fault, Reply, Session};
 use rl_base::{Movement, RepeatCount};
 
+#[tactic(auto, using(crate::proofs::Sessions::SessionLemmas::edits))]
 impl Session {
     pub(super) fn do_delete_range(&mut self, from: usize, to: usize) -> Reply
         ensures { Does self.old (Command.DeleteRange from to) result self.new }

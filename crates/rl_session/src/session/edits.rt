@@ -8,6 +8,7 @@ use crate::session::replies::{answered, done, inserted};
 use crate::session::{Fault, Reply, Session};
 use rl_base::{Movement, Refusal, RepeatCount, WordAction};
 
+#[tactic(auto, using(crate::proofs::Sessions::SessionLemmas::edits))]
 impl Session {
     // Its reply is made by the caller, so that a typed letter has its outcome in registers.
     pub(super) fn do_insert(&mut self, c: char, n: RepeatCount) -> Result<Option<bool>, Refusal>

@@ -29,6 +29,7 @@ impl Session {
     /// `apply`, `run` and scripts never forget by themselves. What is said of runs goes on after it, from the text with
     /// which the record then begins (`what_is_left_replays`). Only an undo may find nothing, or less than it is to take:
     /// if nothing is left, it answers false.
+    #[tactic(auto, using(crate::proofs::Sessions::SessionLemmas::resting))]
     #[inline(always)]
     pub fn forget(&mut self)
         ensures forgets { self.new ≡ within_bound self.old }

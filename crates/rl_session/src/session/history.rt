@@ -33,6 +33,7 @@ impl Session {
         self.pair.changes.level()
     }
 
+    #[tactic(auto, using(crate::proofs::Sessions::SessionLemmas::resting))]
     pub(super) fn do_begin(&mut self) -> Reply
         ensures { Does self.old Command.Begin result self.new }
     {
@@ -42,12 +43,14 @@ impl Session {
         }
     }
 
+    #[tactic(auto, using(crate::proofs::Sessions::SessionLemmas::resting))]
     pub(super) fn do_end(&mut self) -> Reply
         ensures { Does self.old Command.End result self.new }
     {
         answered(self.pair.changes.end())
     }
 
+    #[tactic(auto, using(crate::proofs::Sessions::SessionLemmas::resting))]
     pub(super) fn do_end_one(&mut self) -> Reply
         ensures { Does self.old Command.EndOne result self.new }
     {
@@ -63,6 +66,7 @@ impl Session {
         self.pair.changes.undo_telling(&mut self.line, n, watch)
     }
 
+    #[tactic(auto, using(crate::proofs::Sessions::SessionLemmas::resting))]
     pub(super) fn do_redo(&mut self) -> Reply
         ensures { Does self.old Command.Redo result self.new }
     {
@@ -71,6 +75,7 @@ impl Session {
         answered(self.pair.changes.redo_telling(&mut self.line, watch))
     }
 
+    #[tactic(auto, using(crate::proofs::Sessions::SessionLemmas::resting))]
     pub(super) fn do_truncate(&mut self, len: usize) -> Reply
         ensures { Does self.old (Command.Truncate len) result self.new }
     {

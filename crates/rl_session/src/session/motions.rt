@@ -63,6 +63,7 @@ impl Session {
 
     /// Where the cursor stands, as `LinePlace` answers it: the number of its line, from 0, and the columns from that
     /// line's start to the cursor. It cuts clusters of that part of the line alone, and does not end a run of kills.
+    #[tactic(auto, using(crate::proofs::Sessions::SessionLemmas::places))]
     pub fn line_column(&self) -> (usize, Unit)
         ensures { result ≡ line_place self.now }
     {

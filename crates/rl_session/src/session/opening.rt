@@ -1,10 +1,8 @@
 //! Opening a session, beginning anew in it, and setting what was chosen then.
 ghost use Rattle.std.specs.Prelude.{◌≡◌, ◌<◌, [], List, ℕ, max, length, false, IfOk, IfErr, OnErr, OnOk};
 ghost use Rattle.std.specs.Str.{IsCharBoundary};
-ghost use Rattle.rl_base.specs.Event.{Cursors, Replace};
-ghost use Rattle.rl_base.specs.Watch.{watch_step};
 ghost use Rattle.rl_line.specs.Line.{NeedsRoom};
-ghost use Rattle.rl_session.specs.State.{Begins, ChangedFrom, Opens, RefusesRestart, Replays, ReportedFrom, fresh, limited, prompted, restarted, with_mode};
+ghost use Rattle.rl_session.specs.State.{Begins, ChangedFrom, Opens, RefusesRestart, Replays, ReportedFrom, fresh, limited, prompted, restarted, told_anew, with_mode};
 
 use crate::options::Options;
 use crate::pair::Pair;
@@ -34,7 +32,7 @@ fn filled(line: LineBuffer, text: &str, pos: usize) -> Result<LineBuffer, Fault>
 fn renew(line: &mut LineBuffer, text: &str, pos: usize, watch: &mut Watch) -> Result<(), Fault>
     requires { IsCharBoundary text.now pos }
     ensures line { OnOk result (line.new ≡ record line.old { text = text.now; cursor = pos; limit = max line.old.limit (length text.now) }) }
-    ensures told { OnOk result (watch.new ≡ watch_step (watch_step watch.old (Replace 0 line.old.text text.now)) (Cursors line.old.cursor (length text.now))) }
+    ensures told { OnOk result (watch.new ≡ told_anew text.now line.old watch.old) }
     ensures err { IfErr result (λ f. (f ≡ Fault.NoMemory) × NeedsRoom line.old.text text.now) }
     ensures kept { OnErr result ((line.new ≡ line.old) × (watch.new ≡ watch.old)) }
 {

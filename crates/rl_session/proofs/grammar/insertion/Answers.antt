@@ -1,8 +1,5 @@
-use Rattle.rl_session.proofs.Scripts.WordLemmas.{ins-no_count, ins-no_char}
+use Rattle.rl_session.proofs.Scripts.WordLemmas.{ins-no_char}
 use Rattle.rl_session.proofs.grammar.insertion.Goals as goal
-
-pub returns-in_err-n : goal.returns-in_err-n
-returns-in_err-n c = rw c.from_residual.ensures (ins-no_count c.args.given.now c.in_err-n.ensures.cases)
 
 pub returns-in_err-character : goal.returns-in_err-character
 returns-in_err-character c =

@@ -1,13 +1,5 @@
-use Rattle.rl_session.proofs.Common.{rep, err_from_is_err_and, replaced}
+use Rattle.rl_session.proofs.Common.{err_from_is_err_and, replaced}
 use Rattle.rl_session.proofs.grammar.replacement.Goals as goal
-
-pub returns-in-Some-2-clause-ok : goal.returns-in-Some-2-clause-ok
-returns-in-Some-2-clause-ok c =
-    rep record {
-      after = c.in-Some.found.1.now;
-      starts = c.in-Some.ensures.cases;
-      ends = rw c.in-Some-2.is at c.in_ok-end.ensures.cases;
-    }
 
 pub returns-in_err-end-clause-err : goal.returns-in_err-end-clause-err
 returns-in_err-end-clause-err c =

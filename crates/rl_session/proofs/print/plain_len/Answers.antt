@@ -2,10 +2,6 @@ use Rattle.rl_session.proofs.Common.{◌≤◌, arith}
 use Rattle.rl_session.proofs.Scripts.LaneLemmas.{plain-front, ArePlain-both}
 use Rattle.rl_session.proofs.print.plain_len.Goals as goal
 
-pub returns-then-text-lt-LANES-clause-plain : goal.returns-then-text-lt-LANES-clause-plain
-returns-then-text-lt-LANES-clause-plain c =
-    plain-front c.args.spaces c.args.text.now _ c.plain_len_of_few.ensures.within c.plain_len_of_few.ensures.plain
-
 pub returns-then-count-lt-LANES-clause-plain : goal.returns-then-count-lt-LANES-clause-plain
 returns-then-count-lt-LANES-clause-plain c =
     let i = c.loop-i.i in

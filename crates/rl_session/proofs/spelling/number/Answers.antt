@@ -1,9 +1,6 @@
 use Rattle.rl_session.proofs.Common.{arith, sym, ◌∙◌, at_drop_all, are_digits, value_from}
-use Rattle.rl_session.proofs.Scripts.NumberLemmas.{number-nothing, number-bad, number-great, number-whole, is_nil, some_length}
+use Rattle.rl_session.proofs.Scripts.NumberLemmas.{number-bad, number-great, number-whole, some_length}
 use Rattle.rl_session.proofs.spelling.number.Goals as goal
-
-pub returns-then-is_empty-clause-value : goal.returns-then-is_empty-clause-value
-returns-then-is_empty-clause-value c = number-nothing _ c.args.digits.now (is_nil c.args.digits.now (sym c.is_empty.ensures ∙ c.if-is_empty.true))
 
 pub returns-then-not-is_ascii_digit-clause-value : goal.returns-then-not-is_ascii_digit-clause-value
 returns-then-not-is_ascii_digit-clause-value c =
