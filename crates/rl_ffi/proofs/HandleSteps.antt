@@ -1,32 +1,20 @@
 -- What a handle owns, for the walks that make one and take it apart: of any value, and at its machine value.
-use Rattle.std.proofs.Common.{◌≡◌, ℕ, List, [], ◌∷◌, refl, ◌++◌, subst}
-use seplogic.Ra.Ura.{Ura}
+use Rattle.rl_ffi.proofs.WalkWords.{◌≡◌, ℕ, List, [], ◌∷◌, refl, ◌++◌, subst, Ura, dnil, Val, vstruct, vcons, vnil, of_list, ent, Fml, Logic, sem, Item, Goal, Seq, ‵, ◌$◌, use1, fsplit, fpick, feq_l, Step, step, move, drop, fjoin, fpack, feq_i, RattleType, Valss, Ptr, block_ptr, null_ptr, RawPtr, ptr_val, handle_tells, Bx, box_owns, ghosts, Option, None, Some, nothing, within}
 use mir.Raw.{raw as bare}
-use mir.Syntax.{impl, tnil, dnil}
-use mir.Val.{Val, vstruct, vcons, vnil, of_list}
-use base.Logic.{ent, guard, via, snd∗, guard_i}
-use base.Fml.{Fml}
-use types.Logic.{Logic, sem}
-use types.Kit.{Item, Goal, Seq, ‵, given, learn, ◌$◌, use1, fsplit, fpick, feq_l, Step, step, move, drop, fjoin, fpack, feq_i}
+use mir.Syntax.{impl, tnil}
+use base.Logic.{guard, via, snd∗, guard_i}
+use types.Kit.{given, learn}
 use contract.Monad.{fact_use}
-use denote.RattleType.{RattleType, Valss}
 use denote.Memory.{lone}
-use denote.RawPtr.{Ptr, block_ptr, null_ptr, lies_at, Testable, RawPtr, ptr_val}
+use denote.RawPtr.{lies_at, Testable}
 use base.Fraction.{full_share}
 use denote.Param.Laws.{Laws}
-use Rattle.std.proofs.alloc.Calls.{Al, handle_tells, Fits}
+use Rattle.std.proofs.alloc.Calls.{Al, Fits}
 use Rattle.std.proofs.GlobalToken.{dealloc_token-Testable}
-use Rattle.std.proofs.BoxSteps.Form.{Bx}
-use Rattle.std.specs.Box.Ownership.{box_owns}
 use Rattle.std.specs.declared.alloc.Global.{Global}
 use Rattle.std.specs.contracts.alloc.Global as heap
 use Rattle.std.proofs.alloc.Global.TheLaws as heap_laws
-use Rattle.std.specs.contracts.impls.GlobalAllocator.TheImpl.{ghosts}
-use Rattle.std.specs.declared.option.Option.{Option}
-use Rattle.std.specs.declared.option.Option.TheVariants.{None, Some}
 use Rattle.rl_ffi.specs.Handle.{holds, kept}
-use denote.Steps.{nothing}
-use denote.Struct.Struct.{within}
 use denote.Struct.Owning.{shape, to}
 use Rattle.rl_ffi.specs.contracts.held.Held as held
 use Rattle.rl_ffi.proofs.held.Held.TheLaws as held_laws

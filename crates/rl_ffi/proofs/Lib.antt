@@ -2,3 +2,4 @@ mod CellLemmas
 mod HandleSteps
 mod ReportLogLemmas
 mod PartsSteps
+mod WalkWords

@@ -1,19 +1,8 @@
 -- What a box, its parts, and a pair of a pointer and an allocator own, at their machine values.
-use Rattle.std.proofs.Common.{◌≡◌, ℕ, List, [], ◌∷◌, ◌++◌, refl, ap, ◌∙◌}
-use seplogic.Ra.Ura.{Ura}
-use mir.Val.{Val, vstruct, of_list}
-use base.Logic.{id⊢}
-use base.Fml.{Fml}
-use types.Logic.{Logic}
-use types.Kit.{Item, Goal, Seq, Step, step, ‵, ◌$◌, move, drop, use1, rewrite, fsplit, fjoin, fpick, feq_l}
-use denote.RattleType.{RattleType}
-use denote.RawPtr.{Ptr, RawPtr, block_ptr, ptr_val}
-use denote.Steps.{only}
-use denote.Struct.Tuple.{Tuple}
-use Rattle.std.proofs.alloc.Calls.{token, handle_tells, Fits}
-use Rattle.std.proofs.BoxSteps.Form.{Bx, D, R, P, B, word}
+use Rattle.rl_ffi.proofs.WalkWords.{◌≡◌, ℕ, List, [], ◌∷◌, ◌++◌, refl, ap, ◌∙◌, Ura, Val, vstruct, of_list, id⊢, Fml, Logic, Item, Goal, Seq, Step, step, ‵, ◌$◌, move, drop, use1, rewrite, fsplit, fjoin, fpick, feq_l, RattleType, Ptr, RawPtr, block_ptr, ptr_val, only, Tuple, token, handle_tells, Bx, D, P, B, word, box_owns}
+use Rattle.std.proofs.alloc.Calls.{Fits}
+use Rattle.std.proofs.BoxSteps.Form.{R}
 use Rattle.std.proofs.BoxSteps.Steps.{box_out, box_in}
-use Rattle.std.specs.Box.Ownership.{box_owns}
 use Rattle.rl_ffi.specs.contracts.split_box.Parts as parts
 
 module _ (E : Bx) where

@@ -1,25 +1,5 @@
 -- `closed` makes a null handle.
-use Rattle.std.proofs.Common.{List, [], ◌∷◌, ◌++◌, refl, sym, subst}
-use lib.Dec.{lit<}
-use mir.Val.{Val, vnull}
-use base.Logic.{SProp, ent, emp, id⊢}
-use base.Fml.{ftrue, fsep}
-use prog.Wp.{WpFn}
-use types.Kit.{‵, raw, ◌⊛◌, ◌$◌, ◌∵◌, !, qed, keep, drop, use1, join, split, fsplit, fjoin, feq_i, suffices, done}
-use types.Part.{agg}
-use types.Run.{no_more, and_then, lit, returns, enter}
-use types.ByLocal.{alloc_all, pass_all, free_all, look_at, get, sets}
-use contract.Running.{tables}
-use denote.Exit.{yes}
-use denote.RawPtr.{null_ptr}
-use denote.Signature.{plain}
-use denote.Steps.{nothing}
-use denote.Triple.Walked.{Stays, says, stay_dropped, Goes-dropped, walk_of, ends_at}
-use Rattle.std.proofs.alloc.Calls.{handle_tells}
-use Rattle.std.proofs.ResultValues.{and_tt}
-use Rattle.std.proofs.raw_atomic.Walks.{proved_at}
-use Rattle.std.specs.declared.option.Option.{Option}
-use Rattle.std.specs.declared.option.Option.TheVariants.{None}
+use Rattle.rl_ffi.proofs.WalkWords.{List, [], ◌∷◌, ◌++◌, refl, sym, subst, lit<, Val, vnull, SProp, ent, emp, id⊢, ftrue, fsep, WpFn, ‵, raw, ◌⊛◌, ◌$◌, ◌∵◌, !, qed, keep, drop, use1, join, split, fsplit, fjoin, feq_i, suffices, done, agg, no_more, and_then, lit, returns, enter, alloc_all, pass_all, free_all, look_at, get, sets, tables, yes, null_ptr, plain, nothing, Stays, says, stay_dropped, Goes-dropped, walk_of, ends_at, handle_tells, and_tt, proved_at, Option, None}
 use Rattle.rl_ffi.specs.Handle.{kept}
 use Rattle.rl_ffi.proofs.HandleSteps.{Z, al, both, S, handle_in}
 use Rattle.rl_ffi.specs.contracts.handle.Handle.closed as f

@@ -1,27 +1,12 @@
 -- `into_parts` asks whether the pointer is null, and what it owns goes along.
-use Rattle.std.proofs.Common.{◌≡◌, List, [], ◌∷◌, ◌++◌, refl, sym, ap, ◌∙◌, subst}
-use lib.Dec.{lit<}
-use mir.Val.{Val, vptr, vnull, vcons, vnil}
-use base.Logic.{SProp, ent, emp, id⊢}
-use base.Fml.{ftrue, fsep}
-use prog.Wp.{WpFn}
-use types.Kit.{‵, raw, at_ret, ◌⊛◌, ◌$◌, ◌∵◌, !, qed, keep, drop, use0, use1, join, split, fsplit, fjoin, suffices, done}
+use Rattle.rl_ffi.proofs.WalkWords.{◌≡◌, List, [], ◌∷◌, ◌++◌, refl, sym, ap, ◌∙◌, subst, lit<, Val, vptr, vnull, vcons, vnil, SProp, ent, emp, id⊢, ftrue, fsep, WpFn, ‵, raw, at_ret, ◌⊛◌, ◌$◌, ◌∵◌, !, qed, keep, drop, use1, join, split, fsplit, fjoin, suffices, done, whole, sub, agg, stop, fld, lit, no_more, and_then, of_opd, first, exec, returns, enter, alloc_all, pass_all, free_all, look_at, get, get_in, sets, env, tables, yes, RattleType, Ptr, block_ptr, ptr_val, plain, nothing, Stays, says, stay_dropped, Goes-dropped, walk_of, ends_at, after, and_tt, proved_at, None, Some}
+use types.Kit.{use0}
 use types.Match.{live}
-use types.Part.{whole, sub, agg}
-use types.Run.{stop, fld, lit, bin, no_more, and_then, of_opd, first, branches, exec, returns, enter}
-use types.ByLocal.{alloc_all, pass_all, free_all, look_at, get, get_in, sets, sets_last, env}
-use contract.Running.{tables}
-use denote.Exit.{yes}
-use denote.RattleType.{RattleType}
-use denote.RawPtr.{Ptr, block_ptr, ptr_val, tests_null}
-use denote.Signature.{plain, type_at}
-use denote.Steps.{nothing}
-use denote.Triple.Walked.{Stays, says, stay_dropped, Goes-dropped, walk_of, ends_at}
-use Rattle.std.proofs.VecSteps.Shapes.{after}
+use types.Run.{bin, branches}
+use types.ByLocal.{sets_last}
+use denote.RawPtr.{tests_null}
+use denote.Signature.{type_at}
 use Rattle.std.proofs.option.Made.{Some-of, none_of}
-use Rattle.std.proofs.ResultValues.{and_tt}
-use Rattle.std.proofs.raw_atomic.Walks.{proved_at}
-use Rattle.std.specs.declared.option.Option.TheVariants.{None, Some}
 use Rattle.rl_ffi.proofs.HandleSteps.{both, by_null, S, H, E, handle_out}
 use Rattle.rl_ffi.proofs.PartsSteps.{Apart, apart, apart_in}
 use Rattle.rl_ffi.specs.contracts.handle.Handle.into_parts as f

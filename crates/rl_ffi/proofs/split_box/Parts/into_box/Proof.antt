@@ -1,31 +1,11 @@
 -- `into_box` calls `from_raw`, which asks for what the parts own.
-use Rattle.std.proofs.Common.{◌≡◌, List, [], ◌∷◌, ◌++◌, refl, sym, ap, subst}
+use Rattle.rl_ffi.proofs.WalkWords.{◌≡◌, List, [], ◌∷◌, ◌++◌, refl, sym, ap, subst, inst_fn, Val, vptr, SProp, ent, id⊢, ftrue, fsep, flft, WpFn, Item, at_ret, ‵, raw, ◌⊛◌, some, later, ◌$◌, ◌∵◌, !, qed, move, drop, use1, join, split, split3, pick, rewrite, fsplit, fjoin, feq_i, suffices, await, done, whole, sub, stop, fld, no_more, and_then, of_opd, returns, enter, first, exec, alloc_all, pass_all, free_all, look_at, get, get_in, sets, env, ◌⊑◌, fact, tables, no, block_ptr, plain, heard, nothing, only, Lasts, lasts, triple_of, framed, Stays, says, stay_dropped, walk_of, ends_at, after, Goes-blank, proved_at, Bx, D, B, word, box_typed}
 use lib.Dec.{T}
-use mir.MapTy.{inst_fn}
-use mir.Val.{Val, vptr, has_ty, WT}
-use base.Logic.{SProp, ent, id⊢}
-use base.Fml.{ftrue, fsep, flft}
-use prog.Wp.{WpFn}
-use types.Kit.{Item, at_ret, ‵, raw, ◌⊛◌, some, later, ◌$◌, ◌∵◌, !, qed, move, drop, use1, join, split, split3, pick, rewrite, fsplit, fjoin, feq_i, suffices, await, done}
-use types.Part.{whole, sub}
-use types.Run.{stop, fld, no_more, and_then, of_opd, returns, enter, first, blocks, exec}
-use types.ByLocal.{alloc_all, pass_all, free_all, look_at, get, get_in, sets, lands_last, env}
-use contract.BorrowLft.{◌⊑◌}
-use contract.Monad.{fact}
-use contract.Running.{tables}
-use denote.Exit.{no}
-use denote.RawPtr.{block_ptr}
-use denote.Signature.{plain}
-use denote.Steps.{heard, nothing, only}
+use mir.Val.{has_ty, WT}
+use types.Run.{blocks}
+use types.ByLocal.{lands_last}
 use denote.Triple.Call.{calls_at_last}
-use denote.Triple.Clauses.{Lasts, lasts}
-use denote.Triple.Spec.{triple_of}
-use denote.Triple.Table.{framed}
-use denote.Triple.Walked.{Stays, says, stay_dropped, walk_of, ends_at}
-use Rattle.std.proofs.VecSteps.Shapes.{after}
-use Rattle.std.proofs.alloc.Calls.{Goes-blank}
-use Rattle.std.proofs.raw_atomic.Walks.{proved_at}
-use Rattle.std.proofs.BoxSteps.Form.{Bx, D, B, args, box_ty, word, box_typed}
+use Rattle.std.proofs.BoxSteps.Form.{args, box_ty}
 use Rattle.std.specs.contracts.boxed.Box.from_raw as closer
 use Rattle.std.proofs.boxed.Box.from_raw.Met.{met}
 use Rattle.rl_ffi.proofs.PartsSteps.{Apart, apart_out, box_is_word}

@@ -1,34 +1,13 @@
 -- `of` calls `into_raw_with_allocator`, and what that answers is what the parts own.
-use Rattle.std.proofs.Common.{◌≡◌, List, [], ◌∷◌, ◌++◌, refl, sym, subst}
-use mir.Syntax.{a_type, dcons, dnil}
-use mir.MapTy.{inst_fn}
+use Rattle.rl_ffi.proofs.WalkWords.{◌≡◌, List, [], ◌∷◌, ◌++◌, refl, sym, subst, dnil, inst_fn, Val, SProp, ent, id⊢, ftrue, fsep, flft, WpFn, sem, Item, ‵, raw, ◌⊛◌, some, later, ◌$◌, ◌∵◌, !, qed, move, drop, use1, join, split, split3, pick, fsplit, fjoin, suffices, await, done, whole, sub, agg, stop, fld, no_more, and_then, of_opd, returns, enter, alloc_all, pass_all, free_all, look_at, get, get_in, sets, ◌⊑◌, fact, tables, no, Ptr, RawPtr, block_ptr, null_ptr, plain, heard, nothing, Tuple, Lasts, lasts, triple_of, framed, Stays, says, stay_dropped, walk_of, ends_at, token, Goes-blank, proved_at, Bx, P, B, word, box_typed}
+use mir.Syntax.{a_type, dcons}
 use mir.Raw.{raw as bare}
-use mir.Val.{Val}
-use base.Logic.{SProp, ent, id⊢, never, fst∗}
-use base.Fml.{ftrue, fsep, flft}
-use prog.Wp.{WpFn}
-use types.Logic.{sem}
-use types.Kit.{Item, ‵, raw, ◌⊛◌, some, later, ◌$◌, ◌∵◌, !, qed, move, drop, use1, join, split, split3, pick, fsplit, fjoin, suffices, await, done}
-use types.Part.{whole, sub, agg}
-use types.Run.{stop, fld, no_more, and_then, of_opd, returns, enter}
-use types.ByLocal.{alloc_all, pass_all, free_all, look_at, get, get_in, sets, lands_as}
-use contract.BorrowLft.{◌⊑◌}
-use contract.Monad.{fact}
-use contract.Running.{tables}
-use denote.Exit.{no}
+use base.Logic.{never, fst∗}
+use types.ByLocal.{lands_as}
 use denote.Param.{bounded}
-use denote.RawPtr.{Ptr, RawPtr, block_ptr, null_ptr, in_a_block}
-use denote.Signature.{plain}
-use denote.Steps.{heard, nothing}
-use denote.Struct.Tuple.{Tuple}
+use denote.RawPtr.{in_a_block}
 use denote.Triple.Call.{calls_at}
-use denote.Triple.Clauses.{Lasts, lasts}
-use denote.Triple.Spec.{triple_of}
-use denote.Triple.Table.{framed}
-use denote.Triple.Walked.{Stays, says, stay_dropped, walk_of, ends_at}
-use Rattle.std.proofs.alloc.Calls.{token, Goes-blank}
-use Rattle.std.proofs.raw_atomic.Walks.{proved_at}
-use Rattle.std.proofs.BoxSteps.Form.{Bx, τ, P, B, word, box_typed}
+use Rattle.std.proofs.BoxSteps.Form.{τ}
 use Rattle.std.specs.contracts.boxed.Box.into_raw_with_allocator as opener
 use Rattle.std.proofs.boxed.Box.into_raw_with_allocator.Met.{met}
 use Rattle.rl_ffi.proofs.PartsSteps.{owned, apart, apart_in, box_is_word, pair_out}
