@@ -32,7 +32,7 @@ pub use mir.Val.{Val, of_list, vcons, vnil, vnull, vptr, vstruct}
 pub use prog.Wp.{WpFn}
 pub use seplogic.Ra.Ura.{Ura}
 pub use types.ByLocal.{alloc_all, env, free_all, get, get_in, look_at, pass_all, sets}
-pub use types.Kit.{!, Goal, Item, Seq, Step, at_ret, await, done, drop, feq_i, feq_l, fjoin, fpack, fpick, fsplit, join, keep, later, move, pick, qed, raw, rewrite, some, split, split3, step, suffices, use1, ‵, ◌$◌, ◌∵◌, ◌⊛◌}
+pub use types.Kit.{ !, Goal, Item, Seq, Step, at_ret, await, done, drop, feq_i, feq_l, fjoin, fpack, fpick, fsplit, join, keep, later, move, pick, qed, raw, rewrite, some, split, split3, step, suffices, use1, ‵, ◌$◌, ◌∵◌, ◌⊛◌}
 pub use types.Logic.{Logic, sem}
 pub use types.Part.{agg, sub, whole}
 pub use types.Run.{and_then, enter, exec, first, fld, lit, no_more, of_opd, returns, stop}

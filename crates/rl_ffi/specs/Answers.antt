@@ -9,7 +9,7 @@ use Rattle.rl_session.specs.declared.session.Reply.TheVariants as says
 use Rattle.rl_ffi.specs.declared.answers.Answer.{Answer}
 use Rattle.rl_ffi.specs.declared.answers.Answer.TheVariants.{Nothing, Done, DoneAtEnd, NoMemory, BadPlace, BadYankSize, NotReplaying, NoRoom, NotUtf8, NoSuchNumber, TooSmall, IsWatched, Closed}
 
--- 0 where there was nothing to do, from 1 on where it is done, and below 0 where it was refused
+-- 0 if there was nothing to do, from 1 on if it is done, and below 0 if it was refused
 abbrev pub number : Answer → ℤ
 number Nothing = pos 0
 number Done = pos 1
@@ -56,7 +56,7 @@ of_watch_fault unwatched.NoMemory = NoMemory
 of_watch_fault unwatched.NoRoom = NoSuchNumber
 of_watch_fault unwatched.IsWatched = IsWatched
 
--- what a session's reply tells; the first argument where nothing was inserted
+-- what a session's reply tells; the first argument if nothing was inserted
 abbrev pub told : Answer → Reply → Answer
 told without says.Done = Done
 told without (says.Answer a) = truth a

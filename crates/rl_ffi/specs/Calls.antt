@@ -63,15 +63,15 @@ where_named (Ok x) Does = Does x
 abbrev pub told_named : {A B C : Type 0} → Result A Answer → (A → Telling B C) → Telling B C
 told_named named Does part = where_named named (λ x. Does x part)
 
--- bytes of C as a text; where they are none, nothing changes
+-- bytes of C as a text; if they are none, nothing changes
 abbrev pub of_text : {A : Type 0} → List ℕ → Effect A → Effect A
 of_text bytes Does old n new = (IsUtf8 bytes × Does old n new) ⊎ ((¬ (IsUtf8 bytes)) × leaves NotUtf8 old n new)
 
--- where a condition holds; where it does not, nothing changes. No abbreviation, so that what stands on it is one fact for the search
+-- if a condition holds; if it does not, nothing changes. No abbreviation, so that what stands on it is one fact for the search
 unfoldable pub only_where : {A : Type 0} → (A → Type 0) → Answer → Effect A → Effect A
 only_where Condition answer Does old n new = (Condition old × Does old n new) ⊎ ((¬ (Condition old)) × leaves answer old n new)
 
--- what is told where a condition holds
+-- what is told if a condition holds
 abbrev pub told_where : {A : Type 0} → Type 0 → Answer → Tale A → Tale A
 told_where Condition why Does n out out' = (Condition × Does n out out') ⊎ ((¬ Condition) × refuses why n out out')
 

@@ -20,13 +20,13 @@ is_tab cluster = bytes_eq cluster (9 ∷ [])
 abbrev pub is_within : ℕ × ℕ → ℕ × ℕ → Bool
 is_within at cell = nat_lt at.0 cell.0 || ((at.0 == cell.0) && nat_le at.1 cell.1)
 
--- of places with their cells, in order, the last whose cell is not after the given one; `found` where there is none
+-- of places with their cells, in order, the last whose cell is not after the given one; `found` if there is none
 abbrev pub last_within : ℕ × ℕ → ℕ → List (ℕ × (ℕ × ℕ)) → ℕ
 last_within cell found [] = found
 last_within cell found (p ∷ more) = last_within cell (if is_within p.1 cell then p.0 else found) more
 
 module _ (screen : Screen) where
-  -- after a tab: it goes to the next tab stop, or to the right edge where that is nearer; at the edge, in the next row
+  -- after a tab: it goes to the next tab stop, or to the right edge if that is nearer; at the edge, in the next row
   abbrev pub tabbed : ℕ × ℕ → ℕ × ℕ
   tabbed at =
       if nat_lt at.1 screen.columns then (at.0, min screen.columns (at.1 + (screen.tab - at.1 % screen.tab)))

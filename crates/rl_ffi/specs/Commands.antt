@@ -24,7 +24,7 @@ use Rattle.rl_ffi.specs.declared.shapes.CMovement.{CMovement}
 abbrev pub Obeys : State → Command → Reply → State → Type 0
 Obeys s command reply new = (left : State) × Step s command reply left × (new ≡ within_bound left)
 
--- the same, with what the reply tells; the first argument where nothing was inserted
+-- the same, with what the reply tells; the first argument if nothing was inserted
 abbrev pub does : Answer → Command → Effect State
 does without command s n new = (reply : Reply) × Obeys s command reply new × (n ≡ told without reply)
 
@@ -48,7 +48,7 @@ does_with without bytes make s n new = (reply : Reply) × ObeysWith bytes make s
 abbrev pub asks_with : List ℕ → (String Global → Command) → Effect State
 asks_with bytes make = of_text bytes (does_with NoRoom bytes make)
 
--- what is answered where an insertion of a text inserted nothing: it is empty, or there is no room for it
+-- the answer if an insertion of a text inserted nothing: it is empty, or there is no room for it
 abbrev pub room_for : List ℕ → Answer
 room_for text = if length text == 0 then Nothing else NoRoom
 

@@ -86,7 +86,7 @@ unfoldable pub puts_in : ℕ → List ℕ → Effect LineAndListeners
 puts_in place text =
     of_text text (only_where (λ held. CanInsertStr held.line place text) BadPlace (edits room_by_step (λ line. insert_str_plan line place text) placed))
 
--- where the range is one of the text
+-- if the range is one of the text
 abbrev pub in_range : CRange → Effect LineAndListeners → Effect LineAndListeners
 in_range r = only_where (λ held. IsRange held.line.text r.from r.to) BadPlace
 

@@ -31,15 +31,15 @@ fresh_listeners = record {
   tells_ring = false;
 }
 
--- the reports, where they are made
+-- the reports, if they are made
 abbrev pub reported : (ReportLog → ReportLog) → Listeners → Listeners
 reported change t = record t { heard = if t.reports then change t.heard else t.heard }
 
--- the ring, where it is told
+-- the ring, if it is told
 abbrev pub ringed : Event → Listeners → Listeners
 ringed event t = record t { ring = if t.tells_ring then ring_step t.ring event else t.ring }
 
--- the ring and the record, where they are told
+-- the ring and the record, if they are told
 abbrev pub kept : Event → Listeners → Listeners
 kept event t = record (ringed event t) { changes = if t.tells_record then record_step t.changes event else t.changes }
 
@@ -55,7 +55,7 @@ KeptBy t event = ((t.tells_record ≡ true) × IsRecorded event) ⊎ ((t.tells_r
 abbrev pub RefusesKept : Listeners → Event → Refusal → Listeners → Type 0
 RefusesKept t event why now = (why ≡ NoMemory) × KeptBy t event × ((now ≡ t) ⊎ (now ≡ ringed event t))
 
--- an event is refused where memory is out for what is kept of it, and all is as it was, or only the ring heard it
+-- an event is refused if memory is out for what is kept of it, and all is as it was, or only the ring heard it
 abbrev pub listeners_refused : Listeners → Event → Refusal → Listeners → Type 0
 listeners_refused t event why now = (why ≡ NoMemory) × ((t.reports ≡ true) ⊎ KeptBy t event) × ((now ≡ t) ⊎ (now ≡ ringed event t))
 

@@ -26,7 +26,7 @@ hears event r n left = ((n ≡ Done) × (left ≡ record_step r event)) ⊎ ((n 
 abbrev pub hears_char : ℕ → ℕ → Effect Record
 hears_char at c = of_named (char_of c) (λ x. hears (InsertChar at x))
 
--- two texts of an event; where the bytes of one are none, nothing changes
+-- two texts of an event; if the bytes of one are none, nothing changes
 abbrev pub hears_both : ℕ → List ℕ → List ℕ → Effect Record
 hears_both at old new r n left =
     (IsUtf8 old × IsUtf8 new × hears (Replace at old new) r n left) ⊎ (((¬ (IsUtf8 old)) ⊎ (¬ (IsUtf8 new))) × leaves NotUtf8 r n left)

@@ -15,7 +15,7 @@ use Rattle.rl_ffi.specs.declared.held.Held.{Held}
 use Rattle.rl_ffi.specs.declared.held.Held.TheVariants as holds
 use Rattle.rl_ffi.specs.declared.held.LineAndListeners.{LineAndListeners}
 
--- a question that is tried on a copy of the text, where there is memory for that
+-- a question that is tried on a copy of the text, if there is memory for that
 abbrev pub Asked : Bool → Type 0 → Answer → Type 0
 Asked answer Copies n = (n ≡ truth answer) ⊎ ((n ≡ NoMemory) × Copies)
 
@@ -36,7 +36,7 @@ abbrev pub AsksBoth : (Record → LineAndListeners → Answer → Type 0) → Op
 AsksBoth Asks old line n =
     MatchOption (record_of old) (n ≡ number Closed) (λ r. MatchOption (line_of line) (n ≡ number Closed) (λ held. (answer : Answer) × Asks r held answer × (n ≡ number answer)))
 
--- the steps are reported, where reports are made
+-- the steps are reported, if reports are made
 abbrev pub HearsOf : List Step → LineAndListeners → LineAndListeners → Type 0
 HearsOf steps old new = new.to ≡ reported (listener_after heard_step old.line.cursor steps) old.to
 

@@ -25,7 +25,7 @@ note kind place gone come = noted 1 kind place gone come
 abbrev pub hearing : ReportKind → ℕ → List ℕ → List ℕ → ReportLog → ReportLog
 hearing kind place gone come h = record h { waiting = h.waiting ++ note kind place gone come ∷ [] }
 
--- a start or a stop of a kill waits too, where room was found for it
+-- a start or a stop of a kill waits too, if room was found for it
 abbrev pub marking : ReportKind → ReportLog → ReportLog
 marking kind h = if nat_lt 0 h.marks then record { waiting = h.waiting ++ note kind 0 [] [] ∷ []; marks = h.marks - 1 } else h
 
@@ -45,7 +45,7 @@ heard_step h Stop = marking kind.KillStopped h
 heard_step h (Cursors before after) =
     record h { waiting = on_last (told_note before after) h.waiting }
 
--- an event is refused where memory is out, and all is as it was
+-- an event is refused if memory is out, and all is as it was
 abbrev pub heard_refused : ReportLog → Event → Refusal → ReportLog → Type 0
 heard_refused h event why now = (why ≡ NoMemory) × (now ≡ h)
 

@@ -20,7 +20,7 @@ use Rattle.rl_ffi.specs.declared.shapes.CScreen.{CScreen}
 abbrev pub Answers : {A : Type 0} → Tale A → ℤ → A → A → Type 0
 Answers Does n out out' = (answer : Answer) × Does answer out out' × (n ≡ number answer)
 
--- what is told of a text, where the bytes are one
+-- what is told of a text, if the bytes are one
 abbrev pub of_bytes : {A : Type 0} → List ℕ → Tale A → Tale A
 of_bytes text = told_where (IsUtf8 text) NotUtf8
 

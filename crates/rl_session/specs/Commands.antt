@@ -89,13 +89,13 @@ with_changes changes s = record s { pair = record s.pair { changes = changes } }
 
 -- how one state becomes another by steps of an edit, or by none
 pub data Course : Type 1 where
-  -- this never comes; this comes only where a condition holds
+  -- this never comes; this comes only if a condition holds
   never : Course
   when : Type 0 → Course → Course
   -- nothing changed; only the cursor went to a place, if there is one
   stays : Course
   goes : Option ℕ → Bool → Course
-  -- an edit was done; an edit was refused since memory is out: not begun, which comes only where a condition holds, or cut short
+  -- an edit was done; an edit was refused since memory is out: not begun, which comes only if a condition holds, or cut short
   edits : {A : Type 0} → Plan A → A → Course
   stops : {A : Type 0} → Type 0 → Takes → Plan A → Course
   -- the ring lent its text first, or the text before that one
@@ -150,7 +150,7 @@ pub data Telling : Type 0 → Type 1 where
   hands_out : Telling (Option (List ℕ))
   is_done : Telling (Unit {0})
 
--- the course that comes with an answer, where the reply tells one
+-- the course that comes with an answer, if the reply tells one
 abbrev pub told_as : {A : Type 0} → Telling A → (A → Course) → Reply → Course
 told_as answers course (says.Answer a) = course a
 told_as inserts course (says.Inserted a) = course a
@@ -186,13 +186,13 @@ asked line (EditWord action) = edit a_copy (Unit {0}) (edit_word_plan line actio
 asked line (Indent m amount dedent) = edit room_by_step (Unit {0}) (indent_plan line m amount dedent) answers
 asked line _ = other
 
--- an edit: refused where its condition fails; otherwise done, or stopped since memory is out
+-- an edit: refused if its condition fails; otherwise done, or stopped since memory is out
 abbrev pub edit_course : {A : Type 0} → Takes → Type 0 → Plan A → Telling A → Reply → Course
 edit_course takes condition plan telling (says.Refused BadPlace) = when (¬ condition) stays
 edit_course takes condition plan telling (says.Refused NoMemory) = when condition (stops (unbegun takes plan) takes plan)
 edit_course takes condition plan telling reply = when condition (told_as telling (edits plan) reply)
 
--- Commands that are no edit of the table. A command is not refused where it needs no room, since there is nothing to copy,
+-- Commands that are no edit of the table. A command is not refused if it needs no room, since there is nothing to copy,
 -- to close or to make longer.
 abbrev pub other_course : State → Command → Reply → Course
 other_course old (SetPos q) says.Done = when (IsCharBoundary old.line.text q) (goes (Some q) true)
@@ -232,7 +232,7 @@ other_course old LinePlace (says.At k columns) = when ((k, columns) ≡ line_pla
 -- no other reply comes
 other_course _ _ _ = never
 
--- by which course the state becomes another, where it goes by steps
+-- by which course the state becomes another, if it goes by steps
 abbrev pub course_of : Asked → State → Command → Reply → Course
 course_of (edit takes condition plan telling) old command reply = edit_course takes condition plan telling reply
 course_of other old command reply = other_course old command reply

@@ -90,7 +90,7 @@ pub record CountSearch (given : List ℕ) (n : ℕ) (cs : CharSearch) : Type 0 w
   pub char : SpellsChar bytes c
   pub named : NamesSearch (word after) c cs
 
--- the words for movements, each with its argument: None where no space follows, or Some of what stands after the space
+-- the words for movements, each with its argument: None if no space follows, or Some of what stands after the space
 pub data Names : List ℕ → Option (List ℕ) → Movement → Type 0 where
   whole : Names (codes "line") None WholeLine
   home : Names (codes "home") None BeginningOfLine

@@ -40,7 +40,7 @@ pub record History (start : List ℕ) (held : List (List ℕ)) (text : List ℕ)
   pub placed : Placed start (r.recorded ++ r.pending) held
   pub matched : BothMatched r
 
--- the same of a state, where these texts were held by then
+-- the same of a state, if these texts were held by then
 abbrev pub Holds : List ℕ → List (List ℕ) → State → Type 0
 Holds start held s = History start held s.line.text s.pair.changes
 
@@ -62,8 +62,8 @@ IsEdit line (Yank _) = Unit {0}
 IsEdit line YankPop = Unit {0}
 IsEdit line command = IsAsked (asked line command)
 
--- what may happen inside a group: an end, an undo, a redo or a truncation only where it was refused, or the end of one group
--- where the group itself stays open. Before its begin `below` groups were open, and `now` are after the row.
+-- what may happen inside a group: an end, an undo, a redo or a truncation only if it was refused, or the end of one group
+-- if the group itself stays open. Before its begin `below` groups were open, and `now` are after the row.
 abbrev pub MayStandInGroup : (below now : ℕ) → Command → Reply → Type 0
 MayStandInGroup below now End reply = WasRefused reply
 MayStandInGroup below now EndOne reply = WasRefused reply ⊎ (below < now)
@@ -78,8 +78,8 @@ AllStandInGroup below [] = Unit {0}
 AllStandInGroup below (row ∷ rows) =
     MayStandInGroup below (level row.after.pair.changes.recorded) row.command row.reply × AllStandInGroup below rows
 
--- what closes such a group, where `now` groups are open: the end of all where none was open before its begin, or the end of one
--- where all that were begun inside are closed
+-- what closes such a group, if `now` groups are open: the end of all if none was open before its begin, or the end of one
+-- if all that were begun inside are closed
 abbrev pub ClosesGroup : (below now : ℕ) → Command → Type 0
 ClosesGroup below now End = below ≡ 0
 ClosesGroup below now EndOne = now ≡ suc below

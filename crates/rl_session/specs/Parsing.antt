@@ -158,6 +158,6 @@ SaysNoSetting word given = (setting : Setting) → Says word (Some given) (Set s
 abbrev pub SaysNoneWithoutText : List ℕ → List ℕ → Type 0
 SaysNoneWithoutText word given = SaysNoCommand word given × SaysNoSetting word given
 
--- the word says no command where no space follows it
+-- the word says no command if no space follows it
 abbrev pub SaysNoLoneCommand : List ℕ → Type 0
 SaysNoLoneCommand word = (command : Command) → Says word None (Do command) → ⊥

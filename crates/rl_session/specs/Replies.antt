@@ -5,7 +5,7 @@ use Rattle.rl_session.specs.declared.session.Fault.TheVariants.{NoMemory}
 use Rattle.rl_session.specs.declared.session.Reply.{Reply}
 use Rattle.rl_session.specs.declared.session.Reply.TheVariants.{Refused}
 
--- a call is refused only where memory is out
+-- a call is refused only if memory is out
 abbrev pub replied : {A : Type 0} → (A → Reply) → Result A Refusal → Reply
 replied tell (Ok a) = tell a
 replied tell (Err _) = Refused NoMemory

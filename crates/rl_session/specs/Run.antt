@@ -71,7 +71,7 @@ abbrev pub Leads : State → List Row → State → Type 0
 Leads old [] new = new ≡ old
 Leads old (row ∷ rows) new = (row.before ≡ old) × Leads row.after rows new
 
--- the state before the last row, or the given state where there is no row
+-- the state before the last row, or the given state if there is no row
 abbrev pub before_last : State → List Row → State
 before_last s [] = s
 before_last s (row ∷ []) = row.before

@@ -24,7 +24,7 @@ abbrev pub started : Interpreter
 started = record { settings = usual; session = begun usual [] }
 
 -- What a line means may lead from old to new, and this is printed for it. Memory is out for no text that needs none: one that is
--- empty, where its limit is 0.
+-- empty, if its limit is 0.
 abbrev pub MeaningOut : Interpreter → Meaning → List ℕ → Interpreter → Type 0
 MeaningOut old (NewText t) out new =
     ((new ≡ record old { session = begun old.settings t }) × (out ≡ printed Done new.session))
@@ -82,7 +82,7 @@ pub record IsCut (old : Interpreter) (line written : List ℕ) : Type 0 where
   pub part : k < length whole
   pub is : written ≡ take k whole
 
--- What each fault leaves, where `read` was read of a script, `lines` of it were run and printed, and then `cut` was written.
+-- What each fault leaves, if `read` was read of a script, `lines` of it were run and printed, and then `cut` was written.
 -- A failed read: each line that was read whole was run. A failed write: the next line was run, and its output was cut. No
 -- memory: there was a next line, or nothing was read yet.
 abbrev pub Leaves : ScriptFault → Option (List ℕ) → List ℕ → List (List ℕ) → Interpreter → List ℕ → Type 0

@@ -12,7 +12,7 @@ abbrev pub value_from : ℕ → List ℕ → ℕ
 value_from n [] = n
 value_from n (d ∷ ds) = value_from (n * 10 + (d - 48)) ds
 
--- the number that one or more digits name, where it is at most the greatest
+-- the number that one or more digits name, if it is at most the greatest
 unfoldable pub number_of : ℕ → List ℕ → Option ℕ
 number_of greatest bytes =
     if nat_lt 0 (length bytes) && (are_digits bytes && nat_le (value_from 0 bytes) greatest) then Some (value_from 0 bytes) else None
@@ -68,7 +68,7 @@ abbrev pub word : List ℕ → List ℕ
 word [] = []
 word (b ∷ bs) = if b == 32 then [] else b ∷ word bs
 
--- what stands after the first space, where there is one
+-- what stands after the first space, if there is one
 abbrev pub rest : List ℕ → Option (List ℕ)
 rest [] = None
 rest (b ∷ bs) = if b == 32 then Some bs else rest bs
@@ -78,7 +78,7 @@ pub record Numbered (greatest : ℕ) (given : List ℕ) (n : ℕ) (after : List 
   pub number : number_of greatest (word given) ≡ Some n
   pub on : rest given ≡ Some after
 
--- what follows a word stands for this text, which is empty where no space follows
+-- what follows a word stands for this text, which is empty if no space follows
 abbrev pub SpellsRest : Option (List ℕ) → List ℕ → Type 0
 SpellsRest None text = text ≡ []
 SpellsRest (Some bytes) text = Spells bytes text

@@ -95,7 +95,7 @@ abbrev pub told_anew : List ℕ → Line → Watched → Watched
 told_anew text line watch = watch_step (watch_step watch (Replace 0 line.text text)) (Cursors line.cursor (length text))
 
 -- the state after a restart: another text, nothing recorded, the ring with its slots, and a watch that was told that all the
--- old text gave way to the new one. The limit is raised where the text is longer
+-- old text gave way to the new one. The limit is raised if the text is longer
 abbrev pub restarted : List ℕ → ℕ → State → State
 restarted text pos s = record {
   line = record s.line { text = text; cursor = pos; limit = max s.line.limit (length text) };
@@ -113,8 +113,8 @@ RefusesRestart BadPlace text pos s = ¬ (IsCharBoundary text pos)
 RefusesRestart NoMemory text pos s = IsCharBoundary text pos × NeedsRoom s.line.text text
 RefusesRestart _ text pos s = ⊥
 
--- what making a session may give: a session with these five values, or BadPlace where the place is no boundary. NoMemory comes
--- only where the line's limit is above 0.
+-- what making a session may give: a session with these five values, or BadPlace if the place is no boundary. NoMemory comes
+-- only if the line's limit is above 0.
 abbrev pub Opens : List ℕ → ℕ → ℕ → ℕ → GraphemeClusterMode → Result State Fault → Type 0
 Opens text pos limit ring_size mode (Ok session) = IsCharBoundary text pos × (session ≡ fresh text pos limit ring_size mode)
 Opens text pos limit ring_size mode (Err NoMemory) = IsCharBoundary text pos × (0 < max limit (length text))
