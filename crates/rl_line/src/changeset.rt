@@ -20,6 +20,7 @@ use crate::change::{Change, Freshness, Way, count_over, text_over};
 use crate::entries::{self, Entries};
 use crate::forgetting::oldest_len;
 use crate::line_buffer::LineBuffer;
+use crate::units;
 use rl_base::{ChangeListener, DeleteListener, Direction, NoListener, Refusal, RepeatCount};
 use std::alloc::Global;
 use std::marker::Model;
@@ -84,7 +85,7 @@ impl Changeset {
     pub fn has_undo(&self) -> bool
         ensures { result ≡ has_change (last_of 1 self.now.recorded) }
     {
-        entries::last_has_change(self.recorded())
+        units::last_has_change(self.recorded())
     }
 
     /// Whether a redo would find a change: one waits to be redone. It looks at the begins of groups that wait before
@@ -93,7 +94,7 @@ impl Changeset {
     pub fn has_redo(&self) -> bool
         ensures { result ≡ has_change (redo_of self.now.pending) }
     {
-        entries::has_change(self.pending())
+        units::has_change(self.pending())
     }
 
     /// Opens a group, whose changes are undone and redone together once it is closed. Answers how many entries
@@ -300,8 +301,8 @@ impl Changeset {
     {
         let unit = self.unit(way, n);
         go_over_all(line, unit, way, listener)?;
-        let changed = entries::has_change(unit);
-        let opened = entries::level(unit);
+        let changed = units::has_change(unit);
+        let opened = units::level(unit);
         let recorded = count_over(way, self.entries.len(), unit.len());
         self.entries.cut(recorded);
         self.level = count_over(way, self.level, opened);
@@ -330,8 +331,8 @@ impl Changeset {
         ensures matched { IsMatched (map entry_of result.now) }
     {
         match way {
-            Way::Back => entries::last_units(self.recorded(), n),
-            Way::Ahead => entries::next_unit(self.pending()),
+            Way::Back => units::last_units(self.recorded(), n),
+            Way::Ahead => units::next_unit(self.pending()),
         }
     }
 
@@ -341,8 +342,8 @@ impl Changeset {
         ensures { IfSome result (λ change. (is_change (entry_of change.now) ≡ true) × (unit_of way n self.now ≡ entry_of change.now ∷ [])) }
     {
         match way {
-            Way::Back => entries::last_alone(self.recorded(), n),
-            Way::Ahead => entries::next_alone(self.pending()),
+            Way::Back => units::last_alone(self.recorded(), n),
+            Way::Ahead => units::next_alone(self.pending()),
         }
     }
 
@@ -352,7 +353,7 @@ impl Changeset {
     pub fn truncate(&mut self, len: usize)
         ensures { self.new ≡ truncated len self.old }
     {
-        self.level = entries::level_at(self.entries.recorded(), len, self.level);
+        self.level = units::level_at(self.entries.recorded(), len, self.level);
         self.entries.truncate(len);
     }
 
@@ -447,7 +448,7 @@ impl Changeset {
         let alloc = self.entries.allocator();
         let text = line.as_str();
         let recorded = self.recorded();
-        if !entries::has_change(recorded) {
+        if !units::has_change(recorded) {
             return Ok(true);
         }
         let Some(all) = text_over(alloc, text, recorded, Way::Back)? else {

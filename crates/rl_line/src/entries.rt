@@ -1,6 +1,6 @@
-//! The entries of a record: what an event makes of them, and which of them an undo or a redo goes over. A function that
-//! records drops what was undone; refused, it leaves every entry.
-ghost use Rattle.std.specs.Prelude.{◌≡◌, ◌+◌, ◌^◌, ◌≤◌, ◌<◌, [], ◌∷◌, ◌++◌, All, encode_utf8, is_some, length, map, take, drop, true, false, None, IfOk, IfErr, IfSome, OnOk, OnErr};
+//! The entries of a record: what an event makes of them, how its groups are closed, and whether a line can go over them. A
+//! function that records drops what was undone; refused, it leaves every entry.
+ghost use Rattle.std.specs.Prelude.{◌≡◌, ◌+◌, ◌^◌, ◌≤◌, ◌<◌, [], ◌++◌, All, encode_utf8, is_some, length, map, take, drop, true, false, None, IfOk, IfErr, OnOk, OnErr};
 ghost use Rattle.std.specs.Option.{option_map};
 ghost use Rattle.std.specs.String.{string_bytes};
 ghost use Rattle.std.specs.Vec.{vec_len, vec_capacity};
@@ -11,11 +11,12 @@ ghost use Rattle.rl_base.specs.declared.listeners.Refusal.TheVariants.{NoMemory}
 ghost use Rattle.rl_line.specs.declared.change.Freshness.TheVariants.{Added, Stale};
 ghost use Rattle.rl_line.specs.Record.{Changed, Insertion, IsOfKind, untold, entry_of, last_insert, record_step};
 ghost use Rattle.rl_line.specs.Undo.{Tries, line_over};
-ghost use Rattle.rl_line.specs.Units.{IsMatched, adds_end, end_one, end_times, ends_in_begin, has_change, is_change, last_of, level, redo_of, truncated, with_closed};
-ghost use Rattle.rl_line.specs.Entries.{Joins, added, cut_at, deep, settled};
+ghost use Rattle.rl_line.specs.Units.{adds_end, end_one, end_times, ends_in_begin, has_change, truncated, with_closed};
+ghost use Rattle.rl_line.specs.Entries.{Joins, added, cut_at, settled};
 
 use crate::change::{Change, Freshness, Texts, Way, copied, patch_over};
 use crate::line_buffer::LineBuffer;
+use crate::units::has_change;
 use rl_base::{Gathered, Refusal, RepeatCount};
 use std::alloc::Global;
 use std::marker::Model;
@@ -326,53 +327,6 @@ pub(crate) fn first(entries: &[Change], len: usize) -> &[Change]
     &entries[..len.min(entries.len())]
 }
 
-/// How many groups are open after the entries, if none is open before them.
-#[tactic(auto, using(crate::proofs::Records::LevelLemmas::levels_counted))]
-pub(crate) fn level(entries: &[Change]) -> usize
-    requires { IsMatched (map entry_of entries.now) }
-    ensures { result ≡ level (map entry_of entries.now) }
-{
-    let mut level = 0;
-    for entry in entries {
-        level = level_after(entry, level);
-    }
-    level
-}
-
-// How many groups are open after an entry, if `level` are open before it.
-fn level_after(entry: &Change, level: usize) -> usize
-    requires { level < 2 ^ 63 }
-    ensures level { result ≡ deep level (entry_of entry.now ∷ []) }
-    ensures bound { result ≤ level + 1 }
-{
-    match entry {
-        Change::Begin => level + 1,
-        Change::End => level.saturating_sub(1),
-        Change::Insert(_, _, _) | Change::Delete(_, _, _) | Change::Replace(_, _, _) => level,
-    }
-}
-
-/// How many groups are open after the first `len` entries, all if there are fewer. It counts back from the last
-/// entry, after which `last` are open.
-#[tactic(auto, using(crate::proofs::Records::LevelLemmas::levels_at))]
-pub(crate) fn level_at(entries: &[Change], len: usize, last: usize) -> usize
-    requires matched { IsMatched (map entry_of entries.now) }
-    requires last { last ≡ level (map entry_of entries.now) }
-    ensures { result ≡ level (take len (map entry_of entries.now)) }
-{
-    let mut level = last;
-    let mut at = entries.len();
-    while at > len {
-        at -= 1;
-        match entries[at] {
-            Change::Begin => level -= 1,
-            Change::End => level += 1,
-            Change::Insert(_, _, _) | Change::Delete(_, _, _) | Change::Replace(_, _, _) => {}
-        }
-    }
-    level
-}
-
 /// Whether closing `count` groups adds an End: it does if one of them is not empty.
 #[tactic(auto, using(crate::proofs::Records::EntryLemmas::at_the_end))]
 fn adds_end(entries: &[Change], count: usize) -> bool
@@ -443,124 +397,6 @@ fn ends_in_begin(entries: &[Change]) -> bool
         Some(last) => last.is_begin(),
         None => false,
     }
-}
-
-/// The change that makes up the last `n` units, or the last unit if `n` is 0, if they are one change alone.
-#[inline(always)]
-#[tactic(auto, using(crate::proofs::Records::EntryLemmas::at_the_end))]
-pub(crate) fn last_alone(entries: &[Change], n: RepeatCount) -> Option<&Change>
-    ensures { IfSome result (λ change. (is_change (entry_of change.now) ≡ true) × (last_of n (map entry_of entries.now) ≡ entry_of change.now ∷ [])) }
-{
-    if n > 1 {
-        return None;
-    }
-    let last = entries.last()?;
-    if last.is_change() { Some(last) } else { None }
-}
-
-/// The change that makes up the next unit to redo, of undone entries, if that unit is one change alone.
-#[inline(always)]
-#[tactic(auto, using(crate::proofs::Records::EntryLemmas::at_the_end))]
-pub(crate) fn next_alone(entries: &[Change]) -> Option<&Change>
-    requires { IsMatched (map entry_of entries.now) }
-    ensures { IfSome result (λ change. (is_change (entry_of change.now) ≡ true) × (redo_of (map entry_of entries.now) ≡ entry_of change.now ∷ [])) }
-{
-    let next = entries.first()?;
-    if next.is_change() { Some(next) } else { None }
-}
-
-/// Whether there is a change in the last unit. Only the Begin of an open group has none.
-#[tactic(auto, using(crate::proofs::Records::EndLemmas::holds))]
-pub(crate) fn last_has_change(entries: &[Change]) -> bool
-    requires { IsMatched (map entry_of entries.now) }
-    ensures { result ≡ has_change (last_of 1 (map entry_of entries.now)) }
-{
-    match entries.last() {
-        Some(last) => !last.is_begin(),
-        None => false,
-    }
-}
-
-/// How many entries the last `n` units have, or the last one if `n` is 0.
-fn last_len(entries: &[Change], n: RepeatCount) -> usize
-    requires { IsMatched (map entry_of entries.now) }
-    ensures { result ≡ length (last_of n (map entry_of entries.now)) }
-{
-    let mut units = usize::from(n.max(1));
-    let mut depth: usize = 0;
-    let mut at = entries.len();
-    while at > 0 && (units > 0 || depth > 0) {
-        at -= 1;
-        match entries[at] {
-            Change::End => {
-                if depth == 0 {
-                    units -= 1;
-                }
-                depth += 1;
-            }
-            Change::Begin => {
-                if depth == 0 {
-                    units -= 1;
-                } else {
-                    depth -= 1;
-                }
-            }
-            Change::Insert(_, _, _) | Change::Delete(_, _, _) | Change::Replace(_, _, _) => {
-                if depth == 0 {
-                    units -= 1;
-                }
-            }
-        }
-    }
-    entries.len() - at
-}
-
-/// How many entries the next unit to redo has, of undone entries.
-#[tactic(auto, using(crate::proofs::Records::EntryLemmas::at_the_end))]
-pub(crate) fn next_len(entries: &[Change]) -> usize
-    requires { IsMatched (map entry_of entries.now) }
-    ensures { result ≡ length (redo_of (map entry_of entries.now)) }
-{
-    let mut level = 0;
-    let mut at = 0;
-    while at < entries.len() {
-        level = level_after(&entries[at], level);
-        at += 1;
-        if level == 0 {
-            return at;
-        }
-    }
-    at
-}
-
-/// The last `n` units, or the last one if `n` is 0.
-pub(crate) fn last_units(entries: &[Change], n: RepeatCount) -> &[Change]
-    requires { IsMatched (map entry_of entries.now) }
-    ensures { map entry_of result.now ≡ last_of n (map entry_of entries.now) }
-{
-    let len = last_len(entries, n);
-    &entries[entries.len() - len..]
-}
-
-/// The next unit to redo, of undone entries.
-pub(crate) fn next_unit(entries: &[Change]) -> &[Change]
-    requires { IsMatched (map entry_of entries.now) }
-    ensures { map entry_of result.now ≡ redo_of (map entry_of entries.now) }
-{
-    let len = next_len(entries);
-    &entries[..len]
-}
-
-/// Whether there is a change among the entries.
-pub(crate) fn has_change(entries: &[Change]) -> bool
-    ensures { result ≡ has_change (map entry_of entries.now) }
-{
-    for entry in entries {
-        if entry.is_change() {
-            return true;
-        }
-    }
-    false
 }
 
 /// Whether a line can go over the entries that way, and each cursor that was told stands between two characters then. One

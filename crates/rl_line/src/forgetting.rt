@@ -5,7 +5,7 @@ ghost use Rattle.rl_line.specs.Units.{IsMatched};
 ghost use Rattle.rl_line.specs.Forgetting.{FitsFrom, ForgetsFirst};
 
 use crate::change::{Change, Way};
-use crate::entries::{level, next_len};
+use crate::units::{level, next_len};
 
 /// How many entries the oldest units have that go where no more than `most` entries are to stay, with no more than
 /// `bytes` bytes. It stops at the begin of an open group.

@@ -12,6 +12,7 @@ mod patched;
 mod roomy_line;
 mod swap;
 mod tails;
+mod units;
 
 pub use changeset::Changeset;
 pub use line_buffer::{LineBuffer, MAX_LINE, can_delete_by, is_by_characters};

@@ -1,7 +1,7 @@
 use Rattle.rl_line.proofs.Common.{◌≡◌, ◌<◌, arith, inl, inr}
 use Rattle.rl_line.proofs.Records.EntryLemmas.{count-step, step-end0, step-end, step-begin, count-end}
-use Rattle.rl_line.proofs.entries.last_len.Goals as goal
-use Rattle.rl_line.proofs.entries.last_len.Goals.{then-depth-eq0, else-depth-eq0, then-loop-at-test+else-depth-gt0, then-units-gt0, else-units-gt0, else-loop-at-test}
+use Rattle.rl_line.proofs.units.last_len.Goals as goal
+use Rattle.rl_line.proofs.units.last_len.Goals.{then-depth-eq0, else-depth-eq0, then-loop-at-test+else-depth-gt0, then-units-gt0, else-units-gt0, else-loop-at-test}
 
 pub loop-at-preserved-else-depth-eq0-2 : goal.loop-at-preserved-else-depth-eq0-2
 loop-at-preserved-else-depth-eq0-2 c =

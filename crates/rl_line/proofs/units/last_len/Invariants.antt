@@ -1,6 +1,6 @@
 use Rattle.rl_line.proofs.Common.{◌≡◌, ◌+◌, ◌-◌, ◌≤◌, length, take, map, reverse, max, entry_of}
 use Rattle.rl_line.proofs.Records.Counts.{back_len}
-use Rattle.rl_line.proofs.entries.last_len.Given as goal
+use Rattle.rl_line.proofs.units.last_len.Given as goal
 
 abbrev pub invariant-loop-at : goal.invariant-loop-at
 invariant-loop-at l = record {

@@ -1,5 +1,5 @@
 use Rattle.rl_line.proofs.Common.{◌≡◌, ◌≤◌, map, take, entry_of, deep}
-use Rattle.rl_line.proofs.entries.level.Given as goal
+use Rattle.rl_line.proofs.units.level.Given as goal
 
 abbrev pub invariant-loop-entry : goal.invariant-loop-entry
 invariant-loop-entry l = record {

@@ -1,0 +1,173 @@
+//! The units of a list of entries, which an undo or a redo goes over, and how many groups are open after it.
+ghost use Rattle.std.specs.Prelude.{◌≡◌, ◌+◌, ◌^◌, ◌≤◌, ◌<◌, [], ◌∷◌, length, map, take, true, IfSome};
+ghost use Rattle.rl_line.specs.Record.{entry_of};
+ghost use Rattle.rl_line.specs.Units.{IsMatched, has_change, is_change, last_of, level, redo_of};
+ghost use Rattle.rl_line.specs.Entries.{deep};
+
+use crate::change::Change;
+use rl_base::RepeatCount;
+
+/// How many groups are open after the entries, if none is open before them.
+#[tactic(auto, using(crate::proofs::Records::LevelLemmas::levels_counted))]
+pub(crate) fn level(entries: &[Change]) -> usize
+    requires { IsMatched (map entry_of entries.now) }
+    ensures { result ≡ level (map entry_of entries.now) }
+{
+    let mut level = 0;
+    for entry in entries {
+        level = level_after(entry, level);
+    }
+    level
+}
+
+// How many groups are open after an entry, if `level` are open before it.
+fn level_after(entry: &Change, level: usize) -> usize
+    requires { level < 2 ^ 63 }
+    ensures level { result ≡ deep level (entry_of entry.now ∷ []) }
+    ensures bound { result ≤ level + 1 }
+{
+    match entry {
+        Change::Begin => level + 1,
+        Change::End => level.saturating_sub(1),
+        Change::Insert(_, _, _) | Change::Delete(_, _, _) | Change::Replace(_, _, _) => level,
+    }
+}
+
+/// How many groups are open after the first `len` entries, all if there are fewer. It counts back from the last
+/// entry, after which `last` are open.
+#[tactic(auto, using(crate::proofs::Records::LevelLemmas::levels_at))]
+pub(crate) fn level_at(entries: &[Change], len: usize, last: usize) -> usize
+    requires matched { IsMatched (map entry_of entries.now) }
+    requires last { last ≡ level (map entry_of entries.now) }
+    ensures { result ≡ level (take len (map entry_of entries.now)) }
+{
+    let mut level = last;
+    let mut at = entries.len();
+    while at > len {
+        at -= 1;
+        match entries[at] {
+            Change::Begin => level -= 1,
+            Change::End => level += 1,
+            Change::Insert(_, _, _) | Change::Delete(_, _, _) | Change::Replace(_, _, _) => {}
+        }
+    }
+    level
+}
+
+/// The change that makes up the last `n` units, or the last unit if `n` is 0, if they are one change alone.
+#[inline(always)]
+#[tactic(auto, using(crate::proofs::Records::EntryLemmas::at_the_end))]
+pub(crate) fn last_alone(entries: &[Change], n: RepeatCount) -> Option<&Change>
+    ensures { IfSome result (λ change. (is_change (entry_of change.now) ≡ true) × (last_of n (map entry_of entries.now) ≡ entry_of change.now ∷ [])) }
+{
+    if n > 1 {
+        return None;
+    }
+    let last = entries.last()?;
+    if last.is_change() { Some(last) } else { None }
+}
+
+/// The change that makes up the next unit to redo, of undone entries, if that unit is one change alone.
+#[inline(always)]
+#[tactic(auto, using(crate::proofs::Records::EntryLemmas::at_the_end))]
+pub(crate) fn next_alone(entries: &[Change]) -> Option<&Change>
+    requires { IsMatched (map entry_of entries.now) }
+    ensures { IfSome result (λ change. (is_change (entry_of change.now) ≡ true) × (redo_of (map entry_of entries.now) ≡ entry_of change.now ∷ [])) }
+{
+    let next = entries.first()?;
+    if next.is_change() { Some(next) } else { None }
+}
+
+/// Whether there is a change in the last unit. Only the Begin of an open group has none.
+#[tactic(auto, using(crate::proofs::Records::EndLemmas::holds))]
+pub(crate) fn last_has_change(entries: &[Change]) -> bool
+    requires { IsMatched (map entry_of entries.now) }
+    ensures { result ≡ has_change (last_of 1 (map entry_of entries.now)) }
+{
+    match entries.last() {
+        Some(last) => !last.is_begin(),
+        None => false,
+    }
+}
+
+/// How many entries the last `n` units have, or the last one if `n` is 0.
+fn last_len(entries: &[Change], n: RepeatCount) -> usize
+    requires { IsMatched (map entry_of entries.now) }
+    ensures { result ≡ length (last_of n (map entry_of entries.now)) }
+{
+    let mut units = usize::from(n.max(1));
+    let mut depth: usize = 0;
+    let mut at = entries.len();
+    while at > 0 && (units > 0 || depth > 0) {
+        at -= 1;
+        match entries[at] {
+            Change::End => {
+                if depth == 0 {
+                    units -= 1;
+                }
+                depth += 1;
+            }
+            Change::Begin => {
+                if depth == 0 {
+                    units -= 1;
+                } else {
+                    depth -= 1;
+                }
+            }
+            Change::Insert(_, _, _) | Change::Delete(_, _, _) | Change::Replace(_, _, _) => {
+                if depth == 0 {
+                    units -= 1;
+                }
+            }
+        }
+    }
+    entries.len() - at
+}
+
+/// How many entries the next unit to redo has, of undone entries.
+#[tactic(auto, using(crate::proofs::Records::EntryLemmas::at_the_end))]
+pub(crate) fn next_len(entries: &[Change]) -> usize
+    requires { IsMatched (map entry_of entries.now) }
+    ensures { result ≡ length (redo_of (map entry_of entries.now)) }
+{
+    let mut level = 0;
+    let mut at = 0;
+    while at < entries.len() {
+        level = level_after(&entries[at], level);
+        at += 1;
+        if level == 0 {
+            return at;
+        }
+    }
+    at
+}
+
+/// The last `n` units, or the last one if `n` is 0.
+pub(crate) fn last_units(entries: &[Change], n: RepeatCount) -> &[Change]
+    requires { IsMatched (map entry_of entries.now) }
+    ensures { map entry_of result.now ≡ last_of n (map entry_of entries.now) }
+{
+    let len = last_len(entries, n);
+    &entries[entries.len() - len..]
+}
+
+/// The next unit to redo, of undone entries.
+pub(crate) fn next_unit(entries: &[Change]) -> &[Change]
+    requires { IsMatched (map entry_of entries.now) }
+    ensures { map entry_of result.now ≡ redo_of (map entry_of entries.now) }
+{
+    let len = next_len(entries);
+    &entries[..len]
+}
+
+/// Whether there is a change among the entries.
+pub(crate) fn has_change(entries: &[Change]) -> bool
+    ensures { result ≡ has_change (map entry_of entries.now) }
+{
+    for entry in entries {
+        if entry.is_change() {
+            return true;
+        }
+    }
+    false
+}
