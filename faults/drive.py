@@ -202,10 +202,10 @@ def fault_of_script_run(script, outcome, plain):
     if outcome.status == 0:
         if outcome.err or len(printed) != asked:
             return f"status 0 with {len(printed)} lines of {asked}, and {outcome.err!r} on standard error"
-        if outcome.refused and not any(it.startswith(b"refused:1 ") for it in printed):
-            return "memory was refused, and no line says so"
-        if not outcome.refused and outcome.out != plain.out:
-            return "nothing was refused, and it prints something else than the plain run"
+        # The table of line starts is done without if memory is out for it. Whatever else is refused, a line says so.
+        said = any(it.startswith(b"refused:1 ") for it in printed)
+        if not said and outcome.out != plain.out:
+            return "no line says that memory was refused, and it prints something else than the plain run"
         comes_back = "FROM" not in outcome.faults or "UNTIL" in outcome.faults
         if comes_back and script.endswith(LAST_LINES) and not printed[-1].startswith(b"false "):
             return f"after so many undos the last line is {printed[-1]!r}"

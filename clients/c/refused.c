@@ -1,6 +1,6 @@
 /* Refuses each request of the library for memory in turn: the call says so, the handles are sound, and undo leads back
- * to the text that a session began with. A call whose comment names no NO_MEMORY makes none. Reports that were read take
- * no memory, and nothing takes more than it needs. To be compiled with -fsanitize=address, which tells how much is held,
+ * to the text that a session began with. A call whose comment names no NO_MEMORY makes none, once the table of the
+ * text's lines is there. Reports that were read take no memory, and nothing takes more than it needs. To be compiled with -fsanitize=address, which tells how much is held,
  * and linked with -Wl,--wrap=malloc,--wrap=realloc. Its last line is 'N passed, M failed', where each request, each
  * such call, each of two readers and each check of what is taken counts one. */
 #include "lodvarn_parts.h"
@@ -237,10 +237,13 @@ static int leads_back(void) {
     return lodvarn_text(s, &text) == LODVARN_DONE && is(text, start);
 }
 
+/* How the last run of calls ended. */
+static char ended[1024];
+
 /* How many calls said that memory is out if the request of that number is refused. A call of one step leaves all as it
  * was then. If there is no such request each call finds something to do. */
 static int refused_at(int (*calls)(unsigned), size_t request, int *holds) {
-    char before[1024], after[sizeof before];
+    char before[sizeof ended], after[sizeof ended];
     int refused = 0, idle = 0, answer;
     open_all(3);
     was_refused = 0;
@@ -255,15 +258,24 @@ static int refused_at(int (*calls)(unsigned), size_t request, int *holds) {
     }
     left = SIZE_MAX;
     *holds = *holds && leads_back() && (was_refused || !idle);
+    strcpy(ended, before);
     close_all();
     return refused;
 }
 
+/* Refuses each request by itself. One call says so, or all is as if nothing was refused: a text does without the table by
+ * which its lines are looked up. */
 static void refuse_each(const char *what, int (*calls)(unsigned)) {
+    char plain[sizeof ended];
+    int holds = 1;
+    see(what, !refused_at(calls, SIZE_MAX, &holds) && holds);
+    strcpy(plain, ended);
     size_t request = 0;
     do {
-        int holds = 1, refused = refused_at(calls, request, &holds);
-        if (!see(what, refused == was_refused && holds)) printf("  request %zu, said by %d calls\n", request, refused);
+        int refused = refused_at(calls, request, &holds);
+        holds = holds && (refused == was_refused || !strcmp(ended, plain));
+        if (!see(what, holds)) printf("  request %zu, said by %d calls\n", request, refused);
+        holds = 1;
         request++;
     } while (was_refused);
 }
@@ -357,13 +369,14 @@ static int frugal_step(unsigned which) {
     return NO_MORE;
 }
 
-/* What the call of that number returns while every request is refused. There is a change and a report to tell, and a
- * ring of any size with one text. */
+/* What the call of that number returns while every request is refused. There is a change and a report to tell, a ring of
+ * any size with one text, and for each text the table by which its lines are looked up. */
 static int frugal_answer(unsigned which) {
     open_all(SIZE_MAX);
     must(lodvarn_keep(s, "kept", 4) > 0 && lodvarn_watch(s, 3, 40) > 0 && lodvarn_paste(s, "\nab", 3, 1) > 0);
     must(lodvarn_line_paste(l, ALONE, "\nab", 3, 1) > 0 && lodvarn_record_insert(r, 5, "\nab", 3) > 0);
     must(lodvarn_killring_kill(g, "kept", 4, LODVARN_FORWARD) > 0);
+    must(lodvarn_count_lines(s) == 2 && lodvarn_line_move(l, lodvarn_to_line_start(), LODVARN_UNICODE, 0) >= 0);
     was_refused = 0;
     left = 0;
     int answer = frugal_step(which);

@@ -32,7 +32,7 @@ class Refused(test_lodvarn.Mirrors):
         super().leads_to_the_text(session, patience, kinds)
         refuse(0)
         self.assertGreater(self.refused, 500)
-        self.assertGreater(self.halfway, 50)
+        self.assertGreater(self.halfway, 10)
 
 
 if __name__ == "__main__":

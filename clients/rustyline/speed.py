@@ -17,28 +17,15 @@ import sys
 import tempfile
 from pathlib import Path
 
-from sources import HERE, NotThere, make_newest, make_older, take_offline, takes_newest
+from sources import NotThere, make_newest, make_older, take_offline, takes_newest, write_program
 from test_editor import LODVARN
 
 # How many runs there may be, since others use the machine.
 TRIES = 3
-MANIFEST = """[package]
-name = "speed"
-version = "0.0.0"
-edition = "2021"
-
-[[bin]]
-name = "speed"
-path = "{source}"
-
-[dependencies]
-lodvarn = {{ path = "{lodvarn}" }}
-original = {{ path = "../original" }}
+MANIFEST = """lodvarn = {{ path = "{lodvarn}" }}
 
 [features]
 older = []
-
-[workspace]
 """
 
 
@@ -47,9 +34,7 @@ def build(folder, lodvarn):
     newest = takes_newest()
     (make_newest if newest else make_older)(folder / "original", "original")
     take_offline(folder)
-    crate = folder / "speed"
-    crate.mkdir()
-    (crate / "Cargo.toml").write_text(MANIFEST.format(source=HERE / "speed.rs", lodvarn=lodvarn))
+    crate = write_program(folder, "speed", MANIFEST.format(lodvarn=lodvarn))
     subprocess.run(
         ["cargo", "build", "--release", "--offline", "--quiet", *([] if newest else ["--features", "older"])],
         cwd=crate,

@@ -146,43 +146,8 @@ editor_of!(lodvarn, lodvarn::Pair<Changeset, KillRing>);
 #[cfg(not(feature = "older"))]
 editor_of!(original, crate::heard::Heard);
 
-/// What hears the line of an editor on the original core, as `lodvarn::Pair` does.
 #[cfg(not(feature = "older"))]
-mod heard {
-    use original::kill_ring::KillRing;
-    use original::line_buffer::{ChangeListener, DeleteListener, Direction};
-    use original::undo::Changeset;
-
-    pub struct Heard {
-        pub all: Changeset,
-        pub deletions: KillRing,
-    }
-
-    impl DeleteListener for Heard {
-        fn start_killing(&mut self) {
-            self.deletions.start_killing();
-        }
-        fn delete(&mut self, at: usize, text: &str, direction: Direction) {
-            DeleteListener::delete(&mut self.all, at, text, direction);
-            self.deletions.delete(at, text, direction);
-        }
-        fn stop_killing(&mut self) {
-            self.deletions.stop_killing();
-        }
-    }
-
-    impl ChangeListener for Heard {
-        fn insert_char(&mut self, at: usize, c: char) {
-            self.all.insert_char(at, c);
-        }
-        fn insert_str(&mut self, at: usize, text: &str) {
-            ChangeListener::insert_str(&mut self.all, at, text);
-        }
-        fn replace(&mut self, at: usize, old: &str, new: &str) {
-            ChangeListener::replace(&mut self.all, at, old, new);
-        }
-    }
-}
+mod heard;
 
 /// An editor on the core of rustyline 9: its line keeps the listeners.
 #[cfg(feature = "older")]

@@ -1,6 +1,6 @@
 //! Edits that a ring and a record hear, timed.
 use crate::stop::Stop;
-use crate::texts::{LINE, number_of};
+use crate::texts::{number_of, prose_at};
 use crate::workloads::Edit;
 use rl_base::{At, KillRing, Movement, NoListener, Refusal, Watch, Word};
 use rl_line::{Changeset, LineBuffer};
@@ -26,8 +26,7 @@ fn edits(line: &mut LineBuffer, pair: &mut Pair, edit: Edit, i: usize) -> Result
             let _ = line.insert('.', 1, pair)?;
         }
         Edit::Prose => {
-            let c = char::from(LINE.as_bytes()[i % LINE.len()]);
-            let _ = line.insert(c, 1, pair)?;
+            let _ = line.insert(prose_at(i), 1, pair)?;
         }
         Edit::Backspace => {
             let _ = line.backspace(1, pair)?;

@@ -27,6 +27,18 @@ fn changes_here_and_there(session: &mut Session, count: usize) {
     }
 }
 
+fn undoes_often(session: &mut Session, count: usize) {
+    for _ in 0..count {
+        let _ = session.undo(1);
+    }
+}
+
+fn redoes_often(session: &mut Session, count: usize) {
+    for _ in 0..count {
+        let _ = session.redo();
+    }
+}
+
 /// Times undos of `count` changes, or redos of them, in a text of `size` bytes, and tells the state at the end.
 pub fn time_history(
     rt: &HostRuntime,
@@ -48,15 +60,14 @@ pub fn time_history(
         Edits::Mixed => changes_here_and_there(&mut session, count),
     }
     if is_redo {
-        applies_often(&mut session, &Command::Undo(1), count);
+        undoes_often(&mut session, count);
     }
-    let command = if is_redo {
-        Command::Redo
-    } else {
-        Command::Undo(1)
-    };
     let start = Instant::now(rt)?;
-    applies_often(&mut session, &command, count);
+    if is_redo {
+        redoes_often(&mut session, count);
+    } else {
+        undoes_often(&mut session, count);
+    }
     let time = start.elapsed(rt)?;
     let line = session.line();
     Ok((time, number_of(line.as_str(), line.pos())))

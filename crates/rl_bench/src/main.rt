@@ -18,7 +18,7 @@ ghost use Rattle.std.specs.Process.{exit_status};
 use edits::time_edit;
 use history::time_history;
 use motions::time_motion;
-use sessions::{time_letters, time_watched, time_yanks};
+use sessions::{time_typed, time_watched, time_yanks};
 use std::env;
 use std::process::ExitCode;
 use std::time::Duration;
@@ -47,7 +47,8 @@ fn time(
             let text = text_of(rt.alloc(), SHORT_LINE, size)?;
             time_edit(rt, edit, text.as_str(), true, count)
         }
-        Workload::BySession => time_letters(rt, count, size),
+        Workload::LettersBySession => time_typed(rt, false, count, size),
+        Workload::ProseBySession => time_typed(rt, true, count, size),
         Workload::Watched => time_watched(rt, count, size),
         Workload::Yank => time_yanks(rt, count, size),
         Workload::Undo(place) => time_history(rt, place, false, count, size),
@@ -87,8 +88,9 @@ fn run(rt: &HostRuntime) -> Result<(), Stop> {
     let count = number(words.next())?;
     let size = number(words.next())?;
     let (time, state) = time(rt, workload, count, size)?;
-    let each = time.as_nanos() / count.max(1) as u128;
-    println!(rt; "{name} {count} {size}: {each} ns a call, {state}")?;
+    let tenths = time.as_nanos().saturating_mul(10) / count.max(1) as u128;
+    let (each, tenth) = (tenths / 10, tenths % 10);
+    println!(rt; "{name} {count} {size}: {each}.{tenth} ns a call, {state}")?;
     Ok(())
 }
 

@@ -1,6 +1,6 @@
 //! A session's letters and yanks, timed.
 use crate::stop::Stop;
-use crate::texts::{LINE, number_of, text_of};
+use crate::texts::{LINE, number_of, prose_at, text_of};
 use rl_base::{GraphemeClusterMode, Movement};
 use rl_session::{Command, Session};
 use std::time::{Duration, Instant};
@@ -29,11 +29,27 @@ pub fn applies_often(session: &mut Session, command: &Command, count: usize) {
     }
 }
 
-/// Times letters typed at the end of a text of `size` bytes, and tells the state at the end.
-pub fn time_letters(rt: &HostRuntime, count: usize, size: usize) -> Result<(Duration, u64), Stop> {
+// Types the characters of a line in order, over and over.
+fn types_prose(session: &mut Session, count: usize) {
+    for i in 0..count {
+        let _ = session.apply(&Command::Insert(prose_at(i), 1));
+    }
+}
+
+/// Times letters, or words, blanks and signs, typed at the end of a text of `size` bytes, and tells the state at the end.
+pub fn time_typed(
+    rt: &HostRuntime,
+    is_prose: bool,
+    count: usize,
+    size: usize,
+) -> Result<(Duration, u64), Stop> {
     let mut session = session_of(rt, size, count)?;
     let start = Instant::now(rt)?;
-    applies_often(&mut session, &Command::Insert('a', 1), count);
+    if is_prose {
+        types_prose(&mut session, count);
+    } else {
+        applies_often(&mut session, &Command::Insert('a', 1), count);
+    }
     let time = start.elapsed(rt)?;
     let line = session.line();
     Ok((time, number_of(line.as_str(), line.pos())))
@@ -71,9 +87,9 @@ pub fn time_yanks(rt: &HostRuntime, count: usize, size: usize) -> Result<(Durati
     applies_often(&mut session, &Command::Yank(1), 2);
     let mut time = Duration::ZERO;
     for _ in 0..count {
-        let _ = session.apply(&Command::Undo(1));
+        let _ = session.undo(1);
         let start = Instant::now(rt)?;
-        let _ = session.apply(&Command::Yank(1));
+        let _ = session.yank(1);
         time = time.saturating_add(start.elapsed(rt)?);
     }
     let line = session.line();

@@ -18,6 +18,11 @@ pub fn text_of(alloc: Global, line: &str, size: usize) -> Result<String, Stop> {
     Ok(text)
 }
 
+/// The characters of a line in order, over and over: the `i`-th of them.
+pub fn prose_at(i: usize) -> char {
+    char::from(LINE.as_bytes()[i % LINE.len()])
+}
+
 /// A number that depends on each byte of a text, and on a place.
 pub fn number_of(text: &str, pos: usize) -> u64 {
     let mut number = pos as u64;

@@ -53,9 +53,10 @@ pub enum Workload {
     AtEnd(Edit),
     InMiddle(Edit),
     InShortLines(Edit),
-    /// A letter at the end, by a session.
-    BySession,
-    /// The same, where the session keeps reports without texts, which are read after each letter.
+    /// A letter at the end, by a session; words, blanks and signs.
+    LettersBySession,
+    ProseBySession,
+    /// A letter, where the session keeps reports without texts, which are read after each letter.
     Watched,
     /// Yanks of a text as long as the line, by a session.
     Yank,
@@ -71,9 +72,10 @@ pub const WORKLOADS: &[(&str, Workload)] = &[
     ("type_end", Workload::AtEnd(Edit::Letter)),
     ("type_middle", Workload::InMiddle(Edit::Letter)),
     ("type_short_lines", Workload::InShortLines(Edit::Letter)),
-    ("type_session", Workload::BySession),
+    ("type_session", Workload::LettersBySession),
     ("type_watched", Workload::Watched),
     ("prose_end", Workload::AtEnd(Edit::Prose)),
+    ("prose_session", Workload::ProseBySession),
     ("entry_end", Workload::AtEnd(Edit::Dot)),
     ("entry_middle", Workload::InMiddle(Edit::Dot)),
     ("backspace_end", Workload::AtEnd(Edit::Backspace)),
@@ -113,6 +115,7 @@ pub const WORKLOADS: &[(&str, Workload)] = &[
     ("undo_end", Workload::Undo(Edits::AtEnd)),
     ("redo_end", Workload::Redo(Edits::AtEnd)),
     ("undo_middle", Workload::Undo(Edits::InMiddle)),
+    ("redo_middle", Workload::Redo(Edits::InMiddle)),
     ("undo_mixed", Workload::Undo(Edits::Mixed)),
     ("redo_mixed", Workload::Redo(Edits::Mixed)),
     ("width", Workload::Width),

@@ -77,7 +77,10 @@ pub extern "C" fn lodvarn_cursor_line(alloc: Global, s: &mut Handle) -> usize
     ensures value { result ≡ option_map_or (λ (s : State). line_number s.line.text s.line.cursor) (session_of s.old.value) 0 }
     ensures kept { s.new.value ≡ s.old.value }
 {
-    of!(s, alloc, Held::Session(session) => session.line().line_number(), 0)
+    of!(s, alloc, Held::Session(session) => {
+        session.index_lines();
+        session.line().line_number()
+    }, 0)
 }
 
 /// `lodvarn_count_lines`.
@@ -86,7 +89,10 @@ pub extern "C" fn lodvarn_count_lines(alloc: Global, s: &mut Handle) -> usize
     ensures value { result ≡ option_map_or (λ (s : State). length (lines s.line.text)) (session_of s.old.value) 0 }
     ensures kept { s.new.value ≡ s.old.value }
 {
-    of!(s, alloc, Held::Session(session) => session.line().line_count(), 0)
+    of!(s, alloc, Held::Session(session) => {
+        session.index_lines();
+        session.line().line_count()
+    }, 0)
 }
 
 /// `lodvarn_entries`.
@@ -194,7 +200,10 @@ pub extern "C" fn lodvarn_find_line(
     ensures value { Tells a_session (λ s. Writes (option_map range_shape (range_of_line s.line.text line))) s.old.value result range.old range.new }
     ensures kept { s.new.value ≡ s.old.value }
 {
-    of!(s, alloc, Held::Session(session) => write_range(session.line().line_range(line), range))
+    of!(s, alloc, Held::Session(session) => {
+        session.index_lines();
+        write_range(session.line().line_range(line), range)
+    })
 }
 
 fn find_cursor(session: &Session, position: &mut CPosition) -> Outcome
@@ -214,7 +223,10 @@ pub extern "C" fn lodvarn_find_cursor(alloc: Global, s: &mut Handle, at: &mut CP
     ensures value { Tells a_session (λ s. Writes (Some (cursor_position s))) s.old.value result at.old at.new }
     ensures kept { s.new.value ≡ s.old.value }
 {
-    of!(s, alloc, Held::Session(session) => find_cursor(session, at))
+    of!(s, alloc, Held::Session(session) => {
+        session.index_lines();
+        find_cursor(session, at)
+    })
 }
 
 // Writes what a movement covers.

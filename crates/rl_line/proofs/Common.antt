@@ -46,7 +46,7 @@ pub use Rattle.rl_base.specs.declared.motion.Movement.TheVariants.{BackwardChar,
 pub use Rattle.rl_base.specs.declared.motion.Word.{Word}
 pub use Rattle.rl_base.specs.declared.motion.WordAction.{WordAction}
 pub use Rattle.rl_base.specs.declared.motion.WordAction.TheVariants.{Capitalize, Lowercase, Uppercase}
-pub use Rattle.rl_line.specs.Change.{TakesIn, entries_to_undo, entry_to_undo, greatest_back_over, order, place, size_back, size_back_over, size_of, text_after, text_back}
+pub use Rattle.rl_line.specs.Change.{TakesIn, entries_to_undo, entry_to_undo, greatest_back_over, length_back, length_back_over, order, place, text_after, text_back}
 pub use Rattle.rl_line.specs.Deletions.{Told, delete_plan, is_exact, removal, side_of, side_of_place, side_of_search, ToldOutcome}
 pub use Rattle.rl_line.specs.Edits.{cut_to_limit, exchange_plan, insert_event, insert_plan, insert_str_plan, too_long, update_plan, yank_plan, yank_pop_plan}
 pub use Rattle.rl_line.specs.Entries.{Joins, added, cut_at, deep, settled}
@@ -69,7 +69,5 @@ pub use Rattle.rl_line.specs.Walk.{LeadsTo, Walk, Walks}
 pub use Rattle.rl_line.specs.declared.change.Change.{Change}
 pub use Rattle.rl_line.specs.declared.change.Freshness.{Freshness}
 pub use Rattle.rl_line.specs.declared.change.Freshness.TheVariants.{Added, Joined, Stale}
-pub use Rattle.rl_line.specs.declared.change.Measure.{Measure}
-pub use Rattle.rl_line.specs.declared.change.Measure.TheVariants.{Bytes, Newlines}
 pub use Rattle.rl_line.specs.declared.change.Way.{Way}
 pub use Rattle.rl_line.specs.declared.change.Way.TheVariants.{Ahead, Back}

@@ -1,10 +1,7 @@
 -- What the private functions of one entry say of it: joining, and going over it either way.
-use Rattle.std.specs.Prelude.{◌≡◌, ◌⊎◌, ◌<◌, ℕ, ◌+◌, ◌-◌, max, count_by, Bool, List, [], ◌∷◌, length, map, reverse, Option, Some, None, option_and_then, if◌then◌else◌}
+use Rattle.std.specs.Prelude.{◌≡◌, ◌<◌, ℕ, ◌+◌, ◌-◌, max, Bool, List, [], ◌∷◌, length, map, reverse, Option, Some, None, option_and_then, if◌then◌else◌}
 use Rattle.rl_base.specs.Event.{Event, apply}
 use Rattle.rl_line.specs.declared.change.Change.{Change}
-use Rattle.rl_base.specs.Lines.{is_newline}
-use Rattle.rl_line.specs.declared.change.Measure.{Measure}
-use Rattle.rl_line.specs.declared.change.Measure.TheVariants.{Bytes, Newlines}
 use Rattle.rl_line.specs.declared.change.Way.{Way}
 use Rattle.rl_line.specs.declared.change.Way.TheVariants.{Back, Ahead}
 use Rattle.rl_line.specs.Record.{Entry, Changed, cursors_of, entry_of, event_of, freshness_joined, inverse, joined, new_text, old_text}
@@ -45,29 +42,20 @@ order Ahead changes = reverse changes
 abbrev pub entries_to_undo : Way → List Change → List Entry
 entries_to_undo way changes = map (entry_to_undo way) (order way changes)
 
--- the size of a text by a measure
-abbrev pub size_of : Measure → List ℕ → ℕ
-size_of Bytes text = length text
-size_of Newlines text = count_by is_newline text
-
--- the size of a text of size n once an entry was taken back in it
-abbrev pub size_back : Measure → Entry → ℕ → ℕ
-size_back m e n = (n - size_of m (new_text e)) + size_of m (old_text e)
+-- the length of a text of n bytes once an entry was taken back in it
+abbrev pub length_back : Entry → ℕ → ℕ
+length_back e n = (n - length (new_text e)) + length (old_text e)
 
 -- the same of several entries, the last first
-abbrev pub size_back_over : Measure → List Entry → ℕ → ℕ
-size_back_over m [] n = n
-size_back_over m (e ∷ es) n = size_back m e (size_back_over m es n)
+abbrev pub length_back_over : List Entry → ℕ → ℕ
+length_back_over [] n = n
+length_back_over (e ∷ es) n = length_back e (length_back_over es n)
 
--- the greatest size on that way
-abbrev pub greatest_back_over : Measure → List Entry → ℕ → ℕ
-greatest_back_over m [] n = n
-greatest_back_over m (e ∷ es) n = max (greatest_back_over m es n) (size_back_over m (e ∷ es) n)
+-- the greatest length on that way
+abbrev pub greatest_back_over : List Entry → ℕ → ℕ
+greatest_back_over [] n = n
+greatest_back_over (e ∷ es) n = max (greatest_back_over es n) (length_back_over (e ∷ es) n)
 
--- on the way over entries a text of so many bytes gets longer, or its table of so many newlines does
-abbrev pub Outgrows : List Entry → ℕ → ℕ → Type 0
-Outgrows es bytes newlines = (bytes < greatest_back_over Bytes es bytes) ⊎ (newlines < greatest_back_over Newlines es newlines)
-
--- a text does, or its table
-abbrev pub TextOutgrows : List Entry → List ℕ → Type 0
-TextOutgrows es text = Outgrows es (length text) (count_by is_newline text)
+-- on the way over entries a text of n bytes gets longer
+abbrev pub Outgrows : List Entry → ℕ → Type 0
+Outgrows es n = n < greatest_back_over es n

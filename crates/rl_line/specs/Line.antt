@@ -1,9 +1,8 @@
 -- The state of a line, and ranges of its text.
-use Rattle.std.specs.Prelude.{ℕ, ◌<◌, ◌≤◌, Bool, List, length, max, count_by, ◌⊎◌, Option, Some, None, option_and_then, if◌then◌else◌}
+use Rattle.std.specs.Prelude.{◌≡◌, ℕ, ◌<◌, ◌≤◌, Bool, true, List, length, max, Option, Some, None, option_and_then, if◌then◌else◌}
 use Rattle.std.specs.Str.{IsCharBoundary}
 use Rattle.std.specs.declared.ops.Range.{Range}
 use Rattle.rl_base.specs.Event.{Event, apply}
-use Rattle.rl_base.specs.Lines.{is_newline}
 use Rattle.rl_base.specs.Text.{is_boundary}
 use Rattle.rl_line.specs.LineStarts.{IsTable}
 
@@ -14,9 +13,9 @@ pub record Line : Type 0 where
   pub limit : ℕ
   pub grow : Bool
 
--- the table belongs to the text, the cursor stands between two characters, and the text keeps to the limit
-pub record IsLine (text starts : List ℕ) (border cursor limit : ℕ) : Type 0 where
-  pub table : IsTable starts border text
+-- the table, if there is one, belongs to the text, the cursor stands between two characters, and the text keeps to the limit
+pub record IsLine (text starts : List ℕ) (border : ℕ) (has_table : Bool) (cursor limit : ℕ) : Type 0 where
+  pub table : has_table ≡ true → IsTable starts border text
   pub at_boundary : IsCharBoundary text cursor
   pub within : length text ≤ limit
 
@@ -37,9 +36,9 @@ if_standing line = if is_boundary line.text line.cursor then Some line else None
 abbrev pub after_step : Event → ℕ → Line → Option Line
 after_step event cursor line = option_and_then (λ text. if_standing (stepped line text cursor)) (apply event line.text)
 
--- a text needs room that another does not: it is longer, or has more newlines
+-- a text needs room that another does not: it is longer
 abbrev pub NeedsRoom : List ℕ → List ℕ → Type 0
-NeedsRoom text other = (length text < length other) ⊎ (count_by is_newline text < count_by is_newline other)
+NeedsRoom text other = length text < length other
 
 -- the range from a place to another
 abbrev pub between : ℕ → ℕ → Range ℕ

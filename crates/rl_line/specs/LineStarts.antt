@@ -1,5 +1,5 @@
 -- The table of a line's text: where its lines begin, except the first.
-use Rattle.std.specs.Prelude.{◌≡◌, ℕ, ◌+◌, ◌-◌, ◌≤◌, List, ◌++◌, count_by, map, filter, take, drop, length, slice_range}
+use Rattle.std.specs.Prelude.{◌≡◌, ℕ, ◌-◌, ◌≤◌, List, ◌++◌, map, filter, take, drop, length}
 use Rattle.std.specs.List.{enumerate_from}
 use Rattle.rl_base.specs.Lines.{is_newline}
 
@@ -22,10 +22,6 @@ starts_from_end text = map (from_end (length text)) (line_starts text)
 -- what a table keeps: the starts before the border as they are, those from it on counted from the text's end
 abbrev pub kept_starts : ℕ → List ℕ → List ℕ
 kept_starts border text = take border (line_starts text) ++ drop border (starts_from_end text)
-
--- how many starts there are, of n at first, once a range of a text gave way to a part
-abbrev pub count_swapped : ℕ → List ℕ → ℕ → ℕ → List ℕ → ℕ
-count_swapped n text i j part = (n - count_by is_newline (slice_range text i j)) + count_by is_newline part
 
 -- the table of a text, with its border
 pub record IsTable (places : List ℕ) (border : ℕ) (text : List ℕ) : Type 0 where

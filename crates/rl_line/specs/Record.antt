@@ -11,6 +11,8 @@ use Rattle.rl_line.specs.declared.change.Change.{Change}
 use Rattle.rl_line.specs.declared.change.Change.TheVariants as made
 use Rattle.rl_line.specs.declared.change.Freshness.{Freshness}
 use Rattle.rl_line.specs.declared.change.Freshness.TheVariants as is
+use Rattle.rl_line.specs.declared.inserted.Inserted.{Inserted}
+use Rattle.rl_line.specs.declared.inserted.Inserted.TheVariants.{Few, Many}
 
 -- the kinds of changes, which differ in what joins them
 pub data Kind : Type 0 where
@@ -31,11 +33,16 @@ pub data Entry : Type 0 where
   End : Entry
   Changed : (kind : Kind) (swap : Swap) → Entry
 
+-- the text of an insertion
+abbrev pub inserted_bytes : Inserted → List ℕ
+inserted_bytes (Few s) = s.bytes
+inserted_bytes (Many s) = string_bytes s
+
 -- the entry that a change of the code stands for
 abbrev pub entry_of : Change → Entry
 entry_of made.Begin = Begin
 entry_of made.End = End
-entry_of (made.Insert cursors i s) = Changed Insertion (record { place = i; old = []; new = string_bytes s; cursors = cursors })
+entry_of (made.Insert cursors i s) = Changed Insertion (record { place = i; old = []; new = inserted_bytes s; cursors = cursors })
 entry_of (made.Delete cursors i gathered) = Changed Deletion (record { place = i; old = gathered.text; new = []; cursors = cursors })
 entry_of (made.Replace cursors i texts) =
     Changed Replacement (record { place = i; old = string_bytes texts.value.before; new = string_bytes texts.value.after; cursors = cursors })

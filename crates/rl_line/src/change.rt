@@ -1,5 +1,5 @@
 //! An entry of a record, and how a text goes over it.
-ghost use Rattle.std.specs.Prelude.{◌≡◌, [], ◌∷◌, None, Some, true, false, OnErr, OnOk, IfOk, IfErr, ◌+◌, ◌-◌, ◌^◌, ◌<◌, ◌≤◌, IsSome, IfNone, count_by, IfSome, get_or, is_some, length};
+ghost use Rattle.std.specs.Prelude.{◌≡◌, [], ◌∷◌, None, Some, true, false, OnErr, OnOk, IfOk, IfErr, ◌+◌, ◌-◌, ◌<◌, ◌≤◌, IsSome, IfSome, get_or, is_some, length};
 ghost use Rattle.std.specs.Option.{option_map};
 ghost use Rattle.std.specs.String.{string_bytes};
 ghost use Rattle.std.specs.Str.{IsUtf8};
@@ -10,11 +10,9 @@ ghost use Rattle.rl_line.specs.Plan.{NeverRefuses, listener_after};
 ghost use Rattle.rl_line.specs.Record.{bytes_back, cursors_of, entry_of, event_of, freshness_joined, inverse, new_text, old_text, with_cursors};
 ghost use Rattle.rl_line.specs.Undo.{Reaches, count_over, cursor_after, cursor_told, cursor_stands, line_back, steps_ahead};
 ghost use Rattle.rl_line.specs.Units.{is_begin, is_change};
-ghost use Rattle.rl_line.specs.Change.{Outgrows, TakesIn, TextOutgrows, text_after, text_back, place, entry_to_undo, greatest_back_over, order, size_back, size_of, entries_to_undo};
-ghost use Rattle.rl_line.specs.declared.change.Measure.TheVariants.{Bytes, Newlines};
-ghost use Rattle.rl_base.specs.Lines.{is_newline};
+ghost use Rattle.rl_line.specs.Change.{Outgrows, TakesIn, text_after, text_back, place, entry_to_undo, greatest_back_over, length_back, order, entries_to_undo};
 
-use crate::line_starts::newlines;
+use crate::inserted::Inserted;
 use crate::patched::{Patched, is_boundary_with, stands_at};
 use crate::roomy_line::RoomyLine;
 use rl_base::places::{is_alphanumeric, is_word_cluster};
@@ -27,7 +25,7 @@ use std::alloc::Global;
 pub(crate) enum Change {
     Begin,
     End,
-    Insert(Cursors, usize, String),
+    Insert(Cursors, usize, Inserted),
     Delete(Cursors, usize, Gathered),
     Replace(Cursors, usize, Box<Texts>),
 }
@@ -83,43 +81,6 @@ pub(crate) fn count_over(way: Way, number: usize, count: usize) -> usize
     match way {
         Way::Back => number - count,
         Way::Ahead => number + count,
-    }
-}
-
-/// What a text can be measured by.
-#[derive(Clone, Copy)]
-pub(crate) enum Measure {
-    Bytes,
-    Newlines,
-}
-
-// How much longer a text gets, in bytes, and its table, in newlines.
-#[derive(Clone, Copy)]
-struct Growth {
-    bytes: usize,
-    newlines: usize,
-}
-
-impl Measure {
-    // The size of a text by this measure.
-    fn of(self, text: &str) -> usize
-        ensures { result ≡ size_of self text.now }
-    {
-        match self {
-            Measure::Bytes => text.len(),
-            Measure::Newlines => newlines(text),
-        }
-    }
-
-    // The size of a text of size `size` once a part of it is replaced by another, if a `usize` holds it. Inlined, so
-    // that the measure is known at compile time.
-    #[inline(always)]
-    fn size_over(self, size: usize, going: &str, coming: &str) -> Option<usize>
-        ensures some { IfSome result (λ n. n ≡ (size - size_of self going.now) + size_of self coming.now) }
-        ensures none { IfNone result (2 ^ 64 ≤ (size - size_of self going.now) + size_of self coming.now) }
-    {
-        size.saturating_sub(self.of(going))
-            .checked_add(self.of(coming))
     }
 }
 
@@ -289,11 +250,9 @@ impl Change {
 /// Goes over a change in a line, which has room for the result.
 pub(crate) fn go_over(line: &mut RoomyLine, change: &Change, way: Way)
     requires follows { IsSome (line_back (entry_to_undo way change.now ∷ []) line.old.line) }
-    requires room { size_back Bytes (entry_to_undo way change.now) (length line.old.line.text) ≤ line.old.bytes }
-    requires table { size_back Newlines (entry_to_undo way change.now) (count_by is_newline line.old.line.text) ≤ line.old.starts }
+    requires room { length_back (entry_to_undo way change.now) (length line.old.line.text) ≤ line.old.bytes }
     ensures line { line_back (entry_to_undo way change.now ∷ []) line.old.line ≡ Some line.new.line }
     ensures bytes { line.old.bytes ≤ line.new.bytes }
-    ensures starts { line.old.starts ≤ line.new.starts }
 {
     // So the proof knows that this is UTF-8, and within the limit.
     let _text = line.text.as_str();
@@ -302,7 +261,7 @@ pub(crate) fn go_over(line: &mut RoomyLine, change: &Change, way: Way)
     };
     let (going, coming) = change.texts(way);
     let after = change.cursor_over(way).unwrap_or(place + coming.len());
-    line.swap_in(place, place + going.len(), coming, newlines(coming), after);
+    line.swap_in(place, place + going.len(), coming, after);
 }
 
 /// Tells a listener that a text gave way to another, and that the cursor went from `before` to `after`. Inlined, since an
@@ -358,8 +317,8 @@ pub(crate) fn nth_on(way: Way, changes: &[Change], left: usize) -> &Change
     }
 }
 
-/// Finds room in a line's text and its table for the longest of each on the way over the changes. Inlined, as `nth_on`
-/// is, so that the way is known at compile time.
+/// Finds room for the longest text on the way over the changes. Inlined, as `nth_on` is, so that the way is known at
+/// compile time.
 #[inline(always)]
 pub(crate) fn find_room_over(
     line: &mut RoomyLine,
@@ -367,49 +326,33 @@ pub(crate) fn find_room_over(
     way: Way,
 ) -> Result<(), Refusal>
     ensures line { line.new.line ≡ line.old.line }
-    ensures room { OnOk result (greatest_back_over Bytes (entries_to_undo way changes.now) (length line.old.line.text) ≤ line.new.bytes) }
-    ensures table { OnOk result (greatest_back_over Newlines (entries_to_undo way changes.now) (count_by is_newline line.old.line.text) ≤ line.new.starts) }
-    ensures err { IfErr result (λ r. (r ≡ NoMemory) × TextOutgrows (entries_to_undo way changes.now) line.old.line.text) }
+    ensures room { OnOk result (greatest_back_over (entries_to_undo way changes.now) (length line.old.line.text) ≤ line.new.bytes) }
+    ensures err { IfErr result (λ r. (r ≡ NoMemory) × Outgrows (entries_to_undo way changes.now) (length line.old.line.text)) }
 {
-    let growth = growth_over(changes, way, line.len(), line.newlines())?;
-    line.find_room(growth.bytes, growth.newlines)?;
+    let growth = growth_over(changes, way, line.len())?;
+    line.find_room(growth)?;
     Ok(())
 }
 
-// The most by which a text of `bytes` bytes, and a table of `newlines` newlines, grow on the way over the changes.
-// Inlined, so that the way is known at compile time.
+// The most by which a text of `len` bytes grows on the way over the changes. Inlined, so that the way is known at compile
+// time.
 #[inline(always)]
-fn growth_over(
-    changes: &[Change],
-    way: Way,
-    bytes: usize,
-    newlines: usize,
-) -> Result<Growth, Refusal>
-    ensures bytes { IfOk result (λ growth. bytes + growth.bytes ≡ greatest_back_over Bytes (entries_to_undo way changes.now) bytes) }
-    ensures newlines { IfOk result (λ growth. newlines + growth.newlines ≡ greatest_back_over Newlines (entries_to_undo way changes.now) newlines) }
-    ensures err { IfErr result (λ r. (r ≡ NoMemory) × Outgrows (entries_to_undo way changes.now) bytes newlines) }
+fn growth_over(changes: &[Change], way: Way, len: usize) -> Result<usize, Refusal>
+    ensures ok { IfOk result (λ growth. len + growth ≡ greatest_back_over (entries_to_undo way changes.now) len) }
+    ensures err { IfErr result (λ r. (r ≡ NoMemory) × Outgrows (entries_to_undo way changes.now) len) }
 {
-    let (mut long, mut longest) = (bytes, bytes);
-    let (mut high, mut highest) = (newlines, newlines);
+    let (mut long, mut longest) = (len, len);
     let mut left = changes.len();
     while left > 0 {
         left -= 1;
         let (going, coming) = nth_on(way, changes, left).texts(way);
-        long = match Measure::Bytes.size_over(long, going, coming) {
+        long = match long.saturating_sub(going.len()).checked_add(coming.len()) {
             Some(long) => long,
             None => return Err(Refusal::NoMemory),
         };
-        high = match Measure::Newlines.size_over(high, going, coming) {
-            Some(high) => high,
-            None => return Err(Refusal::NoMemory),
-        };
         longest = longest.max(long);
-        highest = highest.max(high);
     }
-    Ok(Growth {
-        bytes: longest - bytes,
-        newlines: highest - newlines,
-    })
+    Ok(longest - len)
 }
 
 /// A text that went over the changes. None if one of them does not fit, or if `asks` is set and a cursor that was told
@@ -473,24 +416,28 @@ pub(crate) fn copied(alloc: Global, text: &str) -> Result<String, Refusal>
 // calls what it could inline.
 #[cold]
 #[inline(never)]
-fn seldom() {}
+pub(crate) fn seldom() {}
 
 // Joining: each of these takes an event in where it joins the change, and answers what may be told of it then, or None where it
 // does not. What was joined has no cursors yet.
 impl Change {
     /// An alphanumeric character that goes in right after what was inserted.
     #[inline(always)]
-    pub(crate) fn join_char(&mut self, idx: usize, c: char) -> Result<Option<Freshness>, Refusal>
+    pub(crate) fn join_char(
+        &mut self,
+        alloc: Global,
+        idx: usize,
+        c: char,
+    ) -> Result<Option<Freshness>, Refusal>
         ensures ok { IfOk result (λ fresh. TakesIn (InsertChar idx c) (entry_of self.old) (entry_of self.new) fresh) }
         ensures err { IfErr result (λ r. (r ≡ NoMemory) × (entry_of self.new ≡ entry_of self.old)) }
     {
         match self {
             Change::Insert(cursors, at, text) => {
-                if !is_alphanumeric(c) || at.checked_add(text.len()) != Some(idx) {
+                if !is_alphanumeric(c) || !text.push_at(alloc, *at, idx, c)? {
                     seldom();
                     return Ok(None);
                 }
-                text.push(c)?;
                 Ok(Some(Freshness::of_joined(cursors)))
             }
             Change::Begin | Change::End | Change::Delete(_, _, _) | Change::Replace(_, _, _) => {

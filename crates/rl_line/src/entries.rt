@@ -15,6 +15,7 @@ ghost use Rattle.rl_line.specs.Units.{adds_end, end_one, end_times, ends_in_begi
 ghost use Rattle.rl_line.specs.Entries.{Joins, added, cut_at, settled};
 
 use crate::change::{Change, Freshness, Texts, Way, copied, patch_over};
+use crate::inserted::Inserted;
 use crate::line_buffer::LineBuffer;
 use crate::units::has_change;
 use rl_base::{Gathered, Refusal, RepeatCount};
@@ -111,8 +112,7 @@ impl Entries {
         ensures done { OnOk result (self.new ≡ added (Changed Insertion (untold idx [] (encode_utf8 c))) Added self.old) }
         ensures err { IfErr result (λ r. (r ≡ NoMemory) × (self.new ≡ self.old)) }
     {
-        let mut text = String::new(self.allocator());
-        text.push(c)?;
+        let text = Inserted::of_char(c);
         self.add(Change::Insert(None, idx, text), Freshness::Added)?;
         Ok(())
     }
@@ -127,7 +127,7 @@ impl Entries {
             self.settle(Freshness::Stale);
             return Ok(());
         }
-        let text = copied(self.allocator(), string)?;
+        let text = Inserted::of_str(self.allocator(), string)?;
         self.add(Change::Insert(None, idx, text), Freshness::Added)?;
         Ok(())
     }
@@ -192,7 +192,8 @@ impl Entries {
         if self.recorded == 0 {
             return Ok(false);
         }
-        let Some(fresh) = self.list[self.recorded - 1].join_char(idx, c)? else {
+        let alloc = self.allocator();
+        let Some(fresh) = self.list[self.recorded - 1].join_char(alloc, idx, c)? else {
             return Ok(false);
         };
         self.settle(fresh);
@@ -308,6 +309,7 @@ impl Entries {
 }
 
 /// Keeps the first `len` entries. Mostly these are all, and then it costs no call.
+#[inline(always)]
 #[tactic(auto, using(crate::proofs::Records::EntryLemmas::at_the_end))]
 fn keep(entries: &mut Vec<Change>, len: usize)
     ensures items { map entry_of entries.new.items ≡ take len (map entry_of entries.old.items) }

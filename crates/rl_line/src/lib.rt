@@ -5,6 +5,7 @@ mod change;
 pub mod changeset;
 mod entries;
 mod forgetting;
+mod inserted;
 pub mod laws;
 pub mod line_buffer;
 mod line_starts;

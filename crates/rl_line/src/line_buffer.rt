@@ -25,7 +25,6 @@ mod ranges;
 mod transpositions;
 
 use crate::change::{Change, Way, find_room_over, go_over, nth_on, tell_over, tell_swap};
-use crate::line_starts::{LineStarts, newlines, newlines_of};
 use crate::roomy_line::RoomyLine;
 pub use deletions::{can_delete_by, is_by_characters, kill_agrees_with_copy};
 use rl_base::{ChangeListener, DeleteListener, Direction, Refusal};
@@ -79,13 +78,8 @@ impl LineBuffer {
         ensures ok { IfOk result (λ line. line ≡ record { text = []; cursor = 0; limit = capacity; grow = false }) }
         ensures err { IfErr result (λ r. (r ≡ NoMemory) × (0 < capacity)) }
     {
-        let line = RoomyLine {
-            text: String::with_capacity(alloc, capacity)?,
-            starts: LineStarts::new(alloc),
-            pos: 0,
-            limit: capacity,
-            can_growth: false,
-        };
+        let text = String::with_capacity(alloc, capacity)?;
+        let line = RoomyLine::new(text, capacity);
         Ok(LineBuffer { line })
     }
 
@@ -94,13 +88,7 @@ impl LineBuffer {
     pub fn with_limit(alloc: Global, limit: usize) -> Self
         ensures { result ≡ record { text = []; cursor = 0; limit = limit; grow = false } }
     {
-        let line = RoomyLine {
-            text: String::new(alloc),
-            starts: LineStarts::new(alloc),
-            pos: 0,
-            limit,
-            can_growth: false,
-        };
+        let line = RoomyLine::new(String::new(alloc), limit);
         LineBuffer { line }
     }
 
@@ -130,6 +118,7 @@ impl LineBuffer {
         let RoomyLine {
             text,
             starts: _,
+            has_starts: _,
             pos: _,
             limit: _,
             can_growth: _,
@@ -215,9 +204,8 @@ impl LineBuffer {
         ensures step { StepOutcome L.step L.refused room_by_step (InsertStr idx text.now, cursor) self.old self.new listener.old listener.new result }
         ensures line { OnOk result (self.new ≡ stepped self.old (insert_slice self.old.text idx text.now) cursor) }
     {
-        let come = newlines(text);
-        self.line.find_room(text.len(), come)?;
-        self.line.insertion_step(idx, text, come, cursor, listener)
+        self.line.find_room(text.len())?;
+        self.line.insertion_step(idx, text, cursor, listener)
     }
 
     // The same step with one character: finds room, reports, and then puts it in, which can't fail any more. Inlined,
@@ -236,8 +224,7 @@ impl LineBuffer {
         ensures step { StepOutcome L.step L.refused room_by_step (InsertChar idx c, cursor) self.old self.new listener.old listener.new result }
         ensures line { OnOk result (self.new ≡ stepped self.old (insert_slice self.old.text idx (encode_utf8 c)) cursor) }
     {
-        let bytes = c.len_utf8();
-        self.line.find_room(bytes, newlines_of(c))?;
+        self.line.find_room(c.len_utf8())?;
         listener.insert_char(idx, c)?;
         listener.cursors(self.line.pos(), cursor);
         self.line.swap_in_char(idx, c, cursor);
@@ -257,11 +244,11 @@ impl LineBuffer {
         ensures line { OnOk result (self.new ≡ stepped self.old (replace_range self.old.text range.start range.end text.now) (range.start + length text.now)) }
     {
         let (from, to) = (range.start, range.end);
-        let come = self.line.find_room_instead(from, to, text)?;
+        self.line.find_room_instead(from, to, text)?;
         listener.replace(from, &self.line.as_str()[from..to], text)?;
         let end = from + text.len();
         listener.cursors(self.line.pos(), end);
-        self.line.swap_in(from, to, text, come, end);
+        self.line.swap_in(from, to, text, end);
         Ok(())
     }
 
@@ -321,16 +308,16 @@ impl LineBuffer {
         };
         let (going, coming) = change.texts(way);
         let to = at + going.len();
-        let come = self.line.find_room_instead(at, to, coming)?;
+        self.line.find_room_instead(at, to, coming)?;
         let before = self.line.pos();
         let after = change.cursor_over(way).unwrap_or(at + coming.len());
-        self.line.swap_in(at, to, coming, come, after);
+        self.line.swap_in(at, to, coming, after);
         tell_swap(at, going, coming, before, after, listener);
         Ok(())
     }
 
     // Goes over the changes: going back, the last first; going ahead, the first first. It finds the room for the
-    // longest text and the longest table on the way before it changes anything. The listener is told of each change
+    // longest text on the way before it changes anything. The listener is told of each change
     // once it is gone over. Inlined, so that undo and redo each know their way at compile time.
     #[inline(always)]
     #[tactic(auto, using(crate::proofs::Records::RoomLemmas::back_so_far))]

@@ -1,9 +1,9 @@
 //! The table of a line's text: the places right after its newlines, in order, where its lines begin except the first.
-ghost use Rattle.std.specs.Prelude.{◌≡◌, [], ◌+◌, ◌-◌, ◌^◌, ◌<◌, ◌≤◌, ◌++◌, ◌==◌, ◌&&◌, nat_le, All, map, take, drop, get_or, length, count_by, encode_utf8, slice_range, vec_len, vec_capacity};
+ghost use Rattle.std.specs.Prelude.{◌≡◌, [], ◌+◌, ◌-◌, ◌^◌, ◌<◌, ◌≤◌, ◌++◌, ◌==◌, ◌&&◌, nat_le, true, All, map, take, drop, get_or, length, count_by, encode_utf8, vec_len, vec_capacity};
 ghost use Rattle.std.specs.List.{insert_slice, replace_range};
 ghost use Rattle.std.specs.Str.{IsCharBoundary};
 ghost use Rattle.rl_base.specs.Lines.{is_newline, line_number};
-ghost use Rattle.rl_line.specs.LineStarts.{after_newlines, line_starts, from_end, IsTable, count_swapped};
+ghost use Rattle.rl_line.specs.LineStarts.{after_newlines, line_starts, from_end, IsTable};
 ghost use Rattle.rl_line.specs.LineRanges.{IsRange};
 
 use memchr::memchr_iter;
@@ -17,13 +17,13 @@ pub(crate) struct LineStarts {
     pub(crate) border: usize,
 }
 
-/// How many newlines a text has. They are counted in stretches so short that a byte holds each count: the compiler
+/// How many newlines the bytes of a text have. They are counted in stretches so short that a byte holds each count: the compiler
 /// makes vectors of bytes of this.
+#[inline(never)]
 #[tactic(auto, using(crate::proofs::Lines::LineStartLemmas::tables))]
-pub(crate) fn newlines(text: &str) -> usize
-    ensures { result ≡ count_by is_newline text.now }
+pub(crate) fn newlines(bytes: &[u8]) -> usize
+    ensures { result ≡ count_by is_newline bytes.now }
 {
-    let bytes = text.as_bytes();
     let mut n = 0;
     let mut at = 0;
     while bytes.len() - at > 240 {
@@ -54,6 +54,24 @@ pub(crate) fn newlines_of(c: char) -> usize
     ensures { result ≡ count_by is_newline (encode_utf8 c) }
 {
     usize::from(c == '\n')
+}
+
+/// The start numbered `k` of a text, from 0, which is looked for in the text.
+#[cold]
+#[inline(never)]
+#[tactic(auto, using(crate::proofs::Lines::LineStartLemmas::found_starts))]
+pub(crate) fn nth_start(text: &str, k: usize) -> usize
+    requires { k < count_by is_newline text.now }
+    ensures { result ≡ get_or (line_starts text.now) k 0 }
+{
+    let mut n = 0;
+    for newline in memchr_iter(b'\n', text.as_bytes()) {
+        if n == k {
+            return newline + 1;
+        }
+        n += 1;
+    }
+    unreachable!()
 }
 
 impl LineStarts {
@@ -94,20 +112,6 @@ impl LineStarts {
             return border + self.places[border..].partition_point(|start| left <= *start);
         }
         self.places[..border].partition_point(|start| *start <= pos)
-    }
-
-    /// How many more newlines a part with `come` newlines has than a range of the text.
-    pub(crate) fn more_than(&self, text: &str, from: usize, to: usize, come: usize) -> usize
-        requires table { IsTable self.now.places.items self.now.border text.now }
-        requires order { from ≤ to }
-        requires end { to ≤ length text.now }
-        ensures { result ≡ come - count_by is_newline (slice_range text.now from to) }
-    {
-        if come == 0 {
-            return 0;
-        }
-        let gone = self.line_number(text, to) - self.line_number(text, from);
-        come.saturating_sub(gone)
     }
 
     /// Whether the table stays as it is where a range is replaced by a part with `come` newlines: none comes, none
@@ -158,7 +162,6 @@ impl LineStarts {
         ensures table { IsTable self.new.places.items self.new.border text.now }
         ensures border { self.new.border ≡ border }
         ensures count { vec_len self.new.places ≡ vec_len self.old.places }
-        ensures capacity { vec_capacity self.old.places ≤ vec_capacity self.new.places }
     {
         let old = self.border;
         self.border = border;
@@ -180,9 +183,9 @@ fn turn(places: &mut [usize], len: usize)
     }
 }
 
-/// Updates the table of a text for the replacement of a range by a part with `come` newlines. The table has room for
-/// the result.
-#[inline(always)]
+/// Updates the table of a text for the replacement of a range by a part. Answers whether it did: memory may be out. Not
+/// inlined, so that a change of a text without a table stays short.
+#[inline(never)]
 #[tactic(auto, using(crate::proofs::Lines::LineStartLemmas::tables))]
 pub(crate) fn swap_starts(
     starts: &mut LineStarts,
@@ -190,52 +193,44 @@ pub(crate) fn swap_starts(
     from: usize,
     to: usize,
     part: &str,
-    come: usize,
-)
+) -> bool
     requires range { IsRange text.now from to }
     requires table { IsTable starts.old.places.items starts.old.border text.now }
-    requires come { come ≡ count_by is_newline part.now }
-    requires room { count_swapped (vec_len starts.old.places) text.now from to part.now ≤ vec_capacity starts.old.places }
-    ensures table { IsTable starts.new.places.items starts.new.border (replace_range text.now from to part.now) }
-    ensures capacity { vec_capacity starts.old.places ≤ vec_capacity starts.new.places }
-    ensures count { vec_len starts.new.places ≡ count_swapped (vec_len starts.old.places) text.now from to part.now }
+    ensures { result ≡ true → IsTable starts.new.places.items starts.new.border (replace_range text.now from to part.now) }
 {
+    let come = newlines(part.as_bytes());
     if starts.stays(text, from, to, come) {
-        return;
+        return true;
     }
-    exchange_starts(starts, text, from, to, part, come);
+    exchange_starts(starts, text, from, to, part, come)
 }
 
 /// Updates it for a character that goes in.
 #[inline(always)]
 #[tactic(auto, using(crate::proofs::Lines::LineStartLemmas::tables))]
-pub(crate) fn swap_starts_by_char(starts: &mut LineStarts, text: &str, at: usize, c: char)
+pub(crate) fn swap_starts_by_char(starts: &mut LineStarts, text: &str, at: usize, c: char) -> bool
     requires place { IsCharBoundary text.now at }
     requires table { IsTable starts.old.places.items starts.old.border text.now }
-    requires room { vec_len starts.old.places + count_by is_newline (encode_utf8 c) ≤ vec_capacity starts.old.places }
-    ensures table { IsTable starts.new.places.items starts.new.border (insert_slice text.now at (encode_utf8 c)) }
-    ensures capacity { vec_capacity starts.old.places ≤ vec_capacity starts.new.places }
+    ensures { result ≡ true → IsTable starts.new.places.items starts.new.border (insert_slice text.now at (encode_utf8 c)) }
 {
     if starts.stays(text, at, at, newlines_of(c)) {
-        return;
+        return true;
     }
-    exchange_encoded(starts, text, at, c);
+    exchange_encoded(starts, text, at, c)
 }
 
 // Updates the table for a character that goes in, by its bytes. Cold: mostly no newline is typed, and at the last change's
 // place.
 #[cold]
 #[inline(never)]
-fn exchange_encoded(starts: &mut LineStarts, text: &str, at: usize, c: char)
+fn exchange_encoded(starts: &mut LineStarts, text: &str, at: usize, c: char) -> bool
     requires place { IsCharBoundary text.now at }
     requires table { IsTable starts.old.places.items starts.old.border text.now }
-    requires room { vec_len starts.old.places + count_by is_newline (encode_utf8 c) ≤ vec_capacity starts.old.places }
-    ensures table { IsTable starts.new.places.items starts.new.border (insert_slice text.now at (encode_utf8 c)) }
-    ensures capacity { vec_capacity starts.old.places ≤ vec_capacity starts.new.places }
+    ensures { result ≡ true → IsTable starts.new.places.items starts.new.border (insert_slice text.now at (encode_utf8 c)) }
 {
     let mut bytes = [0; 4];
     let part = c.encode_utf8(&mut bytes);
-    exchange_starts(starts, text, at, at, part, newlines_of(c));
+    exchange_starts(starts, text, at, at, part, newlines_of(c))
 }
 
 /// The same where the border is elsewhere, or newlines come or go. The starts after the range keep their distances from the end.
@@ -248,35 +243,35 @@ pub(crate) fn exchange_starts(
     to: usize,
     part: &str,
     come: usize,
-)
+) -> bool
     requires range { IsRange text.now from to }
     requires table { IsTable starts.old.places.items starts.old.border text.now }
     requires come { come ≡ count_by is_newline part.now }
-    requires room { count_swapped (vec_len starts.old.places) text.now from to part.now ≤ vec_capacity starts.old.places }
-    ensures table { IsTable starts.new.places.items starts.new.border (replace_range text.now from to part.now) }
-    ensures capacity { vec_capacity starts.old.places ≤ vec_capacity starts.new.places }
-    ensures count { vec_len starts.new.places ≡ count_swapped (vec_len starts.old.places) text.now from to part.now }
+    ensures { result ≡ true → IsTable starts.new.places.items starts.new.border (replace_range text.now from to part.now) }
 {
     let first = starts.line_number(text, from);
     starts.move_border(text, first);
     if starts.stays(text, from, to, come) {
-        return;
+        return true;
     }
     let gone = starts.line_number(text, to) - first;
+    if starts.places.reserve(come.saturating_sub(gone)).is_err() {
+        return false;
+    }
     open_gap(&mut starts.places, first, gone, come);
     put_after_newlines(&mut starts.places[first..], from, part);
     starts.border = first + come;
+    true
 }
 
 // Replaces `gone` places from index `at` on by `come` places, whose values are left open. One more or less, as for a
-// newline that is typed or taken out, goes by the calls that move memory.
+// newline that is typed or taken out, goes by the calls that move memory. There is room for them.
 #[tactic(auto, using(crate::proofs::Lines::LineStartLemmas::gaps))]
 fn open_gap(places: &mut Vec<usize>, at: usize, gone: usize, come: usize)
     requires within { at + gone ≤ vec_len places.old }
     requires room { (vec_len places.old - gone) + come ≤ vec_capacity places.old }
     ensures before { take at places.new.items ≡ take at places.old.items }
     ensures after { drop (at + come) places.new.items ≡ drop (at + gone) places.old.items }
-    ensures capacity { vec_capacity places.old ≤ vec_capacity places.new }
     ensures count { vec_len places.new ≡ (vec_len places.old - gone) + come }
 {
     if come == gone {

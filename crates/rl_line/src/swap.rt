@@ -9,7 +9,8 @@ use crate::tails::swap_bytes;
 use std::alloc::Global;
 use std::mem;
 
-/// Replaces a range by a part, in a text that has room for the result.
+/// Replaces a range by a part, in a text that has room for the result. Inlined: at the end it is a cut and an append.
+#[inline(always)]
 pub(crate) fn swap_text(text: &mut String, from: usize, to: usize, part: &str)
     requires range { IsRange (string_bytes text.old) from to }
     requires room { (string_len text.old - (to - from)) + length part.now ≤ string_capacity text.old }
@@ -27,6 +28,7 @@ pub(crate) fn swap_text(text: &mut String, from: usize, to: usize, part: &str)
 }
 
 // Cuts a text off at a place, which may be its end.
+#[inline(always)]
 fn cut_off(text: &mut String, at: usize)
     requires place { IsCharBoundary (string_bytes text.old) at }
     ensures text { string_bytes text.new ≡ take at (string_bytes text.old) }
@@ -40,6 +42,7 @@ fn cut_off(text: &mut String, at: usize)
 }
 
 // Puts a part after a text.
+#[inline(always)]
 fn append(text: &mut String, part: &str)
     requires room { string_len text.old + length part.now ≤ string_capacity text.old }
     ensures text { string_bytes text.new ≡ string_bytes text.old ++ part.now }
@@ -56,6 +59,7 @@ fn append(text: &mut String, part: &str)
 }
 
 // As `swap_text`, if something stands after the range: that moves once, as bytes.
+#[inline(never)]
 fn swap_within(text: &mut String, from: usize, to: usize, part: &str)
     requires range { IsRange (string_bytes text.old) from to }
     requires room { (string_len text.old - (to - from)) + length part.now ≤ string_capacity text.old }

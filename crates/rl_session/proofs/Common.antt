@@ -66,7 +66,7 @@ pub use Rattle.rl_session.specs.declared.script.Interpreter.{Interpreter}
 pub use Rattle.rl_session.specs.declared.script.ScriptFault.{ScriptFault}
 pub use Rattle.rl_session.specs.declared.script.ScriptFault.TheVariants.{Read, Write}
 pub use Rattle.rl_session.specs.declared.session.Command.{Command}
-pub use Rattle.rl_session.specs.declared.session.Command.TheVariants.{Backspace, Copy, DeletePrevWord, DeleteTo, DeleteWord, DiscardBuffer, DiscardLine, EditWord, Kill, KillBuffer, KillLine, KillRange, Move, Redo, SetPos, TransposeWords, Truncate, Undo, Yank}
+pub use Rattle.rl_session.specs.declared.session.Command.TheVariants.{Backspace, Copy, DeletePrevWord, DeleteTo, DeleteWord, DiscardBuffer, DiscardLine, EditWord, Kill, KillBuffer, KillLine, KillRange, Move, Redo, SetPos, TransposeWords, Truncate, Undo, Yank, YankPop}
 pub use Rattle.rl_session.specs.declared.session.Fault.TheVariants.{BadPlace}
 pub use Rattle.rl_session.specs.declared.session.Reply.{Reply}
 pub use Rattle.rl_session.specs.declared.settings.Setting.TheVariants.{Limit, RingSize}

@@ -207,7 +207,7 @@ other_course old (KillRange i j side) (says.Refused BadPlace) = when (¬ (IsRang
 other_course old (KillRange i j side) (says.Refused NoMemory) =
     when (IsRange old.line.text i j) (tells false (stops ⊥ nothing_more (kill_range_plan old.line i j side)))
 other_course old (Keep t) (says.Refused NoMemory) = when (Enlarges (string_bytes t) Append old.pair.ring) stays
--- a yanked text is copied out of the ring, which may run out of memory too, unless the text is empty or goes in no times
+-- memory may be out before a yank begins too, unless the text is empty or goes in no times
 other_course old (Yank n) (says.Inserted a) = lends (edits (lent_plan old.line (yank old.pair.ring) n) a)
 other_course old (Yank n) (says.Refused NoMemory) =
     lends (stops ((0 < n) × HasText (yank old.pair.ring)) room_by_step (lent_plan old.line (yank old.pair.ring) n))

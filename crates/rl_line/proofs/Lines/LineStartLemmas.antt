@@ -328,6 +328,17 @@ found-within text done more x split =
     All-get_or P (map (λ p. 0 + p) (places (is_byte 10) text)) (length done) 0 (omega (arith, length-map (places (is_byte 10) text) (λ (p : ℕ). 0 + p))) all in
     omega (arith, at, here.within)
 
+-- the newline that a search comes to says where a line begins
+pub found-nth : (text done more : List ℕ) (x k : ℕ) → done ++ x ∷ more ≡ places (is_byte 10) text → k ≡ length done → x + 1 ≡ get_or (line_starts text) k 0
+found-nth text done more x k split size =
+    let some : k < length (places (is_byte 10) text) = omega (arith, size, ap length split, length-append done (x ∷ more)) in
+    omega (
+      arith,
+      ap (λ l. get_or l k 0) (found 1 text),
+      get_or-map (λ p. 1 + p) (places (is_byte 10) text) k 0 0 some,
+      ap (λ l. get_or l k 0) (sym split) ∙ get_or_at done x more 0 k (sym size),
+    )
+
 -- a turn of the loop that puts them: one more stands in the table
 pub put_more : (n i place x : ℕ) (done old now : List ℕ) → i ≡ length done → i < length old → now ≡ map (λ p. n + p) done ++ drop i old → place ≡ n + x
     → set now i place ≡ map (λ p. n + p) (done ++ x ∷ []) ++ drop (i + 1) old
@@ -362,4 +373,4 @@ pub ruleset gaps = (gap-less, gap-more, gap-up, length-replicate, take_all)
 
 pub ruleset newlines_told = (newlines-one, newlines-other, eqb-false, eqb-true)
 
-pub ruleset found_starts = (found, found-within, length-found, put_more, append_assoc, append-nil, length-append)
+pub ruleset found_starts = (found, found-nth, found-within, length-found, put_more, append_assoc, append-nil, length-append)

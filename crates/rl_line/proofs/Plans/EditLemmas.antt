@@ -1,6 +1,6 @@
 -- The plans of the edits, by their cases. The lemmas name each number of the code by a variable and an
 -- equation, so that they fit what the code computed.
-use Rattle.rl_line.proofs.Common.{◌≡◌, ◌⊎◌, inl, inr, ℕ, ◌+◌, ◌-◌, ◌*◌, ◌<◌, Bool, true, false, List, zero, suc, count_by, length, length-append, min, take, slice_range, Some, None, refl, arith, lt-ltb, count_by-le-length, repeat, remove_range, encode_utf8, ◌==◌, ◌||◌, InsertStr, Delete, Forward, is_newline, greatest_boundary, Line, stepped, nothing, single, followed_by, too_long, cut_to_limit, insert_event, insert_plan, update_plan, yank_plan, yank_pop_plan}
+use Rattle.rl_line.proofs.Common.{◌≡◌, ℕ, ◌+◌, ◌-◌, ◌*◌, ◌<◌, Bool, true, false, List, zero, suc, length, length-append, min, take, slice_range, Some, None, refl, arith, lt-ltb, repeat, remove_range, encode_utf8, ◌==◌, ◌||◌, InsertStr, Delete, Forward, greatest_boundary, Line, stepped, nothing, single, followed_by, too_long, cut_to_limit, insert_event, insert_plan, update_plan, yank_plan, yank_pop_plan}
 use Rattle.rl_base.proofs.Clusters.ClusterLemmas.{slice_range-front}
 use Rattle.rl_base.proofs.Texts.TextLemmas.{greatest_boundary-is, IsCharBoundary-past_replacement}
 use Rattle.rl_line.proofs.Plans.PlanLemmas.{Done-followed, Done-nothing, Done-single, Halted-before, Halted-followed, Halted-single}
@@ -40,10 +40,9 @@ pub length-repeat : (n : ℕ) (s : List ℕ) → length (repeat n s) ≡ length 
 length-repeat zero s = omega arith
 length-repeat (suc n) s = omega (arith, length-append s (repeat n s), length-repeat n s)
 
--- a text that needs room in another's place is longer, or has more newlines, and is not empty
-pub some_part : (s t : List ℕ) → (length s < length t) ⊎ (count_by is_newline s < count_by is_newline t) → 0 < length t
-some_part s t (inl longer) = omega (arith, longer)
-some_part s t (inr more) = omega (arith, more, count_by-le-length is_newline t)
+-- a text that needs room in another's place is longer, and is not empty
+pub some_part : (s t : List ℕ) → length s < length t → 0 < length t
+some_part s t longer = omega (arith, longer)
 
 -- some copies of a text that is not empty
 pub some_copies : (n : ℕ) (s : List ℕ) → 0 < length s → 0 < n → 0 < length (repeat n s)

@@ -1,6 +1,5 @@
 -- Exchanging two ranges: the plan by its halves, and the places between them.
-use Rattle.rl_line.proofs.Common.{HasRoom, RoomyLine, count_by, is_newline, ◌≡◌, ℕ, ◌+◌, ◌-◌, ◌≤◌, [], ◌∷◌, ◌++◌, List, length, take, drop, append_assoc, None, Bool, cond, true, false, slice_range, sym, ap, ap₂, subst, ◌∙◌, arith, length-between, option_and_then, length-take-le, drop-take, drop-append-le, insert_slice, remove_range, replace_range, IsCharBoundary, IsUtf8, Range, Forward, InsertStr, Delete, Line, Plan, Step, nothing, single, followed_by, answering, exchange_plan, text_in, are_two, clusters_around, end_of_cluster, exchanged_text, first_word, meeting_place, second_word, only_move, pull_back_plan, pulled_back, swap_plan, transpose_chars_plan, transpose_words_plan}
-use Rattle.rl_line.proofs.Lines.LineStartLemmas.{newlines-replaced, newlines-slice}
+use Rattle.rl_line.proofs.Common.{HasRoom, RoomyLine, ◌≡◌, ℕ, ◌+◌, ◌-◌, ◌≤◌, [], ◌∷◌, ◌++◌, List, length, take, drop, append_assoc, None, Bool, cond, true, false, slice_range, sym, ap, ap₂, subst, ◌∙◌, arith, length-between, option_and_then, length-take-le, drop-take, drop-append-le, insert_slice, remove_range, replace_range, IsCharBoundary, IsUtf8, Range, Forward, InsertStr, Delete, Line, Plan, Step, nothing, single, followed_by, answering, exchange_plan, text_in, are_two, clusters_around, end_of_cluster, exchanged_text, first_word, meeting_place, second_word, only_move, pull_back_plan, pulled_back, swap_plan, transpose_chars_plan, transpose_words_plan}
 use Rattle.rl_line.proofs.Lines.RoomyLemmas.{length-swapped, HasRoom-moved}
 use Rattle.rl_base.proofs.Texts.TextLemmas.{slice-before, take-before, removed-is_replaced, IsCharBoundary-before, IsCharBoundary-at_removal, IsCharBoundary-past_replacement, IsCharBoundary-after, IsUtf8-replaced}
 use Rattle.rl_line.proofs.Plans.PlanLemmas.{Done-nothing, Done-followed, Done-single, Halted-after, Halted-at_first, Done-steps, Halted-back, Halted-front, Taken-append}
@@ -64,26 +63,14 @@ module _ {old mid : Line} {first second : Range ℕ} {x y : List ℕ} (h : HalfS
         last = IsCharBoundary-after made first.start first.end (second.start + length x) second.end y utf8 start.0 past (omega arith) (omega arith);
       })
 
-  -- in the end the text is as long as at first, and has as many newlines
+  -- in the end the text is as long as at first
   pub HasRoom-swapped : (r : RoomyLine) → HasRoom old.text r → HasRoom (replace_range mid.text first.start first.end y) r
   HasRoom-swapped r room =
       let text = old.text in
       let wide : length x ≡ first.end - first.start = ap length h.goes ∙ length-between text first.start first.end h.first_end.0 in
       let wide' : length y ≡ second.end - second.start = ap length h.comes ∙ length-between text second.start second.end h.second_end.0 in
       let long = ap length h.text ∙ length-swapped text x second.start second.end h.second_order h.second_end.0 in
-      record {
-        bytes = omega (arith, room.bytes, wide, wide', long, length-swapped mid.text y first.start first.end h.first_order (omega (arith, long, wide, wide', h.apart, h.second_end.0)));
-        starts = omega (
-          arith,
-          room.starts,
-          newlines-replaced mid.text y first.start first.end h.first_order,
-          ap (count_by is_newline) first_stays,
-          ap (count_by is_newline) h.text,
-          newlines-replaced text x second.start second.end h.second_order,
-          ap (count_by is_newline) h.comes,
-          newlines-slice text second.start second.end,
-        );
-      }
+      omega (arith, room, wide, wide', long, length-swapped mid.text y first.start first.end h.first_order (omega (arith, long, wide, wide', h.apart, h.second_end.0)))
 
 pub pull_back_plan-is : (line : Line) (front : ℕ) (after : Range ℕ) (x : List ℕ) (stop : ℕ) → x ≡ text_in line after
     → stop ≡ length x + end_of_cluster (remove_range line.text after.start after.end) front

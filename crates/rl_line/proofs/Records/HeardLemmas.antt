@@ -85,8 +85,7 @@ steps_back-parts : (more : List Entry) (e : Entry) (es : List Entry) (cursor : �
 steps_back-parts more e es cursor = grind (arith, common_steps, steps_ahead-append)
 
 same_room : (text : List ℕ) → NeedsRoom text text → ⊥
-same_room text (inl longer) = omega (arith, longer)
-same_room text (inr more) = omega (arith, more)
+same_room text longer = omega (arith, longer)
 
 -- ---- something is told, and a text on the way needs room, only where there is a change
 pub told-change : (es : List Entry) (cursor : ℕ) → 0 < length (steps_ahead cursor es) → has_change es ≡ true

@@ -1,31 +1,27 @@
 -- Going over a record needs room only where a text on the way needs more than the first.
-use Rattle.rl_line.proofs.Common.{common_steps, ◌≡◌, ℕ, ◌+◌, ◌-◌, ◌^◌, ◌<◌, ◌≤◌, Bool, true, false, zero, suc, max, List, [], ◌∷◌, ◌++◌, length, length-append, count_by, map, drop, take, reverse, Option, Some, None, ◌⊎◌, inl, inr, refl, sym, ap, subst, ◌∙◌, arith, nat_tests, get_or-append, drop-map, map-append, reverse-append, Any-push, map-map, Any, IsSome, get_or, nat_lt, option_and_then, IsUtf8, Event, replay, is_newline, Change, Measure, Bytes, Newlines, Way, entry_to_undo, greatest_back_over, size_back, size_back_over, size_of, Line, NeedsRoom, Entry, Changed, bytes_ahead, bytes_back, event_of, inverse, new_text, old_text, unwind, line_back, texts_after, texts_ahead, texts_back, drop_all}
+use Rattle.rl_line.proofs.Common.{common_steps, ◌≡◌, ℕ, ◌+◌, ◌-◌, ◌^◌, ◌<◌, ◌≤◌, Bool, true, false, zero, suc, max, List, [], ◌∷◌, ◌++◌, length, length-append, map, drop, take, reverse, Option, Some, None, refl, sym, ap, subst, ◌∙◌, arith, nat_tests, get_or-append, drop-map, map-append, reverse-append, Any-push, map-map, Any, IsSome, get_or, nat_lt, option_and_then, IsUtf8, Event, replay, Change, Way, entry_to_undo, greatest_back_over, length_back, length_back_over, Line, NeedsRoom, Entry, Changed, bytes_ahead, bytes_back, event_of, inverse, new_text, old_text, unwind, line_back, texts_after, texts_ahead, texts_back, drop_all}
 use Rattle.rl_base.proofs.Texts.SwapLemmas.{Swaps, Swaps-Replace}
 use Rattle.rl_base.specs.Event.{apply}
 use Rattle.rl_line.proofs.Records.RecordLemmas.{through, unwind-IsUtf8, value_of}
 use Rattle.rl_line.proofs.Records.TurnLemmas.{turned-cons, turned-turned}
-use Rattle.rl_line.proofs.Records.UndoLemmas.{entries_from, line_back-unwind, size_back_over-within, IsBack-none, IsBack-fits, IsBack-next}
+use Rattle.rl_line.proofs.Records.UndoLemmas.{entries_from, line_back-unwind, length_back_over-within, IsBack-none, IsBack-fits, IsBack-next}
 use Rattle.rl_line.proofs.Records.ChangeLemmas.{GoesOver-astray, GoesOver-next, GoesOver-not, longer-by, length-order}
 use Rattle.rl_line.proofs.Records.HeardLemmas.{back-one_more, cursor-gone}
 
-size-swapped : (k : Measure) (text after : List ℕ) (i : ℕ) (old new : List ℕ) → Swaps text after i old new → size_of k after ≡ (size_of k text - size_of k old) + size_of k new
-size-swapped k text after i old new s = grind (arith, common_steps)
+length-swapped : (text after : List ℕ) (i : ℕ) (old new : List ℕ) → Swaps text after i old new → length after ≡ (length text - length old) + length new
+length-swapped text after i old new s = grind (arith, common_steps)
 
-size-nothing : (k : Measure) (n : ℕ) → n ≡ (n - size_of k []) + size_of k []
-size-nothing Bytes n = omega arith
-size-nothing Newlines n = omega arith
-
--- the size of the text before an entry
-pub size_back-is : (k : Measure) (e : Entry) (text now : List ℕ) → IsUtf8 text → apply (event_of (inverse e)) text ≡ Some now → size_of k now ≡ size_back k e (size_of k text)
+-- the length of the text before an entry
+pub length_back-is : (e : Entry) (text now : List ℕ) → IsUtf8 text → apply (event_of (inverse e)) text ≡ Some now → length now ≡ length_back e (length text)
 unfolding apply
-size_back-is k (Changed j c) text now u h = size-swapped k text now c.place c.new c.old (Swaps-Replace text now c.place c.new c.old u h)
-size_back-is k mark text now u h = let e : text ≡ now = cc in ap (size_of k) (sym e) ∙ size-nothing k (size_of k text)
+length_back-is (Changed j c) text now u h = length-swapped text now c.place c.new c.old (Swaps-Replace text now c.place c.new c.old u h)
+length_back-is mark text now u h = let e : text ≡ now = cc in omega (arith, ap length e)
 
-pub size_back_over-is : (k : Measure) (es : List Entry) (text now : List ℕ) → IsUtf8 text → unwind es text ≡ Some now → size_of k now ≡ size_back_over k es (size_of k text)
-size_back_over-is k [] text now u h = let e : text ≡ now = cc in ap (size_of k) (sym e)
-size_back_over-is k (e ∷ es) text now u h =
+pub length_back_over-is : (es : List Entry) (text now : List ℕ) → IsUtf8 text → unwind es text ≡ Some now → length now ≡ length_back_over es (length text)
+length_back_over-is [] text now u h = let e : text ≡ now = cc in ap length (sym e)
+length_back_over-is (e ∷ es) text now u h =
     let p = through (apply (event_of (inverse e))) (unwind es text) now h in
-    size_back-is k e p.0 now (unwind-IsUtf8 es text p.0 u p.1) p.2 ∙ ap (size_back k e) (size_back_over-is k es text p.0 u p.1)
+    length_back-is e p.0 now (unwind-IsUtf8 es text p.0 u p.1) p.2 ∙ ap (length_back e) (length_back_over-is es text p.0 u p.1)
 
 pub texts_after-more : (x : Event) (xs : List Event) (text next : List ℕ) → apply x text ≡ Some next → texts_after (x ∷ xs) text ≡ next ∷ texts_after xs next
 texts_after-more x xs text next h = ap (λ (o : Option (List ℕ)). elim o [ None ↦ [] | Some t ↦ t ∷ texts_after xs t ]) h
@@ -65,50 +61,39 @@ texts_back-more e es text mid now h makes =
 Any-left : {X : Type 0} → (P : X → Type 0) (xs ys : List X) → Any P xs → Any P (xs ++ ys)
 Any-left P xs ys (k, x, lt, at, p) = (k, x, omega (arith, length-append xs ys, lt), get_or-append xs ys x k lt ∙ at, p)
 
-needs_room : (k : Measure) (text other : List ℕ) → size_of k text < size_of k other → NeedsRoom text other
-needs_room Bytes text other h = inl h
-needs_room Newlines text other h = inr h
-
--- where the greatest size on the way is more than the first, a text on the way needs room
-pub NeedsRoom-back : (k : Measure) (es : List Entry) (text now : List ℕ) → IsUtf8 text → unwind es text ≡ Some now → size_of k text < greatest_back_over k es (size_of k text)
-    → Any (NeedsRoom text) (texts_back es text)
-NeedsRoom-back k [] text now u h more = absurd (omega (arith, more))
-NeedsRoom-back k (e ∷ es) text now u h more =
+-- where the greatest length on the way is more than the first, a text on the way needs room
+pub NeedsRoom-back : (es : List Entry) (text now : List ℕ) → IsUtf8 text → unwind es text ≡ Some now → length text < greatest_back_over es (length text) → Any (NeedsRoom text) (texts_back es text)
+NeedsRoom-back [] text now u h more = absurd (omega (arith, more))
+NeedsRoom-back (e ∷ es) text now u h more =
     let p = through (apply (taking_back e)) (unwind es text) now h in
-    let size : size_of k now ≡ size_back_over k (e ∷ es) (size_of k text) = size_back_over-is k (e ∷ es) text now u h in
+    let size : length now ≡ length_back_over (e ∷ es) (length text) = length_back_over-is (e ∷ es) text now u h in
     subst (Any (NeedsRoom text)) (sym (texts_back-more e es text p.0 now p.1 p.2))
-    (by (greatest_back_over k es (size_of k text)) (size_back_over k (e ∷ es) (size_of k text)) (texts_back es text) size more (NeedsRoom-back k es text p.0 u p.1)
-    (nat_lt (size_of k text) (greatest_back_over k es (size_of k text))) refl)
+    (by (greatest_back_over es (length text)) (length_back_over (e ∷ es) (length text)) (texts_back es text) size more (NeedsRoom-back es text p.0 u p.1)
+    (nat_lt (length text) (greatest_back_over es (length text))) refl)
   where
-    by : (before here : ℕ) (texts : List (List ℕ)) → size_of k now ≡ here → size_of k text < max before here → (size_of k text < before → Any (NeedsRoom text) texts)
-        → (b : Bool) → nat_lt (size_of k text) before ≡ b → Any (NeedsRoom text) (texts ++ now ∷ [])
+    by : (before here : ℕ) (texts : List (List ℕ)) → length now ≡ here → length text < max before here → (length text < before → Any (NeedsRoom text) texts)
+        → (b : Bool) → nat_lt (length text) before ≡ b → Any (NeedsRoom text) (texts ++ now ∷ [])
     by before here texts size more among true is = Any-left (NeedsRoom text) texts (now ∷ []) (among (grind (arith, nat_tests)))
     by before here texts size more among false is =
-        let low : before ≤ size_of k text = grind (arith, nat_tests) in
-        Any-push (NeedsRoom text) texts now (needs_room k text now (omega (arith, size, more, low)))
+        let low : before ≤ length text = grind (arith, nat_tests) in
+        Any-push (NeedsRoom text) texts now (omega (arith, size, more, low))
 
-pub NeedsRoom-line : (es : List Entry) (line : Line) → IsUtf8 line.text → IsSome (line_back es line)
-    → (length line.text < greatest_back_over Bytes es (length line.text)) ⊎ (count_by is_newline line.text < greatest_back_over Newlines es (count_by is_newline line.text))
+pub NeedsRoom-line : (es : List Entry) (line : Line) → IsUtf8 line.text → IsSome (line_back es line) → length line.text < greatest_back_over es (length line.text)
     → Any (NeedsRoom line.text) (texts_back es line.text)
-NeedsRoom-line es line u h (inl more) = let p = value_of (line_back es line) h in NeedsRoom-back Bytes es line.text p.0.text u (line_back-unwind es line p.0 p.1) more
-NeedsRoom-line es line u h (inr more) = let p = value_of (line_back es line) h in NeedsRoom-back Newlines es line.text p.0.text u (line_back-unwind es line p.0 p.1) more
+NeedsRoom-line es line u h more = let p = value_of (line_back es line) h in NeedsRoom-back es line.text p.0.text u (line_back-unwind es line p.0 p.1) more
 
 -- one entry needs room where the text that comes needs more than the one that goes
 pub NeedsRoom-one : (e : Entry) (text now : List ℕ) → IsUtf8 text → apply (taking_back e) text ≡ Some now → NeedsRoom (new_text e) (old_text e) → Any (NeedsRoom text) (texts_back (e ∷ []) text)
 NeedsRoom-one e text now u makes more =
-    subst (Any (NeedsRoom text)) (sym (texts_back-more e [] text text now refl makes)) (Any-push (NeedsRoom text) [] now (needs more))
-  where
-    needs : NeedsRoom (new_text e) (old_text e) → NeedsRoom text now
-    needs (inl long) = inl (omega (arith, size_back-is Bytes e text now u makes, long))
-    needs (inr high) = inr (omega (arith, size_back-is Newlines e text now u makes, high))
+    subst (Any (NeedsRoom text)) (sym (texts_back-more e [] text text now refl makes)) (Any-push (NeedsRoom text) [] now (omega (arith, length_back-is e text now u makes, more)))
 
--- a size past what a usize holds is more than the first
-pub past_a_usize : (k : Measure) (way : Way) (xs : List Change) (m n size : ℕ) (x : Change) → m < length xs → x ≡ get_or xs m x → size ≡ size_back_over k (map (entry_to_undo way) (drop (m + 1) xs)) n
-    → n < 2 ^ 64 → 2 ^ 64 ≤ size_back k (entry_to_undo way x) size → n < greatest_back_over k (map (entry_to_undo way) xs) n
-past_a_usize k way xs m n size x lt e is fits past =
-    let same : size_back_over k (drop m (map (entry_to_undo way) xs)) n ≡ size_back k (entry_to_undo way x) size =
-    ap (λ es. size_back_over k es n) (drop-map (entry_to_undo way) m xs ∙ entries_from way xs m x lt e) ∙ ap (size_back k (entry_to_undo way x)) (sym is) in
-    omega (arith, size_back_over-within k m (map (entry_to_undo way) xs) n, same, fits, past)
+-- a length past what a usize holds is more than the first
+pub past_a_usize : (way : Way) (xs : List Change) (m n long : ℕ) (x : Change) → m < length xs → x ≡ get_or xs m x → long ≡ length_back_over (map (entry_to_undo way) (drop (m + 1) xs)) n
+    → n < 2 ^ 64 → 2 ^ 64 ≤ length_back (entry_to_undo way x) long → n < greatest_back_over (map (entry_to_undo way) xs) n
+past_a_usize way xs m n long x lt e is fits past =
+    let same : length_back_over (drop m (map (entry_to_undo way) xs)) n ≡ length_back (entry_to_undo way x) long =
+    ap (λ es. length_back_over es n) (drop-map (entry_to_undo way) m xs ∙ entries_from way xs m x lt e) ∙ ap (length_back (entry_to_undo way x)) (sym is) in
+    omega (arith, length_back_over-within m (map (entry_to_undo way) xs) n, same, fits, past)
 
 -- the texts on the way ahead are those on the way back over the inverses, the last first
 pub texts_ahead-back : (es : List Entry) (text : List ℕ) → texts_back (map inverse (reverse es)) text ≡ texts_ahead es text
@@ -141,4 +126,4 @@ bytes_ahead-back (e ∷ es) =
 
 pub ruleset over_all = (GoesOver-astray, GoesOver-next, GoesOver-not, longer-by, bytes_back-one)
 
-pub ruleset back_so_far = (NeedsRoom-line, size_back_over-is, drop-map, drop_all, length-order, back-one_more, cursor-gone, IsBack-none, IsBack-fits, IsBack-next, entries_from, line_back-unwind, size_back_over-within)
+pub ruleset back_so_far = (NeedsRoom-line, length_back_over-is, drop-map, drop_all, length-order, back-one_more, cursor-gone, IsBack-none, IsBack-fits, IsBack-next, entries_from, line_back-unwind, length_back_over-within)

@@ -1,5 +1,5 @@
 -- A line that goes over changes of its record, back or ahead.
-use Rattle.rl_line.proofs.Common.{common_steps, ◌≡◌, ℕ, ◌+◌, ◌<◌, ◌≤◌, zero, suc, List, [], ◌∷◌, ◌++◌, length, take, drop, get_or, map, reverse, Option, Some, None, false, refl, sym, ap, subst, ◌∙◌, arith, append_assoc, true, length-append, bytes_eq-Decides, map-append, reverse-append, IsCharBoundary-at_seam, option_and_then, IsSome, is_some, unwrap_or, option_map_or, same_Some, IsCharBoundary, IsUtf8, is_boundary, Change, Line, stepped, if_standing, Entry, Changed, agree, event_of, inverse, replay_entries, unwind, Way, has_change, cursor_after, cursor_told, place_after, line_after, line_ahead, line_back, cursor_stands, Measure, entry_to_undo, text_after, text_back, size_back_over, greatest_back_over}
+use Rattle.rl_line.proofs.Common.{common_steps, ◌≡◌, ℕ, ◌+◌, ◌<◌, ◌≤◌, zero, suc, List, [], ◌∷◌, ◌++◌, length, take, drop, get_or, map, reverse, Option, Some, None, false, refl, sym, ap, subst, ◌∙◌, arith, append_assoc, true, length-append, bytes_eq-Decides, map-append, reverse-append, IsCharBoundary-at_seam, option_and_then, IsSome, is_some, unwrap_or, option_map_or, same_Some, IsCharBoundary, IsUtf8, is_boundary, Change, Line, stepped, if_standing, Entry, Changed, agree, event_of, inverse, replay_entries, unwind, Way, has_change, cursor_after, cursor_told, place_after, line_after, line_ahead, line_back, cursor_stands, entry_to_undo, text_after, text_back, length_back_over, greatest_back_over}
 use Rattle.rl_base.proofs.Texts.SwapLemmas.{apply-IsUtf8, Swaps, Swaps-Replace}
 use Rattle.rl_base.specs.Event.{apply}
 use Rattle.rl_base.proofs.Texts.TextLemmas.{is_boundary-means}
@@ -229,8 +229,8 @@ pub marks-replay : (len : ℕ) (es : List Entry) (text : List ℕ) → has_chang
 marks-replay len es text none = grind (arith, marks-unwind, marks-take, bytes_eq-Decides)
 
 -- no length on the way is past the greatest
-pub size_back_over-within : (k : Measure) (m : ℕ) (es : List Entry) (n : ℕ) → size_back_over k (drop m es) n ≤ greatest_back_over k es n
-size_back_over-within k zero [] n = omega arith
-size_back_over-within k (suc m) [] n = omega arith
-size_back_over-within k zero (e ∷ es) n = omega arith
-size_back_over-within k (suc m) (e ∷ es) n = omega (arith, size_back_over-within k m es n)
+pub length_back_over-within : (m : ℕ) (es : List Entry) (n : ℕ) → length_back_over (drop m es) n ≤ greatest_back_over es n
+length_back_over-within zero [] n = omega arith
+length_back_over-within (suc m) [] n = omega arith
+length_back_over-within zero (e ∷ es) n = omega arith
+length_back_over-within (suc m) (e ∷ es) n = omega (arith, length_back_over-within m es n)

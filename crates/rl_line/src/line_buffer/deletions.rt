@@ -142,6 +142,7 @@ impl LineBuffer {
     ) -> Result<bool, Refusal>
         ensures { Outcome L.step L.refused nothing_more (kill_plan self.old mvt.now) self.old self.new listener.old listener.new result }
     {
+        self.index_lines_for(mvt);
         let side = self.side_of(mvt);
         let range = self.killed(mvt);
         self.remove(range, side, listener)
@@ -151,7 +152,7 @@ impl LineBuffer {
     /// line's newline, and `BeginningOfLine` kills the cluster before the line. `ViFirstPrint` kills nothing.
     /// Answers whether something was killed. The listener hears the start of a kill first and its end last, also
     /// if nothing was killed or it refused. With `BackwardChar` and `ForwardChar` it hears of the deletion
-    /// alone. It takes no memory; if its listener refuses, the line stays as it was.
+    /// alone. It needs no memory; if its listener refuses, the line stays as it was.
     pub fn kill<L: DeleteListener>(
         &mut self,
         mvt: &Movement,
@@ -162,6 +163,7 @@ impl LineBuffer {
         if is_by_characters(mvt) {
             return self.delete_by(mvt, listener);
         }
+        self.index_lines_for(mvt);
         let side = self.side_of(mvt);
         let range = self.killed(mvt);
         self.kill_some(range, side, listener)
@@ -169,7 +171,7 @@ impl LineBuffer {
 
     /// Kills a range of byte places as a kill by a movement does: the listener hears the start of a kill, the deletion
     /// with the given direction, and the end. Moves the cursor to the range's start, and answers true; where the range
-    /// is empty it stays, and the answer is false. It takes no memory; if its listener refuses, the line stays as it
+    /// is empty it stays, and the answer is false. It needs no memory; if its listener refuses, the line stays as it
     /// was.
     pub fn kill_range<L: DeleteListener>(
         &mut self,
@@ -185,7 +187,7 @@ impl LineBuffer {
     }
 
     /// Deletes the last `n` grapheme clusters before the cursor (GNU readline: backward-delete-char).
-    /// Answers whether it deleted one: not at the start, nor for `n` = 0. It takes no memory; if its listener
+    /// Answers whether it deleted one: not at the start, nor for `n` = 0. It needs no memory; if its listener
     /// refuses, the line stays as it was.
     pub fn backspace<L: DeleteListener>(
         &mut self,
@@ -198,7 +200,7 @@ impl LineBuffer {
     }
 
     /// Deletes from the cursor to the end of its line, or the newline if the cursor is there (GNU
-    /// readline: kill-line). Answers whether the cursor was before the end of the text. It takes no memory;
+    /// readline: kill-line). Answers whether the cursor was before the end of the text. It needs no memory;
     /// if its listener refuses, the line stays as it was.
     pub fn kill_line<L: DeleteListener>(&mut self, listener: &mut L) -> Result<bool, Refusal>
         ensures { Outcome L.step L.refused nothing_more (kill_plan self.old EndOfLine) self.old self.new listener.old listener.new result }
@@ -206,7 +208,7 @@ impl LineBuffer {
         self.delete_by(&Movement::EndOfLine, listener)
     }
 
-    /// Deletes from the cursor to the end of the text. Answers whether the cursor was before the end. It takes
+    /// Deletes from the cursor to the end of the text. Answers whether the cursor was before the end. It needs
     /// no memory; if its listener refuses, the line stays as it was.
     pub fn kill_buffer<L: DeleteListener>(&mut self, listener: &mut L) -> Result<bool, Refusal>
         ensures { Outcome L.step L.refused nothing_more (kill_plan self.old EndOfBuffer) self.old self.new listener.old listener.new result }
@@ -216,14 +218,14 @@ impl LineBuffer {
 
     /// Deletes from the start of the cursor's line to the cursor, or the cluster before it where the cursor
     /// is there (GNU readline: unix-line-discard). Answers whether the cursor was past the start of the
-    /// text. It takes no memory; if its listener refuses, the line stays as it was.
+    /// text. It needs no memory; if its listener refuses, the line stays as it was.
     pub fn discard_line<L: DeleteListener>(&mut self, listener: &mut L) -> Result<bool, Refusal>
         ensures { Outcome L.step L.refused nothing_more (kill_plan self.old BeginningOfLine) self.old self.new listener.old listener.new result }
     {
         self.delete_by(&Movement::BeginningOfLine, listener)
     }
 
-    /// Deletes from the start of the text to the cursor. Answers whether the cursor was past the start. It takes
+    /// Deletes from the start of the text to the cursor. Answers whether the cursor was past the start. It needs
     /// no memory; if its listener refuses, the line stays as it was.
     pub fn discard_buffer<L: DeleteListener>(&mut self, listener: &mut L) -> Result<bool, Refusal>
         ensures { Outcome L.step L.refused nothing_more (kill_plan self.old BeginningOfBuffer) self.old self.new listener.old listener.new result }
@@ -233,7 +235,7 @@ impl LineBuffer {
 
     /// Deletes from the `n`-th start of a word before the cursor, or the text's start, to the cursor (GNU
     /// readline: backward-kill-word, unix-word-rubout). Answers whether the cursor was past the start. It
-    /// takes no memory; if its listener refuses, the line stays as it was.
+    /// needs no memory; if its listener refuses, the line stays as it was.
     pub fn delete_prev_word<L: DeleteListener>(
         &mut self,
         word: Word,
@@ -246,7 +248,7 @@ impl LineBuffer {
     }
 
     /// Deletes from the cursor to the `n`-th start or end of a word (GNU readline: kill-word). Answers whether
-    /// there is such a place. It takes no memory; if its listener refuses, the line stays as it was.
+    /// there is such a place. It needs no memory; if its listener refuses, the line stays as it was.
     pub fn delete_word<L: DeleteListener>(
         &mut self,
         at: At,
@@ -261,7 +263,7 @@ impl LineBuffer {
 
     /// Deletes between the cursor and the `n`-th hit of a search, or the farthest, with the hit's character
     /// for `Forward` and `Backward` (vi's `df`, `dt`, `dF` and `dT`). Answers whether there is one; for
-    /// `n` = 0 there is none. It takes no memory; if its listener refuses, the line stays as it was.
+    /// `n` = 0 there is none. It needs no memory; if its listener refuses, the line stays as it was.
     pub fn delete_to<L: DeleteListener>(
         &mut self,
         cs: CharSearch,

@@ -205,9 +205,9 @@ impl LineBuffer {
         ensures steps { Exchanges L.step L.refused a_copy range between text.now cursor self.old self.new listener.old listener.new result }
         ensures text { OnOk result (self.new.text ≡ replace_range self.old.text range.start range.end text.now) }
     {
-        let come = self.line.find_room_instead(range.start, range.end, text)?;
+        self.line.find_room_instead(range.start, range.end, text)?;
         self.line
-            .exchange_steps(range, between, text, come, cursor, listener)?;
+            .exchange_steps(range, between, text, cursor, listener)?;
         Ok(())
     }
 

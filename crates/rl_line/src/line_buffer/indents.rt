@@ -17,7 +17,7 @@ impl LineBuffer {
     /// most 32 at once. With `dedent` it instead takes out up to `amount` bytes of the line's leading blanks, up
     /// to a character's end (vi's `>` and `<`). For a movement within a line, or one that covers nothing, it
     /// takes the cursor's line. A cursor at the start of a line or after it moves with the text, to that start
-    /// at least. Answers true. Refused, it leaves the line as it is after the steps that it took. A dedent takes
+    /// at least. Answers true. Refused, it leaves the line as it is after the steps that it took. A dedent needs
     /// no memory: it is refused only if its listener refuses.
     #[tactic(auto, using(crate::proofs::Plans::IndentLemmas::shifts))]
     pub fn indent<L: ChangeListener>(
@@ -29,6 +29,7 @@ impl LineBuffer {
     ) -> Result<bool, Refusal>
         ensures { Outcome L.step L.refused room_by_step (indent_plan self.old mvt.now amount dedent) self.old self.new listener.old listener.new result }
     {
+        self.index_lines();
         let range = self.indented(mvt);
         let first = self.line_at(range.start);
         let last = self.line_at(range.start.max(range.end.saturating_sub(1)));

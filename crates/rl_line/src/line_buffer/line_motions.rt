@@ -15,6 +15,7 @@ impl LineBuffer {
     pub fn move_home(&mut self) -> bool
         ensures { Moved (unless_there self.old (home self.old)) self.old self.new result }
     {
+        self.index_lines();
         let start = self.home();
         self.move_elsewhere(start)
     }
@@ -24,6 +25,7 @@ impl LineBuffer {
     pub fn move_end(&mut self) -> bool
         ensures { Moved (unless_there self.old (line_end self.old)) self.old self.new result }
     {
+        self.index_lines();
         let end = self.line_end();
         self.move_elsewhere(end)
     }
@@ -34,6 +36,7 @@ impl LineBuffer {
     pub fn move_to_line_up(&mut self, n: RepeatCount, layout: &Layout) -> bool
         ensures { Moved (place_above layout.now self.old.text self.old.cursor n) self.old self.new result }
     {
+        self.index_lines();
         let place = self.place_above(n, layout);
         self.move_to_place(place)
     }
@@ -44,6 +47,7 @@ impl LineBuffer {
     pub fn move_to_line_down(&mut self, n: RepeatCount, layout: &Layout) -> bool
         ensures { Moved (place_below layout.now self.old.text self.old.cursor n) self.old self.new result }
     {
+        self.index_lines();
         let place = self.place_below(n, layout);
         self.move_to_place(place)
     }
@@ -61,6 +65,7 @@ impl LineBuffer {
     }
 
     // The place that a motion up by `n` lines goes to.
+    #[inline(always)]
     pub(super) fn place_above(&self, n: RepeatCount, layout: &Layout) -> Option<usize>
         ensures value { result ≡ place_above layout.now self.now.text self.now.cursor n }
         ensures boundary { IfSome result (IsCharBoundary self.now.text) }
@@ -72,6 +77,7 @@ impl LineBuffer {
     }
 
     // The place that a motion down by `n` lines goes to.
+    #[inline(always)]
     pub(super) fn place_below(&self, n: RepeatCount, layout: &Layout) -> Option<usize>
         ensures value { result ≡ place_below layout.now self.now.text self.now.cursor n }
         ensures boundary { IfSome result (IsCharBoundary self.now.text) }

@@ -8,11 +8,44 @@ ghost use Rattle.rl_line.specs.Ranges.{after_line};
 ghost use Rattle.rl_line.specs.LineRanges.{range_of_line};
 
 use crate::line_buffer::LineBuffer;
-use rl_base::RepeatCount;
+use rl_base::{Movement, RepeatCount};
 use std::ops::Range;
 
 impl LineBuffer {
-    /// The number of the cursor's line, from 0. It is looked up in the table of line starts by binary search.
+    /// Makes the table by which lines are looked up, if it is not there and there is memory for it. Motions, kills and
+    /// indents by lines do so by themselves. Call it before questions about lines: without it each looks through the text.
+    #[inline(always)]
+    pub fn index_lines(&mut self)
+        ensures { self.new ≡ self.old }
+    {
+        self.line.index_lines();
+    }
+
+    /// The same, if the movement goes by lines.
+    pub fn index_lines_for(&mut self, mvt: &Movement)
+        ensures { self.new ≡ self.old }
+    {
+        match mvt {
+            Movement::WholeLine
+            | Movement::BeginningOfLine
+            | Movement::EndOfLine
+            | Movement::FirstNonBlank
+            | Movement::LineUp(_)
+            | Movement::LineDown(_) => self.index_lines(),
+            Movement::BackwardWord(_, _)
+            | Movement::ForwardWord(_, _, _)
+            | Movement::ViCharSearch(_, _)
+            | Movement::ViFirstPrint
+            | Movement::BackwardChar(_)
+            | Movement::ForwardChar(_)
+            | Movement::WholeBuffer
+            | Movement::BeginningOfBuffer
+            | Movement::EndOfBuffer => {}
+        }
+    }
+
+    /// The number of the cursor's line, from 0. It is looked up in the table of line starts by binary search, if there is one
+    /// (`index_lines`); else the newlines before the cursor are counted.
     pub fn line_number(&self) -> usize
         ensures value { result ≡ line_number self.now.text self.now.cursor }
         ensures within { result ≤ last_line self.now.text }
@@ -43,15 +76,16 @@ impl LineBuffer {
         Some(self.start_of_line(i)..self.end_of_line(i))
     }
 
-    // The start numbered `k`, from 0, in the table.
+    // The start numbered `k`, from 0, of the lines except the first.
     #[tactic(auto, using(crate::proofs::Lines::LineStartLemmas::tables))]
     fn start(&self, k: usize) -> usize
         requires { k < last_line self.now.text }
         ensures start { result ≡ get_or (line_starts self.now.text) k 0 }
         ensures utf8 { IsUtf8 self.now.text }
     {
-        let line = &self.line;
-        line.starts.start(line.text.as_str(), k)
+        // So the proof knows that the text is UTF-8.
+        let _text = self.as_str();
+        self.line.start(k)
     }
 
     // The number of the line that a place lies in.
@@ -61,8 +95,7 @@ impl LineBuffer {
         ensures value { result ≡ line_number self.now.text pos }
         ensures within { result ≤ last_line self.now.text }
     {
-        let line = &self.line;
-        line.starts.line_number(line.text.as_str(), pos)
+        self.line.line_number(pos)
     }
 
     // The number of the last line.

@@ -93,6 +93,7 @@ impl LineBuffer {
     pub fn move_by(&mut self, mvt: &Movement, layout: &Layout) -> bool
         ensures { Moved (destination layout.now self.old mvt.now) self.old self.new result }
     {
+        self.index_lines_for(mvt);
         let place = self.destination(mvt, layout);
         self.move_to_place(place)
     }

@@ -5,7 +5,6 @@ ghost use Rattle.rl_line.specs.Plan.{Outcome, a_copy};
 ghost use Rattle.rl_line.specs.Transpositions.{are_two, clusters_around, end_of_cluster, exchanged_text, first_word, meeting_place, pull_back_plan, SwapsClusters, second_word, swap_plan, transpose_chars_plan, transpose_words_plan, word_end, word_start};
 
 use crate::line_buffer::LineBuffer;
-use crate::line_starts::newlines;
 use rl_base::places::{next_pos, next_word, prev_pos, prev_word};
 use rl_base::{At, ChangeListener, Direction, Refusal, RepeatCount, Word};
 use std::ops::Range;
@@ -51,13 +50,8 @@ impl LineBuffer {
         self.line
             .deletion_step(after, Direction::Forward, start, listener)?;
         let next = end_of_cluster(self.line.as_str(), front);
-        self.line.insertion_step(
-            front,
-            moved.as_str(),
-            newlines(moved.as_str()),
-            moved.len() + next,
-            listener,
-        )?;
+        self.line
+            .insertion_step(front, moved.as_str(), moved.len() + next, listener)?;
         Ok(())
     }
 
@@ -132,25 +126,12 @@ impl LineBuffer {
         let first_text = self.text_of(&first)?;
         let second_text = self.text_of(&second)?;
         let (start, between, end) = (first.start, first.end, second.end);
-        let come = self
-            .line
+        self.line
             .find_room_instead(second.start, second.end, first_text.as_str())?;
-        self.line.exchange_steps(
-            second,
-            between,
-            first_text.as_str(),
-            come,
-            between,
-            listener,
-        )?;
-        self.line.exchange_steps(
-            first,
-            start,
-            second_text.as_str(),
-            newlines(second_text.as_str()),
-            end,
-            listener,
-        )?;
+        self.line
+            .exchange_steps(second, between, first_text.as_str(), between, listener)?;
+        self.line
+            .exchange_steps(first, start, second_text.as_str(), end, listener)?;
         Ok(())
     }
 

@@ -6,7 +6,7 @@ use Rattle.rl_line.specs.Ranges.{killed}
 use Rattle.rl_line.proofs.Plans.HearingLemmas.{AreChanges}
 use Rattle.rl_session.specs.Commands.{stops, lent}
 use Rattle.rl_session.specs.declared.session.Fault.TheVariants.{NoMemory}
-use Rattle.rl_session.proofs.Sessions.IdleLemmas.{NoneStarts-edit_word, NoneStarts-indent, NoneStarts-insert, NoneStarts-kill, NoneStarts-removal, NoneStarts-transpose_chars, NoneStarts-transpose_words, NoneStarts-yank, NoneStarts-yank_pop}
+use Rattle.rl_session.proofs.Sessions.IdleLemmas.{NoneStarts-edit_word, NoneStarts-indent, NoneStarts-insert, NoneStarts-kill, NoneStarts-removal, NoneStarts-transpose_chars, NoneStarts-transpose_words, NoneStarts-yank, NoneStarts-lent, NoneStarts-popped}
 use Rattle.rl_base.specs.Event.{Delete}
 use Rattle.rl_line.specs.Record.{record_step}
 use Rattle.rl_line.proofs.Records.JoinLemmas.{after-Delete-nothing, after-InsertStr-nothing, fresh-Delete-nothing, fresh-InsertStr-nothing}
@@ -58,23 +58,15 @@ edit-changes takes condition plan telling (says.Refused BadPlace) c = tt
 edit-changes takes condition plan telling (says.Refused NoMemory) c = c
 edit-changes takes condition plan telling reply c = told-changes telling (edits plan) reply (λ a. c)
 
-lent-changes : (line : Line) (slot : Option (List ℕ)) (n : ℕ) → AreChanges (lent_plan line slot n).steps
-lent-changes line None n = tt
-lent-changes line (Some s) n = NoneStarts-yank line s n
-
-popped-changes : (line : Line) (slot : Option (ℕ × List ℕ)) → AreChanges (popped_plan line slot).steps
-popped-changes line None = tt
-popped-changes line (Some p) = NoneStarts-yank_pop line p.0 p.1
-
 other-changes : (old : State) (command : Command) (reply : Reply) → Changes (other_course old command reply)
 other-changes old (asks.Kill m) (says.Answer a) = NoneStarts-kill old.line m
 other-changes old (asks.Kill m) (says.Refused NoMemory) = NoneStarts-kill old.line m
 other-changes old (asks.KillRange i j side) (says.Answer a) = NoneStarts-removal old.line (unless_empty i j) side
 other-changes old (asks.KillRange i j side) (says.Refused NoMemory) = NoneStarts-removal old.line (unless_empty i j) side
-other-changes old (asks.Yank n) (says.Inserted a) = lent-changes old.line (yank old.pair.ring) n
-other-changes old (asks.Yank n) (says.Refused NoMemory) = lent-changes old.line (yank old.pair.ring) n
-other-changes old asks.YankPop (says.Inserted a) = popped-changes old.line (yank_pop old.pair.ring)
-other-changes old asks.YankPop (says.Refused NoMemory) = popped-changes old.line (yank_pop old.pair.ring)
+other-changes old (asks.Yank n) (says.Inserted a) = NoneStarts-lent old.line (yank old.pair.ring) n
+other-changes old (asks.Yank n) (says.Refused NoMemory) = NoneStarts-lent old.line (yank old.pair.ring) n
+other-changes old asks.YankPop (says.Inserted a) = NoneStarts-popped old.line (yank_pop old.pair.ring)
+other-changes old asks.YankPop (says.Refused NoMemory) = NoneStarts-popped old.line (yank_pop old.pair.ring)
 other-changes old _ (says.Refused NoMemory) = tt
 other-changes old _ _ = tt
 

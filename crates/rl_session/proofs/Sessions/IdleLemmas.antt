@@ -1,7 +1,7 @@
 -- No kill is on between the commands of a session: only a kill tells its start, and it tells its end too.
-use Rattle.rl_session.proofs.Common.{sym, cond_both, ◌≡◌, ℕ, ◌+◌, ◌-◌, ◌*◌, ◌==◌, ◌||◌, Bool, true, false, List, [], ◌∷◌, ◌++◌, length, Option, Some, None, ap, subst, ◌∙◌, inl, inr, remove_range, Range, Event, InsertChar, InsertStr, Replace, IsChange, Ring, after_deletion, popped_ring, ring_step, turned, yank_popped, yank_size, yanked, Direction, Refusal, Movement, insert_plan, too_long, yank_plan, yank_pop_plan, indent_plan, line_plan, lines_plan, parts, pushed, put_spaces, Told, kill_plan, removal, side_of, WordAction, edit_word_plan, respell, word_ahead, Line, stepped, Plan, listener_after, Done, Halted, or_no_memory, Entry, Begin, End, Changed, cursor_after, steps_ahead, are_two, first_word, pulled_back, second_word, transpose_chars_plan, transpose_words_plan, pair_step, pair_refused, Pair}
+use Rattle.rl_session.proofs.Common.{sym, cond_both, ◌≡◌, ℕ, ◌+◌, ◌-◌, ◌*◌, ◌==◌, ◌||◌, Bool, true, false, List, [], ◌∷◌, ◌++◌, length, Option, Some, None, ap, subst, ◌∙◌, inl, inr, remove_range, Range, Event, InsertChar, InsertStr, Replace, IsChange, Ring, after_deletion, popped_ring, ring_step, turned, yank_popped, yank_size, yanked, Direction, Refusal, Movement, insert_plan, too_long, yank_plan, yank_pop_plan, indent_plan, line_plan, lines_plan, parts, pushed, put_spaces, Told, kill_plan, removal, side_of, WordAction, edit_word_plan, respell, word_ahead, Line, stepped, Plan, listener_after, lent_plan, popped_plan, Taken, Done, Halted, or_no_memory, room_by_step, Outcome, listener_after_step, Result, Ok, Err, refl, Entry, Begin, End, Changed, cursor_after, steps_ahead, are_two, first_word, pulled_back, second_word, transpose_chars_plan, transpose_words_plan, pair_step, pair_refused, Pair}
 use Rattle.rl_base.specs.Event.{Delete}
-use Rattle.rl_base.specs.KillRing.{lent, yank}
+use Rattle.rl_base.specs.KillRing.{KeepsText, lent, yank}
 use Rattle.rl_line.specs.Plan.{Step}
 use Rattle.rl_line.specs.Ranges.{killed}
 use Rattle.rl_line.proofs.Plans.HearingLemmas.{AreChanges}
@@ -44,12 +44,56 @@ module _ (Keeps : Ring → Type 0) (heard : (event : Event) (r : Ring) → IsCha
 abbrev pub IsIdle : Ring → Type 0
 IsIdle r = r.killing ≡ false
 
+-- it stays as it is at each change
+idle-stays : (event : Event) (r : Ring) → IsChange event → IsIdle r → ring_step r event ≡ r
+idle-stays (InsertChar i c) r n h = refl
+idle-stays (InsertStr i s) r n h = refl
+idle-stays (Delete i s side) r n h = ap (λ b. after_deletion b s side r) h
+idle-stays (Replace i s t) r n h = refl
+idle-stays _ r n h = absurd n
+
 pub idle-step : (event : Event) (r : Ring) → IsChange event → IsIdle r → IsIdle (ring_step r event)
-idle-step (InsertChar i c) r n h = h
-idle-step (InsertStr i s) r n h = h
-idle-step (Delete i s side) r n h = ap (λ b. (after_deletion b s side r).killing) h ∙ h
-idle-step (Replace i s t) r n h = h
-idle-step _ r n h = absurd n
+idle-step event r n h = ap (λ (k : Ring). k.killing) (idle-stays event r n h) ∙ h
+
+-- and it needs no room
+idle-keeps : (event : Event) (r : Ring) → IsIdle r → ¬ (KeepsText r event)
+idle-keeps (Delete i s side) r h k = cc
+idle-keeps _ r h k = absurd k
+
+-- ---- an edit that a pair heard with an idle ring is one that it hears with another such ring
+module _ (r : Ring) (idle : IsIdle r) where
+  abbrev beside : Pair → Pair
+  beside p = record p { ring = r }
+
+  listener_after-beside : (cursor : ℕ) (steps : List Step) (p : Pair) → NoneStarts steps → listener_after pair_step cursor steps (beside p) ≡ beside (listener_after pair_step cursor steps p)
+  listener_after-beside cursor [] p n = refl
+  listener_after-beside cursor (s ∷ ss) p n =
+      let after = listener_after_step pair_step cursor s p in
+      ap (λ k. listener_after pair_step s.1 ss (record after { ring = k })) (idle-stays s.0 r n.0 idle) ∙ listener_after-beside s.1 ss after n.1
+
+  Taken-beside : (steps : List Step) (old new : Line) (p q : Pair) → NoneStarts steps → Taken pair_step steps old new p q → Taken pair_step steps old new (beside p) (beside q)
+  Taken-beside steps old new p q n t = record { line = t.line; listener = ap beside t.listener ∙ sym (listener_after-beside old.cursor steps p n) }
+
+  cause-beside : (p q : Pair) (e : Event) (w : Refusal) → IsChange e → IsIdle p.ring → or_no_memory pair_refused p e w q → or_no_memory pair_refused (beside p) e w (beside q)
+  cause-beside p q e w n h (inl c) = inl (c.0, ap beside c.1, c.2)
+  cause-beside p q e w n h (inr c) =
+      inr (c.0, c.1, c.2, elim c.3 [ inl k ↦ absurd (idle-keeps e p.ring h k.1) | inr k ↦ inr (sym (idle-stays e r n idle), k.1) ])
+
+  pub Outcome-beside : {A : Type 0} (plan : Plan A) (old new : Line) (p q : Pair) (result : Result A Refusal) → NoneStarts plan.steps → IsIdle p.ring
+      → Outcome pair_step pair_refused room_by_step plan old new p q result → Outcome pair_step pair_refused room_by_step plan old new (beside p) (beside q) result
+  Outcome-beside plan old new p q (Ok a) n h d = record { last = d.last; taken = Taken-beside plan.steps old d.last p q n d.taken; line = d.line; answered = d.answered }
+  Outcome-beside plan old new p q (Err w) n h d =
+      let parts = NoneStarts-first d.first d.next d.others (subst NoneStarts d.split n) in
+      let still = ring-taken IsIdle idle-step old.cursor d.first p d.middle d.taken.listener parts.0 h in
+      record {
+        first = d.first;
+        next = d.next;
+        others = d.others;
+        split = d.split;
+        middle = beside d.middle;
+        taken = Taken-beside d.first old new p d.middle parts.0 d.taken;
+        cause = cause-beside d.middle q d.next.0 w parts.1 still d.cause;
+      }
 
 -- the end of a kill was told, whatever was heard in it
 pub idle-Told : (b : Bool) (P : Pair → Pair → Type 0) (p q : Pair) → (P p q → q.ring.killing ≡ false) → Told pair_step b P p q → q.ring.killing ≡ false
@@ -81,6 +125,14 @@ NoneStarts-yank line s n =
 
 pub NoneStarts-yank_pop : (line : Line) (z : ℕ) (s : List ℕ) → NoneStarts (yank_pop_plan line z s).steps
 NoneStarts-yank_pop line z s = (tt, NoneStarts-yank (stepped line (remove_range line.text (line.cursor - z) line.cursor) (line.cursor - z)) s 1)
+
+pub NoneStarts-lent : (line : Line) (slot : Option (List ℕ)) (n : ℕ) → NoneStarts (lent_plan line slot n).steps
+NoneStarts-lent line None n = tt
+NoneStarts-lent line (Some s) n = NoneStarts-yank line s n
+
+pub NoneStarts-popped : (line : Line) (slot : Option (ℕ × List ℕ)) → NoneStarts (popped_plan line slot).steps
+NoneStarts-popped line None = tt
+NoneStarts-popped line (Some p) = NoneStarts-yank_pop line p.0 p.1
 
 pub NoneStarts-removal : (line : Line) (range : Option (Range ℕ)) (side : Direction) → NoneStarts (removal line range side).steps
 NoneStarts-removal line None side = tt

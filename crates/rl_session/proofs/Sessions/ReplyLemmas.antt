@@ -1,8 +1,8 @@
 -- What a command did, by what is replied to the outcome of its call.
-use Rattle.rl_session.proofs.Common.{Outcome, ToldOutcome, Bool, true, false, ◌≡◌, subst, sym, Result, Ok, Err, ℕ, Any, Option, IfOk, IfErr, OnOk, OnErr, Start, Refusal, Movement, NeedsRoom, Plan, room_by_step, Told, is_by_characters, kill_plan, Undone, steps_back, texts_back, last_of, Does, lent_plan, KeepsRing, WatchHears, pair_step, pair_refused, Pair, replied, State, Kill, Undo, Yank, Reply}
-use Rattle.rl_base.specs.KillRing.{yank}
+use Rattle.rl_session.proofs.Common.{Outcome, ToldOutcome, Bool, true, false, ◌≡◌, subst, sym, Result, Ok, Err, ℕ, Any, Option, IfOk, IfErr, OnOk, OnErr, Start, Refusal, Movement, NeedsRoom, room_by_step, Told, is_by_characters, kill_plan, Undone, steps_back, texts_back, last_of, Does, lent_plan, KeepsRing, WatchHears, pair_step, pair_refused, Pair, replied, State, Kill, Undo, Yank, YankPop, Reply}
+use Rattle.rl_base.specs.KillRing.{yank, yank_pop, yank_size}
 use Rattle.rl_base.specs.declared.listeners.Refusal.TheVariants as why
-use Rattle.rl_session.specs.Commands.{lent}
+use Rattle.rl_session.specs.Commands.{StandsYanked, lent, popped, popped_plan}
 use Rattle.rl_session.specs.declared.session.Reply.TheVariants as says
 use Rattle.rl_session.proofs.Sessions.PairLemmas.{Halted-pair}
 use Rattle.rl_session.proofs.Common.{arith}
@@ -21,12 +21,16 @@ pub Kill-replied : (m : Movement) {inside old : State} (new : State) (outcome : 
 Kill-replied m {inside} new (Ok a) v e options d = grind (arith, carried, Told-each)
 Kill-replied m {inside} new (Err w) v e options h = grind (arith, carried, Told-each, Halted-pair)
 
--- a yank whose text goes in as the one that was lent
-pub Yank-replied : (n : ℕ) (plan : Plan (Option Bool)) (inside old new : State) (outcome : Result (Option Bool) Refusal) {reply : Reply} → lent old ≡ inside → plan ≡ lent_plan old.line (yank old.pair.ring) n
-    → reply ≡ replied says.Inserted outcome → new.options ≡ inside.options
-    → Outcome pair_step pair_refused room_by_step plan inside.line new.line inside.pair new.pair outcome → Does old (Yank n) reply new
-Yank-replied n plan inside old new (Ok a) l p e options d = grind (arith)
-Yank-replied n plan inside old new (Err w) l p e options h = grind (arith, Halted-pair)
+-- a yank, or one of the text before it, which the ring lent
+pub Yank-replied : (n : ℕ) (inside old new : State) (outcome : Result (Option Bool) Refusal) {reply : Reply} → lent old ≡ inside → reply ≡ replied says.Inserted outcome → new.options ≡ inside.options
+    → Outcome pair_step pair_refused room_by_step (lent_plan old.line (yank old.pair.ring) n) inside.line new.line inside.pair new.pair outcome → Does old (Yank n) reply new
+Yank-replied n inside old new (Ok a) l e options d = grind (arith)
+Yank-replied n inside old new (Err w) l e options h = grind (arith, Halted-pair)
+
+pub Pop-replied : (inside old new : State) (outcome : Result (Option Bool) Refusal) {reply : Reply} → popped old ≡ inside → StandsYanked (yank_size old.pair.ring) old.line → reply ≡ replied says.Inserted outcome
+    → new.options ≡ inside.options → Outcome pair_step pair_refused room_by_step (popped_plan inside.line (yank_pop old.pair.ring)) inside.line new.line inside.pair new.pair outcome → Does old YankPop reply new
+Pop-replied inside old new (Ok a) l s e options d = grind (arith)
+Pop-replied inside old new (Err w) l s e options h = grind (arith, Halted-pair)
 
 -- a refused undo changed nothing
 same_state : (old new : State) → KeepsRing old new → new.pair.changes ≡ old.pair.changes → new.line ≡ old.line → new.pair.watch ≡ old.pair.watch → new ≡ old

@@ -1,11 +1,9 @@
 -- What holds whatever a call answered.
-use Rattle.rl_session.proofs.Common.{ToldOutcome, Outcome, Cut, replay_entries, Bool, false, true, inr, List, [], ◌∷◌, ◌+◌, ◌<◌, ◌==◌, cond, Result, Ok, Err, ◌≡◌, ◌∙◌, ap, arith, refl, subst, sym, append-nil, inl, ◌≤◌, ℕ, length, take_all, IsCharBoundary-start, IsUtf8-nil, Option, None, max, IsSome, Some, IfOk, IfErr, IsUtf8, Event, InsertStr, Start, Stop, HasText, Refusal, Line, Moved, Plan, single, Done, Halted, or_no_memory, Takes, nothing_more, a_copy, insert_str_plan, too_long, yank_plan, Told, Record, agree, replays_to, unwind, Redone, Undone, State, AtRest, Follows, Edited, lent_plan, popped, popped_plan, pair_step, pair_refused, Pair, IsCharBoundary, Walks, line_back, bytes_eq-Decides, same_Some}
+use Rattle.rl_session.proofs.Common.{ToldOutcome, Outcome, Cut, replay_entries, Bool, false, true, inr, List, [], Result, Ok, Err, ◌≡◌, ◌∙◌, ap, arith, refl, subst, sym, append-nil, inl, ◌≤◌, ℕ, length, take_all, IsCharBoundary-start, IsUtf8-nil, Option, None, max, IsSome, Some, IfOk, IfErr, IsUtf8, Event, Start, Stop, Refusal, Line, Moved, Plan, Done, Halted, or_no_memory, Takes, nothing_more, a_copy, insert_str_plan, Told, Record, agree, replays_to, unwind, Redone, Undone, AtRest, Follows, pair_step, pair_refused, Pair, IsCharBoundary, Walks, line_back, bytes_eq-Decides, same_Some}
 use Rattle.rl_base.proofs.Texts.EventLemmas.{apply-InsertStr}
 use Rattle.rl_base.specs.declared.listeners.Refusal.TheVariants as why
-use Rattle.rl_line.specs.Plan.{nothing}
 use Rattle.rl_line.proofs.Records.JoinLemmas.{record_step-Start, record_step-Stop}
 use Rattle.rl_line.proofs.Plans.PlanLemmas.{first_step}
-use Rattle.rl_session.specs.Commands.{lent}
 use Rattle.rl_line.proofs.Records.ForgettingLemmas.{Walks-forgotten}
 use Rattle.rl_line.proofs.Records.MoveLemmas.{redo-fits}
 use Rattle.rl_line.proofs.Lines.LineReadLemmas.{range-before, range-some}
@@ -132,30 +130,6 @@ follows_unwind r line f = grind (arith, value_of, line_back-unwind)
 -- and what was undone can be redone
 pub follows_replay : (r : Record) (line : Line) → Follows line r → IsSome (replay_entries r.pending line.text)
 follows_replay r line f = grind (arith, value_of, line_ahead-replay)
-
-Edited-nothing : {A : Type 0} (a : A) (s : State) → Edited (nothing s.line a) s s a
-Edited-nothing a s = record {
-  done = record { last = s.line; taken = record { line = refl; listener = refl }; line = refl; answered = refl };
-  options = refl;
-}
-
--- no text was lent, so nothing was done
-pub nothing_lent : (n : ℕ) (old : State) (slot : Option (List ℕ)) → ¬ (HasText slot) → (left : State) → left ≡ lent old → Edited (lent_plan old.line slot n) (lent old) left None
-nothing_lent n old None h left l = subst (λ s. Edited (lent_plan old.line None n) (lent old) s None) (sym l) (Edited-nothing None (lent old))
-nothing_lent n old (Some []) h left l = subst (λ s. Edited (lent_plan old.line None n) (lent old) s None) (sym l) (Edited-nothing None (lent old))
-nothing_lent n old (Some (c ∷ cs)) h left l = absurd (h (omega arith))
-
--- in no times any text that is not empty goes in as any other
-yanked-no_times : (line : Line) (s : List ℕ) → 0 < length s
-    → yank_plan line s 0 ≡ cond (too_long line (length line.text + 0)) (nothing line None) (single (InsertStr line.cursor []) (line.cursor + 0) (Some (line.cursor == length line.text)))
-yanked-no_times line s some = grind (arith)
-
-pub lent-no_times : (line : Line) (s : List ℕ) (slot : Option (List ℕ)) → 0 < length s → HasText slot → yank_plan line s 0 ≡ lent_plan line slot 0
-lent-no_times line s None some h = absurd h
-lent-no_times line s (Some t) some h = yanked-no_times line s some ∙ sym (yanked-no_times line t h)
-
-pub nothing_popped : (old : State) (slot : Option (ℕ × List ℕ)) → slot ≡ None → (left : State) → left ≡ popped old → Edited (popped_plan old.line slot) (popped old) left None
-nothing_popped old slot e left l = subst (λ s. Edited (popped_plan old.line s) (popped old) left None) (sym e) (subst (λ s. Edited (popped_plan old.line None) (popped old) s None) (sym l) (Edited-nothing None (popped old)))
 
 pub ruleset resting = (Walks-forgotten, Walks-begun, Walks-closed, Walks-truncated, replays-all, redone-walks, redo-fits, Walks-ahead)
 

@@ -48,17 +48,27 @@ impl Session {
         Reply::Answer(self.line.move_by(movement, &layout))
     }
 
-    pub(super) fn do_copy(&self, movement: &Movement) -> Reply
-        ensures { Does self.now (Command.Copy movement.now) result self.now }
+    pub(super) fn do_copy(&mut self, movement: &Movement) -> Reply
+        ensures { Does self.old (Command.Copy movement.now) result self.new }
     {
+        self.line.index_lines_for(movement);
         handed_out(self.line.copy(movement))
     }
 
-    pub(super) fn do_line_place(&self) -> Reply
-        ensures { Does self.now Command.LinePlace result self.now }
+    pub(super) fn do_line_place(&mut self) -> Reply
+        ensures { Does self.old Command.LinePlace result self.new }
     {
+        self.line.index_lines();
         let (k, columns) = self.line_column();
         Reply::At(k, columns)
+    }
+
+    /// Makes the table by which lines are looked up, if it is not there and there is memory for it, as
+    /// `LineBuffer::index_lines` does.
+    pub fn index_lines(&mut self)
+        ensures { self.new ≡ self.old }
+    {
+        self.line.index_lines();
     }
 
     /// Where the cursor stands, as `LinePlace` answers it: the number of its line, from 0, and the columns from that

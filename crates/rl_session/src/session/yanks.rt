@@ -1,17 +1,17 @@
 //! Kills and yanks, and when the ring is reset.
-ghost use Rattle.std.specs.Prelude.{◌≡◌, ◌<◌, ℕ, true, false, length, IfOk, OnErr};
-ghost use Rattle.std.specs.Option.{option_map};
-ghost use Rattle.std.specs.String.{string_bytes};
-ghost use Rattle.rl_base.specs.Text.{HasText};
+ghost use Rattle.std.specs.Prelude.{◌≡◌, ℕ, true, false};
 ghost use Rattle.rl_base.specs.KillRing.{yank, yanked, yank_pop, yank_popped, yank_size};
-ghost use Rattle.rl_session.specs.Commands.{Does, DoesWith, StandsYanked, readied, settled};
+ghost use Rattle.rl_line.specs.Plan.{Outcome, room_by_step};
+ghost use Rattle.rl_session.specs.Commands.{Does, DoesWith, StandsYanked, lent_plan, popped_plan, readied, settled};
+ghost use Rattle.rl_session.specs.Pair.{pair_step, pair_refused};
 ghost use Rattle.rl_session.specs.declared.session.Command.{Command};
 
+use crate::pair::Pair;
 use crate::session::replies::{answered, inserted};
 use crate::session::{Fault, Reply, Session};
-use rl_base::{Direction, KillRing, Mode, Movement, RepeatCount};
-use rl_line::is_by_characters;
-use std::alloc::{AllocError, Global};
+use rl_base::{Direction, KillRing, Mode, Movement, Refusal, RepeatCount};
+use rl_line::{LineBuffer, is_by_characters};
+use std::mem::replace;
 
 impl Session {
     pub(super) fn do_kill(&mut self, movement: &Movement) -> Reply
@@ -48,26 +48,10 @@ impl Session {
         ensures { Does self.old (Command.Yank n) result self.new }
     {
         self.stands();
-        if n == 0 {
-            return self.yank_no_times();
-        }
-        let text = match yanked(self.alloc, &mut self.pair.ring) {
-            Ok(Some(text)) => text,
-            Ok(None) => return Reply::Inserted(None),
-            Err(_) => return Reply::Refused(Fault::NoMemory),
-        };
-        inserted(self.line.yank(text.as_str(), n, &mut self.pair))
-    }
-
-    // Nothing goes in, whatever the text is, so it is not copied; an empty one is no yank.
-    fn yank_no_times(&mut self) -> Reply
-        ensures { Does self.old (Command.Yank 0) result self.new }
-    {
-        self.stands();
-        if !yanks_some(&mut self.pair.ring) {
-            return Reply::Inserted(None);
-        }
-        inserted(self.line.yank("-", 0, &mut self.pair))
+        let mut ring = replace(&mut self.pair.ring, KillRing::new(self.alloc, 0));
+        let outcome = yank_into(&mut self.line, &mut ring, n, &mut self.pair);
+        self.pair.ring = ring;
+        inserted(outcome)
     }
 
     // Whether the bytes that were yanked last can stand before the cursor.
@@ -88,12 +72,10 @@ impl Session {
             return Reply::Refused(Fault::BadYankSize);
         }
         self.stands();
-        let (size, text) = match popped(self.alloc, &mut self.pair.ring) {
-            Ok(Some(found)) => found,
-            Ok(None) => return Reply::Inserted(None),
-            Err(_) => return Reply::Refused(Fault::NoMemory),
-        };
-        inserted(self.line.yank_pop(size, text.as_str(), &mut self.pair))
+        let mut ring = replace(&mut self.pair.ring, KillRing::new(self.alloc, 0));
+        let outcome = pop_into(&mut self.line, &mut ring, &mut self.pair);
+        self.pair.ring = ring;
+        inserted(outcome)
     }
 
     // Resets the ring before a kill by a movement that does not go on from the kill before it.
@@ -116,49 +98,34 @@ impl Session {
     }
 }
 
-// Yanks, and answers whether the text has a byte.
-fn yanks_some(ring: &mut KillRing) -> bool
+// Yanks from a ring into a line, n times. A pair that hears of it has another ring, so the text is lent and not copied.
+fn yank_into(
+    line: &mut LineBuffer,
+    ring: &mut KillRing,
+    n: RepeatCount,
+    pair: &mut Pair,
+) -> Result<Option<bool>, Refusal>
     ensures ring { ring.new ≡ yanked ring.old }
-    ensures some { result ≡ true → HasText (yank ring.old) }
-    ensures none { result ≡ false → ¬ (HasText (yank ring.old)) }
+    ensures line { Outcome pair_step pair_refused room_by_step (lent_plan line.old (yank ring.old) n) line.old line.new pair.old pair.new result }
 {
     match ring.yank() {
-        Some(text) => !text.as_str().is_empty(),
-        None => false,
-    }
-}
-
-// A copy of the text that the ring yanks.
-fn yanked(alloc: Global, ring: &mut KillRing) -> Result<Option<String>, AllocError>
-    ensures ring { ring.new ≡ yanked ring.old }
-    ensures text { IfOk result (λ text. option_map string_bytes text ≡ yank ring.old) }
-    ensures lent { OnErr result (HasText (yank ring.old)) }
-{
-    match ring.yank() {
-        Some(text) => Ok(Some(copied(alloc, text.as_str())?)),
+        Some(text) => line.yank(text.as_str(), n, pair),
         None => Ok(None),
     }
 }
 
-// The length of the text that was yanked, and a copy of the one before it.
-fn popped(alloc: Global, ring: &mut KillRing) -> Result<Option<(usize, String)>, AllocError>
+// The same with the text before the one that was yanked, which takes that one's place.
+fn pop_into(
+    line: &mut LineBuffer,
+    ring: &mut KillRing,
+    pair: &mut Pair,
+) -> Result<Option<bool>, Refusal>
+    requires stands { StandsYanked (yank_size ring.old) line.old }
     ensures ring { ring.new ≡ yank_popped ring.old }
-    ensures text { IfOk result (λ found. option_map (λ p. (p.0, string_bytes p.1)) found ≡ yank_pop ring.old) }
-    ensures lent { OnErr result (HasText (option_map (λ p. p.1) (yank_pop ring.old))) }
+    ensures line { Outcome pair_step pair_refused room_by_step (popped_plan line.old (yank_pop ring.old)) line.old line.new pair.old pair.new result }
 {
     match ring.yank_pop() {
-        Some((size, text)) => Ok(Some((size, copied(alloc, text.as_str())?))),
+        Some((size, text)) => line.yank_pop(size, text.as_str(), pair),
         None => Ok(None),
     }
-}
-
-// A copy of a text, which takes no memory if the text is empty.
-fn copied(alloc: Global, text: &str) -> Result<String, AllocError>
-    ensures copy { IfOk result (λ copy. string_bytes copy ≡ text.now) }
-    ensures some { OnErr result (0 < length text.now) }
-{
-    if text.is_empty() {
-        return Ok(String::new(alloc));
-    }
-    String::from_str(alloc, text)
 }

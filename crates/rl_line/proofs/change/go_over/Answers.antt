@@ -1,7 +1,7 @@
-use Rattle.rl_line.proofs.Common.{◌≡◌, ◌+◌, ◌≤◌, ◌∙◌, List, ℕ, ap, arith, length, subst, sym, unwrap_or, Bytes, Newlines, IsUtf8, inverse, cursor_after, entry_to_undo, RoomyLine}
+use Rattle.rl_line.proofs.Common.{◌≡◌, ◌+◌, ◌≤◌, ◌∙◌, List, ℕ, ap, arith, length, subst, sym, unwrap_or, IsUtf8, inverse, cursor_after, entry_to_undo, RoomyLine}
 use Rattle.rl_line.proofs.Records.ChangeLemmas.{place-entry_to_undo}
 use Rattle.rl_line.proofs.Records.GoingLemmas.{GoesOver, goes_over, over-mark}
-use Rattle.rl_line.proofs.Records.RoomLemmas.{size_back-is}
+use Rattle.rl_line.proofs.Records.RoomLemmas.{length_back-is}
 use Rattle.rl_line.proofs.change.go_over.Goals as goal
 use Rattle.rl_line.proofs.change.go_over.Goals.{After-texts, After-unwrap_or-after}
 
@@ -45,10 +45,7 @@ swap_in-requires-clause-room c =
     let e = entry_to_undo c.args.way c.args.change.now in
     let text = c.args.line.now.line.text in
     let utf8 = subst IsUtf8 (c.as_str-text.ensures.value ∙ ap (λ (r : RoomyLine). r.line.text) c.line.view_is) c.as_str-text.utf8 in
-    rw (c.texts.ensures.going, c.texts.ensures.coming) (record {
-      bytes = omega (arith, c.requires.room, size_back-is Bytes e text _ utf8 d.makes);
-      starts = omega (arith, c.requires.table, size_back-is Newlines e text _ utf8 d.makes);
-    })
+    rw (c.texts.ensures.going, c.texts.ensures.coming) (omega (arith, c.requires.room, length_back-is e text _ utf8 d.makes))
 
 pub swap_in-requires-clause-cursor : goal.swap_in-requires-clause-cursor
 swap_in-requires-clause-cursor c =

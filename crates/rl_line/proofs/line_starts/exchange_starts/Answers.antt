@@ -10,20 +10,20 @@ gone c = omega (arith, c.line_number-first.ensures, c.line_number.ensures, newli
 within : (c : After-line_number) → c.line_number.result ≤ vec_len c.args.starts.now.places
 within c = omega (arith, c.line_number.ensures, newlines-take c.args.text.now c.args.to, length-table _ _ c.args.text.now c.requires.table, c.args.starts.now.places.ok.0)
 
-pub returns-clause-table : goal.returns-clause-table
-returns-clause-table c =
-    let d = (goal.at.returns-clause-table c).After-line_number in
+pub returns : goal.returns
+returns c = λ yes.
+    let d = (goal.at.returns c).After-line_number in
     let text = c.args.text.now in
     let part = c.args.part.now in
     let first = c.line_number-first.result in
     let places = c.move_border.new.self.places.items in
     let old = c.deref_mut.result.now in
     let rest = take_rest old first in
-    let many : first ≤ c.open_gap.new.places.len = omega (arith, c.open_gap.ensures.count, c.move_border.ensures.count, gone d, within d) in
+    let many : first ≤ c.open_gap.new.places.len = omega (arith, c.open_gap.ensures.count, c.reserve.ensures.len, c.move_border.ensures.count, gone d, within d) in
     let size = c.put_after_newlines.auto.places ∙ ap length rest ∙ length-drop first old ∙ ap (λ k. k - first) c.deref_mut.ensures.len in
-    let front = ap (take first) c.deref_mut.ensures.value ∙ c.open_gap.ensures.before in
+    let front = ap (take first) c.deref_mut.ensures.value ∙ c.open_gap.ensures.before ∙ ap (take first) c.reserve.ensures.items in
     let back : drop (count_by is_newline part) (drop first old) ≡ drop (first + (c.line_number.result - first)) places =
-    drop-drop (count_by is_newline part) first old ∙ ap (λ k. drop (first + k) old) (sym c.requires.come) ∙ ap (drop (first + c.args.come)) c.deref_mut.ensures.value ∙ c.open_gap.ensures.after in
+    drop-drop (count_by is_newline part) first old ∙ ap (λ k. drop (first + k) old) (sym c.requires.come) ∙ ap (drop (first + c.args.come)) c.deref_mut.ensures.value ∙ c.open_gap.ensures.after ∙ ap (drop (first + (c.line_number.result - first))) c.reserve.ensures.items in
     let is = ap (λ l. take first old ++ l) (c.put_after_newlines.ensures ∙ ap (λ l. after_newlines (c.args.from + 1) part ++ drop (count_by is_newline part) l) rest)
     ∙ ap₂ (λ l r. l ++ (after_newlines (c.args.from + 1) part ++ r)) front back in
     let table = subst (λ n. IsTable places n text) c.move_border.ensures.border c.move_border.ensures.table in

@@ -1,8 +1,8 @@
-use Rattle.rl_line.proofs.Common.{arith, ◌≡◌, ◌+◌, ◌-◌, ◌<◌, ◌≤◌, ℕ, [], ◌∷◌, length, map, drop, sym, ap, subst, ◌∙◌, IsUtf8, Line, listener_after, inverse, steps_ahead, steps_back, Measure, Bytes, Newlines, entry_to_undo, size_back, size_back_over, size_of, greatest_back_over, order, drop-map}
+use Rattle.rl_line.proofs.Common.{arith, ◌≡◌, ◌+◌, ◌-◌, ◌<◌, [], ◌∷◌, length, map, drop, sym, ap, subst, ◌∙◌, IsUtf8, Line, listener_after, inverse, steps_ahead, steps_back, entry_to_undo, length_back_over, length_back, order, drop-map}
 use Rattle.rl_line.proofs.Records.ChangeLemmas.{length-order}
 use Rattle.rl_line.proofs.Records.HeardLemmas.{back-one_more}
-use Rattle.rl_line.proofs.Records.UndoLemmas.{IsBack, IsBack-next, entries_from, line_back-unwind, size_back_over-within}
-use Rattle.rl_line.proofs.Records.RoomLemmas.{size_back_over-is}
+use Rattle.rl_line.proofs.Records.UndoLemmas.{IsBack, IsBack-next, entries_from, line_back-unwind, length_back_over-within}
+use Rattle.rl_line.proofs.Records.RoomLemmas.{length_back_over-is}
 use Rattle.rl_line.proofs.line_buffer.LineBuffer.go_over_all.Given.{Over}
 use Rattle.rl_line.proofs.line_buffer.LineBuffer.go_over_all.Goals as goal
 use Rattle.rl_line.proofs.line_buffer.LineBuffer.go_over_all.Goals.{After-nth_on-change}
@@ -23,26 +23,20 @@ inside g c = omega (arith, length-order c.args.way c.args.changes.now)
 utf8 : (g : Over) (c : After-nth_on-change g) → IsUtf8 c.args.self.now.text
 utf8 g c = subst IsUtf8 (c.as_str-text.ensures.value ∙ ap (λ (l : Line). l.text) c.self.view_is) c.as_str-text.utf8
 
--- there is room for the size that the text or the table gets, which is one on the way
-fits : (g : Over) (k : Measure) (room : ℕ) (c : After-nth_on-change g) → greatest_back_over k (map (entry_to_undo c.args.way) (order c.args.way c.args.changes.now)) (size_of k c.args.self.now.text) ≤ room
-    → size_back k (entry_to_undo c.args.way c.nth_on-change.result.now) (size_of k (now g c).text) ≤ room
-fits g k room c h =
+-- there is room for the text that comes, whose length is one on the way
+pub go_over-requires-clause-room : goal.go_over-requires-clause-room
+go_over-requires-clause-room g c =
+    let d = (goal.at.go_over-requires-clause-room g c).After-nth_on-change in
     let m = c.loop-left.left - 1 in
     let xs = order c.args.way c.args.changes.now in
-    let n = size_of k c.args.self.now.text in
+    let n = length c.args.self.now.text in
     let e = entry_to_undo c.args.way c.nth_on-change.result.now in
     let es = map (entry_to_undo c.args.way) (drop (m + 1) xs) in
-    let was : size_of k (now g c).text ≡ size_back_over k es n =
-    size_back_over-is k es c.args.self.now.text (now g c).text (utf8 g c) (line_back-unwind es c.args.self.now (now g c) (back g c).so_far) in
-    let same : size_back_over k (drop m (map (entry_to_undo c.args.way) xs)) n ≡ size_back k e (size_of k (now g c).text) =
-    ap (λ es. size_back_over k es n) (drop-map (entry_to_undo c.args.way) m xs ∙ entries_from c.args.way xs m c.nth_on-change.result.now (inside g c) c.nth_on-change.ensures) ∙ ap (size_back k e) (sym was) in
-    omega (arith, size_back_over-within k m (map (entry_to_undo c.args.way) xs) n, same, h)
-
-pub go_over-requires-clause-room : goal.go_over-requires-clause-room
-go_over-requires-clause-room g c = fits g Bytes _ (goal.at.go_over-requires-clause-room g c).After-nth_on-change c.loop-left.invariant.room
-
-pub go_over-requires-clause-table : goal.go_over-requires-clause-table
-go_over-requires-clause-table g c = fits g Newlines _ (goal.at.go_over-requires-clause-table g c).After-nth_on-change c.loop-left.invariant.table
+    let was : length (now g d).text ≡ length_back_over es n =
+    length_back_over-is es c.args.self.now.text (now g d).text (utf8 g d) (line_back-unwind es c.args.self.now (now g d) (back g d).so_far) in
+    let same : length_back_over (drop m (map (entry_to_undo c.args.way) xs)) n ≡ length_back e (length (now g d).text) =
+    ap (λ es. length_back_over es n) (drop-map (entry_to_undo c.args.way) m xs ∙ entries_from c.args.way xs m c.nth_on-change.result.now (inside g d) c.nth_on-change.ensures) ∙ ap (length_back e) (sym was) in
+    omega (arith, length_back_over-within m (map (entry_to_undo c.args.way) xs) n, same, c.loop-left.invariant.room)
 
 pub loop-left-preserved : goal.loop-left-preserved
 loop-left-preserved g c =
@@ -59,7 +53,6 @@ loop-left-preserved g c =
     record {
       back = IsBack-next c.args.way xs m x start (now g d) _ (inside g d) c.nth_on-change.ensures (back g d) taken.line;
       room = omega (arith, c.loop-left.invariant.room, taken.bytes);
-      table = omega (arith, c.loop-left.invariant.table, taken.starts);
       within = omega arith;
       heard = (rw c.pos-before.ensures at c.tell_over.ensures) ∙ ap (listener_after step (now g d).cursor (steps_ahead (now g d).cursor (inverse (entry_to_undo c.args.way x) ∷ []))) heard
           ∙ sym (back-one_more step (entry_to_undo c.args.way x) es start (now g d) c.args.listener.now (back g d).so_far)

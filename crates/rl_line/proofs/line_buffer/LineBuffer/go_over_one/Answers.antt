@@ -19,11 +19,11 @@ overflow_add-to g c =
 pub find_room_instead-requires : goal.find_room_instead-requires
 find_room_instead-requires g c = rw c.texts.ensures.going (goes g (goal.at.find_room_instead-requires g c).After-texts).range
 
-pub returns-in_err-come-clause-err : goal.returns-in_err-come-clause-err
-returns-in_err-come-clause-err g c =
+pub returns-in_err-find_room_instead-clause-err : goal.returns-in_err-find_room_instead-clause-err
+returns-in_err-find_room_instead-clause-err g c =
     let p = err_from_is_err_and c.from_residual.result c.from_residual.ensures.1 in
-    let refused = c.in_err-come.ensures.err in
-    let d = goes g (goal.at.returns-in_err-come-clause-err g c).After-texts in
+    let refused = c.in_err-find_room_instead.ensures.err in
+    let d = goes g (goal.at.returns-in_err-find_room_instead-clause-err g c).After-texts in
     let e = entry_to_undo c.args.way c.args.change.now in
     let text = c.self.inside.line.line.text in
     let more : NeedsRoom (new_text e) (old_text e) = rw (c.texts.ensures.going, c.texts.ensures.coming, d.bytes) at refused.1 in
@@ -44,7 +44,7 @@ swap_in-requires-clause-range g c = rw (c.find_room_instead.ensures.line, c.text
 pub swap_in-requires-clause-room : goal.swap_in-requires-clause-room
 swap_in-requires-clause-room g c =
     let to = c.in-Some.at + length c.texts.result.0.now in
-    subst (λ (l : Line). HasRoom (replace_range l.text c.in-Some.at to c.texts.result.1.now) c.find_room_instead.new.self) (sym c.find_room_instead.ensures.line) c.in_ok-come.ensures.room
+    subst (λ (l : Line). HasRoom (replace_range l.text c.in-Some.at to c.texts.result.1.now) c.find_room_instead.new.self) (sym c.find_room_instead.ensures.line) c.in_ok-find_room_instead.ensures.room
 
 pub swap_in-requires-clause-cursor : goal.swap_in-requires-clause-cursor
 swap_in-requires-clause-cursor g c =

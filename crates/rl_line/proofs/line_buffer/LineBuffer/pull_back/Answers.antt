@@ -8,7 +8,7 @@ pub insertion_step-requires-clause-room : goal.insertion_step-requires-clause-ro
 insertion_step-requires-clause-room g c =
     let d = c.in_ok-deletion_step.ensures in
     let moved = c.as_str-2.ensures.value ∙ c.in_ok-moved.ensures.ok ∙ ap (λ (l : Line). text_in l c.args.after) (sym c.self.view_is) in
-    HasRoom-moved c.self.inside.line.line.text _ _ c.args.after.start c.args.after.end c.args.front _ c.requires.order.1 (rw c.self.view_is c.requires.end.0) (ap (λ (l : Line). l.text) d.line) moved d.room.back
+    HasRoom-moved c.self.inside.line.line.text _ _ c.args.after.start c.args.after.end c.args.front c.deletion_step.new.self c.requires.order.1 (rw c.self.view_is c.requires.end.0) (ap (λ (l : Line). l.text) d.line) moved d.room.back
 
 pub returns-clause-outcome : goal.returns-clause-outcome
 returns-clause-outcome g c =

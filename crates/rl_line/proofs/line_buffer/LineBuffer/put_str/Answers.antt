@@ -1,4 +1,4 @@
-use Rattle.rl_line.proofs.Common.{arith, ◌∙◌, ap, length, count_by, Line, refl, inl, count_by-le-length, err_from_is_err_and, is_newline}
+use Rattle.rl_line.proofs.Common.{arith, ◌∙◌, ap, length, Line, refl, inl, err_from_is_err_and}
 use Rattle.rl_line.proofs.Lines.RoomyLemmas.{HasRoom-inserted}
 use Rattle.rl_line.proofs.Plans.PlanLemmas.{StepOutcome-with_room}
 use Rattle.rl_line.proofs.line_buffer.LineBuffer.put_str.Goals as goal
@@ -7,13 +7,11 @@ pub returns-in_err-find_room-clause-step : goal.returns-in_err-find_room-clause-
 returns-in_err-find_room-clause-step g c =
     let p = err_from_is_err_and c.from_residual.result c.from_residual.ensures.1 in
     let e = c.in_err-find_room.ensures.err in
-    rw (p.1, p.2) (record { kept = c.find_room.ensures.line ∙ c.self.view_is; cause = inl (e.0, refl, omega (arith, e.1, c.newlines-come.ensures, count_by-le-length is_newline c.args.text.now)) })
+    rw (p.1, p.2) (record { kept = c.find_room.ensures.line ∙ c.self.view_is; cause = inl (e.0, refl, omega (arith, e.1)) })
 
 pub insertion_step-requires-clause-room : goal.insertion_step-requires-clause-room
 insertion_step-requires-clause-room g c =
-    let e = c.in_ok-find_room.ensures in
-    HasRoom-inserted _ c.args.text.now c.args.idx _ (omega (arith, e.room, ap (λ (l : Line). length l.text) c.find_room.ensures.line))
-    (omega (arith, e.table, c.newlines-come.ensures, ap (λ (l : Line). count_by is_newline l.text) c.find_room.ensures.line))
+    HasRoom-inserted _ c.args.text.now c.args.idx c.find_room.new.self (omega (arith, c.in_ok-find_room.ensures.room, ap (λ (l : Line). length l.text) c.find_room.ensures.line))
 
 pub returns-clause-step : goal.returns-clause-step
 returns-clause-step g c = StepOutcome-with_room _ g.L.DeleteListener.refused _ _ _ _ _ _ (rw (c.find_room.ensures.line ∙ c.self.view_is) at c.insertion_step.ensures.step)

@@ -59,7 +59,7 @@ exchange_steps-requires-2-clause-cursor g c = (places (half g (goal.at.exchange_
 pub exchange_steps-requires-2-clause-room : goal.exchange_steps-requires-2-clause-room
 exchange_steps-requires-2-clause-room g c =
     let d = goal.at.exchange_steps-requires-2-clause-room g c in
-    HasRoom-swapped (half g d.After-as_str-3) _ (subst (λ (l : Line). HasRoom l.text c.exchange_steps.new.self) (kept g d.After-find_room_instead) c.in_ok-exchange_steps.ensures.room.back)
+    HasRoom-swapped (half g d.After-as_str-3) c.exchange_steps.new.self (subst (λ (l : Line). HasRoom l.text c.exchange_steps.new.self) (kept g d.After-find_room_instead) c.in_ok-exchange_steps.ensures.room.back)
 
 -- the steps of the first exchange
 taken : (g : Over) (c : After-as_str-3 g)

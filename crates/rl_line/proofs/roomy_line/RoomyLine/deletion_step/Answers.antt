@@ -1,11 +1,7 @@
 use Rattle.rl_line.proofs.Common.{ap, rules, subst, IsUtf8, IsUtf8-string_bytes, RoomyLine}
 use Rattle.rl_base.proofs.Texts.EventLemmas.{apply-Delete}
-use Rattle.rl_line.proofs.Lines.RoomyLemmas.{HasRoom-own, HasRoom-removed}
 use Rattle.rl_line.proofs.Plans.PlanLemmas.{Taken-one}
 use Rattle.rl_line.proofs.roomy_line.RoomyLine.deletion_step.Goals as goal
-
-pub swap_in-requires-clause-room : goal.swap_in-requires-clause-room
-swap_in-requires-clause-room g c = HasRoom-removed _ _ _ _ c.requires.range.0 c.requires.range.2.0 (HasRoom-own c.self.inside _ c.self.invariant c.self.view_is)
 
 pub returns-clause-step : goal.returns-clause-step
 returns-clause-step g c =

@@ -1,16 +1,23 @@
-use Rattle.rl_session.proofs.Common.{arith, rules, inl, refl, subst, sym, HasText, room_by_step}
-use Rattle.rl_session.proofs.Sessions.IdleLemmas.{NoneStarts-yank, idle-yanked}
-use Rattle.rl_session.proofs.Sessions.SessionLemmas.{AtRest-edit, nothing_lent}
+use Rattle.rl_base.specs.KillRing.{yank}
+use Rattle.rl_session.proofs.Common.{◌∙◌, ap, refl, sym, Ring, State, room_by_step, with_ring}
+use Rattle.rl_session.proofs.Sessions.IdleLemmas.{NoneStarts-lent, Outcome-beside, idle-yanked}
+use Rattle.rl_session.proofs.Sessions.ReplyLemmas.{Yank-replied}
+use Rattle.rl_session.proofs.Sessions.SessionLemmas.{AtRest-edit}
 use Rattle.rl_session.proofs.session.Session.do_yank.Goals as goal
 
-pub returns-in-Ok-None : goal.returns-in-Ok-None
-returns-in-Ok-None c = rw (← c.self.view_is) (nothing_lent _ (record { line = c.self.inside.line; pair = c.self.inside.pair; options = c.self.inside.options }) _ (subst HasText (sym (rw c.in-Ok-None.field-0-is at c.in-Ok-None.ensures.text))) _ (rw c.in-Ok-None.ensures.ring refl))
-
-pub returns-in-Err : goal.returns-in-Err
-returns-in-Err c = rw (← c.self.view_is) (inl ((omega (arith, c.if-n-eq0.false), c.in-Err.ensures.lent), rw c.in-Err.ensures.ring refl))
-
-pub invariant_of-self-2 : goal.invariant_of-self-2
-invariant_of-self-2 c = AtRest-edit room_by_step _ (record c.self.inside.pair { ring = c.yanked.new.ring }) c.yank.new.listener c.self.inside.line c.yank.new.self c.yank.result (rw (← c.self.view_is) at c.stands.ensures.cursor) (NoneStarts-yank c.self.inside.line _ c.args.n) c.yank.ensures (record { walks = c.self.invariant.walks; idle = idle-yanked c.self.inside.pair.ring c.yanked.new.ring c.yanked.ensures.ring c.self.invariant.idle })
+pub invariant_of-self : goal.invariant_of-self
+invariant_of-self c =
+    let out = rw c.replace-ring.ensures.value at c.yank_into-outcome.ensures in
+    let empty = ap (λ (k : Ring). k.killing) (c.replace-ring.ensures.after ∙ c.new.ensures) in
+    let heard = AtRest-edit room_by_step _ _ _ c.self.inside.line _ _ (rw (← c.self.view_is) at c.stands.ensures.cursor) (NoneStarts-lent c.self.inside.line (yank c.self.inside.pair.ring) c.args.n) out.line (record { walks = c.self.invariant.walks; idle = empty }) in
+    record { walks = heard.walks; idle = idle-yanked c.self.inside.pair.ring _ out.ring c.self.invariant.idle }
 
 pub returns : goal.returns
-returns c = search rules
+returns c =
+    let old : State = record { line = c.self.inside.line; pair = c.self.inside.pair; options = c.self.inside.options } in
+    let now = c.yank_into-outcome.new in
+    let new : State = record { line = now.line; pair = record now.pair { ring = now.ring }; options = old.options } in
+    let out = rw c.replace-ring.ensures.value at c.yank_into-outcome.ensures in
+    let empty = ap (λ (k : Ring). k.killing) (c.replace-ring.ensures.after ∙ c.new.ensures) in
+    let heard = Outcome-beside now.ring (idle-yanked old.pair.ring _ out.ring c.self.invariant.idle) _ old.line now.line _ now.pair _ (NoneStarts-lent old.line (yank old.pair.ring) c.args.n) empty out.line in
+    rw (← c.self.view_is) (Yank-replied c.args.n (with_ring now.ring old) old new _ (ap (λ k. with_ring k old) (sym out.ring)) c.inserted.ensures refl heard)
