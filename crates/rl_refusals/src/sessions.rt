@@ -6,6 +6,9 @@ use rl_line::{Changeset, LineBuffer};
 use rl_session::{Command, Fault, Reply};
 use std::alloc::{AllocError, Global};
 
+// Longer than what lies in an entry of the record, so that its insertion asks for memory.
+const WORD: &str = "longerthansixteen";
+
 // Commands that insert, kill, keep, yank, transpose, indent, replace, undo and copy.
 fn commands(alloc: Global) -> Result<[Command; 20], AllocError> {
     let pasted = String::from_str(alloc, "x\ny")?;
@@ -98,7 +101,7 @@ fn undo_between(rt: &impl Print, watched: &mut Watched) -> Result<(), Failed> {
     match watched.apply(rt, &Command::Undo(1))? {
         Reply::Answer(answer) => {
             watched.holds(answer, "the undo of the first event")?;
-            watched.leaves("ab", 0, 0, "the undone first event")
+            watched.leaves(WORD, 0, 0, "the undone first event")
         }
         _ => watched.leaves("", 0, 1, "a refused undo"),
     }
@@ -109,10 +112,10 @@ fn raise(rt: &impl Print, alloc: Global, watched: &mut Watched) -> Result<(), Fa
     match watched.apply(rt, &Command::EditWord(WordAction::Uppercase))? {
         Reply::Answer(answer) => {
             watched.holds(answer, "the answer to a word")?;
-            watched.leaves("AB", 2, 2, "the word in capitals")?;
+            watched.leaves("LONGERTHANSIXTEEN", 17, 2, "the word in capitals")?;
         }
         Reply::Refused(Fault::NoMemory) if watched.is_empty() => undo_between(rt, watched)?,
-        _ => watched.leaves("ab", 0, 0, "the word that was refused")?,
+        _ => watched.leaves(WORD, 0, 0, "the word that was refused")?,
     }
     watched.undo_all(rt, alloc)
 }
@@ -124,7 +127,7 @@ pub(crate) fn word_in_capitals(
     all: &mut Tally,
 ) -> Result<(), Failed> {
     let _ = println!(rt; "A word in capitals");
-    let Some(mut watched) = Watched::open(rt, alloc, all, "ab", 0)? else {
+    let Some(mut watched) = Watched::open(rt, alloc, all, WORD, 0)? else {
         return Ok(());
     };
     raise(rt, alloc, &mut watched)?;
