@@ -20,7 +20,7 @@ import sys
 from pathlib import Path
 
 TOP = Path(__file__).resolve().parent.parent
-# What the exports have for a type of C. A text is a slice: a pointer and a length.
+# What the exports have for a type of C. A text is a slice: a pointer and a length; so are places to write.
 KINDS = {
     "void": "",
     "int": "i32",
@@ -98,6 +98,7 @@ def calls_of(source, end):
         if ends == end and not result.startswith("static"):
             kinds = ", ".join(kind for _, kind in declared(given, ","))
             kinds = kinds.replace("*const u8, usize", "&[u8]").replace("*mut u8, usize", "&mut [u8]")
+            kinds = kinds.replace("&mut usize, usize", "&mut [usize]")
             kinds = re.sub(r"(?<!mut )\bView\b", "&[u8]", kinds)
             found[name] = f"({kinds}) -> {in_crate(result)}"
     return found

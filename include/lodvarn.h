@@ -73,9 +73,10 @@ extern "C" {
 #define LODVARN_VERSION_OF_(major, minor, patch) LODVARN_DOTTED_(major, minor, patch)
 #define LODVARN_DOTTED_(major, minor, patch) #major "." #minor "." #patch
 
-/* No limit for the text, and no bound for the record. */
+/* No limit for the text, and no bound for the record; and of motions by rows, the column of the cursor. */
 #define LODVARN_NO_LIMIT SIZE_MAX
 #define LODVARN_NO_BOUND SIZE_MAX
+#define LODVARN_OWN_COLUMN SIZE_MAX
 
 /* A session. */
 typedef struct lodvarn lodvarn;
@@ -183,13 +184,14 @@ typedef struct lodvarn_movement {
     size_t n;
 } lodvarn_movement;
 
-/* A screen: how many columns it has; the column where the text begins, after a prompt; and the distance of tab stops, 0
- * if a tab is as wide as lodvarn_width tells. */
+/* A screen. What is left out of { .columns = 80 } but the mode is 0, and fits a screen without prompts or tab stops. */
 typedef struct lodvarn_screen {
-    uint16_t columns;
-    uint16_t prompt;
-    uint16_t tab;
-    enum lodvarn_mode mode;
+    uint16_t columns;       /* how many columns a row has */
+    uint16_t prompt;        /* the column where the text begins, after a prompt */
+    uint16_t tab;           /* the distance of tab stops; 0 if a tab is as wide as lodvarn_width tells */
+    enum lodvarn_mode mode; /* how columns are counted */
+    uint16_t continuation;  /* the column where each line after the first begins, after another prompt */
+    uint16_t controls;      /* the columns of a control character, as 2 for ^A; 0 if as many as lodvarn_width tells */
 } lodvarn_screen;
 
 /* What may be chosen of a session. size is sizeof(lodvarn_options), so that a later version may add members. Begin with
@@ -413,8 +415,8 @@ int lodvarn_copy(lodvarn *s, lodvarn_movement movement, char *out, size_t cap, s
  * there. Each line is a change or more, see lodvarn_transpose_chars. Errors: NO_MEMORY. */
 int lodvarn_indent(lodvarn *s, lodvarn_movement movement, uint8_t amount, enum lodvarn_indentation indentation);
 
-/* Begins an undo group: once it is closed, one undo takes back all its changes. Groups may be nested. Errors:
- * NO_MEMORY. */
+/* Begins an undo group: once it is closed, one undo takes back all its changes. Groups may be nested. What was undone is
+ * forgotten, also if nothing changes in the group: begin one only if a change is to come. Errors: NO_MEMORY. */
 int lodvarn_begin_group(lodvarn *s);
 
 /* Closes the innermost group; lodvarn_end_all_groups all that are open. Returns NOTHING if it had no change, or none is
@@ -523,6 +525,15 @@ int lodvarn_destination(lodvarn *s, lodvarn_movement movement, size_t *place);
  * NOTHING if the place is the end of the text. Errors: BAD_PLACE. */
 int lodvarn_cluster_at(lodvarn *s, size_t place, lodvarn_cluster *cluster);
 
+/* Tells the place n rows above the cursor on a screen; n rows below it: the last one of that row whose column is not
+ * after *column. Begin with LODVARN_OWN_COLUMN in *column, for which the cursor's is taken and written there, and pass
+ * that to the next such call: then the cursor comes back to its column over a shorter row. Each line is laid out by
+ * itself, as by lodvarn_rows, the first after the prompt of the screen, and the others after its continuation. It costs
+ * what the lines on the way have. Returns NOTHING if there are fewer rows. Errors: NO_SUCH_NUMBER also if the screen
+ * has no columns. */
+int lodvarn_row_above(lodvarn *s, const lodvarn_screen *screen, size_t n, size_t *column, size_t *place);
+int lodvarn_row_below(lodvarn *s, const lodvarn_screen *screen, size_t n, size_t *column, size_t *place);
+
 /* Returns the number of entries of the record, the marks of groups too; and how many groups are open. */
 size_t lodvarn_entries(lodvarn *s);
 size_t lodvarn_level(lodvarn *s);
@@ -569,8 +580,8 @@ int lodvarn_first_cluster(const char *text, size_t len, size_t *bytes);
 int lodvarn_last_cluster(const char *text, size_t len, size_t *bytes);
 
 /* Finds where a place of a text is on a screen: its row, in line, and its column. The text begins at column prompt of
- * row 0. A newline, "\n" or "\r\n", leads to the next row. A cluster that does not fit in the rest of its row goes
- * whole to the next row. A place at the right edge is column 0 of the next row, and one inside a cluster is where the
+ * row 0. A newline, "\n" or "\r\n", leads to column continuation of the next row. A cluster that does not fit in the
+ * rest of its row goes whole to the next row. A place at the right edge is column 0 of the next row, and one inside a cluster is where the
  * cluster starts. A tab goes to the next column of its row that is a multiple of tab, or to the right edge if that is
  * nearer. Errors: BAD_PLACE, NO_SUCH_NUMBER also if the screen has no columns. */
 int lodvarn_cell(const lodvarn_screen *screen, size_t place, const char *text, size_t len, lodvarn_position *cell);
@@ -579,6 +590,12 @@ int lodvarn_cell(const lodvarn_screen *screen, size_t place, const char *text, s
  * whose cell, by lodvarn_cell, is that one or comes before it, by rows and then by columns; 0 if all come after it.
  * Errors: NO_SUCH_NUMBER also if the screen has no columns. */
 int lodvarn_place_at(const lodvarn_screen *screen, lodvarn_position cell, const char *text, size_t len, size_t *place);
+
+/* Finds the rows of a text on a screen, as lodvarn_cell lays it out: writes the place where each begins to starts, from
+ * row 0 on, as many as cap, and sets *count to how many rows there are. A row goes on to the place where the next one
+ * begins. Lay out the lines that are on the screen alone, by lodvarn_find_line and lodvarn_slice, with their prompt.
+ * Errors: NO_SUCH_NUMBER also if the screen has no columns. */
+int lodvarn_rows(const lodvarn_screen *screen, const char *text, size_t len, size_t *starts, size_t cap, size_t *count);
 
 #ifdef __cplusplus
 }

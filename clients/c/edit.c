@@ -22,7 +22,7 @@ static const uint16_t prompt_columns = 2;
 
 /* A screen of that many columns, where a tab is drawn as a blank. */
 static lodvarn_screen screen_of(uint16_t columns) {
-    return (lodvarn_screen){columns, prompt_columns, 0, LODVARN_UNICODE};
+    return (lodvarn_screen){.columns = columns, .prompt = prompt_columns, .mode = LODVARN_UNICODE};
 }
 
 /* The screen. Prompt and text make rows, as lodvarn_cell counts them, up to the row last. Those from top to bottom are

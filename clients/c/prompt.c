@@ -30,7 +30,8 @@ static void draw(void) {
     if (ioctl(1, TIOCGWINSZ, &size) || !size.ws_col) size.ws_col = 80;
     lodvarn_find_cursor(s, &cursor);
     cursor.column += 8;
-    lodvarn_place_at(&(lodvarn_screen){UINT16_MAX, size.ws_col, 0, LODVARN_UNICODE}, cursor, line.at, pos, &from);
+    lodvarn_screen row = {.columns = UINT16_MAX, .prompt = size.ws_col, .mode = LODVARN_UNICODE};
+    lodvarn_place_at(&row, cursor, line.at, pos, &from);
     lodvarn_width(LODVARN_UNICODE, line.at + from, pos - from, &width);
     dprintf(1, "\r\x1b[?7l$ %.*s\x1b[K\x1b[?7h\r\x1b[%dC", (int)(line.len - from), line.at + from, 2 + (int)width);
 }

@@ -205,7 +205,7 @@ static int step_of_told(unsigned which) {
 
 /* A text is UTF-8, and the cursor is a place of it. */
 static int is_sound(int answer, lodvarn_view text, size_t pos) {
-    static const lodvarn_screen screen = {80, 0, 8, LODVARN_UNICODE};
+    static const lodvarn_screen screen = {80, 0, 8, LODVARN_UNICODE, 0, 0};
     lodvarn_position cell;
     return answer == LODVARN_DONE && lodvarn_cell(&screen, pos, text.at, text.len, &cell) == LODVARN_DONE;
 }
@@ -298,7 +298,7 @@ static int script_tells_its_length(size_t request) {
 /* The calls whose comments name no NO_MEMORY, one after the other. */
 static int frugal_step(unsigned which) {
     static const char text[] = "e\u0301 \U0001F468\u200D\U0001F469\n日本";
-    static const lodvarn_screen screen = {2, 0, 8, LODVARN_UNICODE};
+    static const lodvarn_screen screen = {2, 0, 8, LODVARN_UNICODE, 0, 0};
     enum { LEN = sizeof text - 1 };
     lodvarn_options options = LODVARN_OPTIONS;
     lodvarn_view view;
@@ -308,7 +308,7 @@ static int frugal_step(unsigned which) {
     lodvarn_splice splice;
     lodvarn_report report;
     char out[64];
-    size_t n;
+    size_t n, column = LODVARN_OWN_COLUMN;
     CALL(lodvarn_set_pos(s, 1));
     CALL(lodvarn_move(s, lodvarn_words_forward(LODVARN_VI, LODVARN_AT_START, 1)));
     CALL(lodvarn_move(s, lodvarn_search_for(LODVARN_BACK_TO, 'a', 1)));
@@ -342,6 +342,9 @@ static int frugal_step(unsigned which) {
     CALL(lodvarn_last_cluster(text, LEN, &n));
     CALL(lodvarn_cell(&screen, LEN, text, LEN, &position));
     CALL(lodvarn_place_at(&screen, position, text, LEN, &n));
+    CALL(lodvarn_rows(&screen, text, LEN, NULL, 0, &n));
+    CALL(lodvarn_row_above(s, &screen, 1, &column, &n));
+    CALL(lodvarn_row_below(s, &screen, 1, &column, &n));
     CALL(lodvarn_line_text(l, &view));
     CALL(lodvarn_line_slice(l, range(1, 2), &view));
     CALL(-!(lodvarn_line_pos(l) && lodvarn_line_limit(l) && lodvarn_line_count_reports(l)));

@@ -440,68 +440,75 @@ struct laid {
 
 /* The cell of each place; and the place is the last one at that cell. */
 static const struct laid cells[] = {
-    {"nothing, without a prompt", "", 0, {10, 0, 0, U}, {0, 0}},
-    {"nothing, after a prompt", "", 0, {10, 2, 0, U}, {0, 2}},
-    {"two letters after a prompt", "ab", 2, {10, 2, 0, U}, {0, 4}},
-    {"a newline leads below, and to the left", "ab\ncd", 3, {10, 2, 0, U}, {1, 0}},
-    {"and letters go on there", "ab\ncd", 5, {10, 2, 0, U}, {1, 2}},
-    {"so does the one cluster of a carriage return and a newline", "ab\r\ncd", 5, {10, 2, 0, U}, {1, 1}},
-    {"newlines alone", "\n\n", 2, {10, 5, 0, U}, {2, 0}},
-    {"before the right edge", "abcd", 3, {4, 0, 0, U}, {0, 3}},
-    {"the right edge is the next row", "abcd", 4, {4, 0, 0, U}, {1, 0}},
-    {"and the next letter stands there", "abcde", 5, {4, 0, 0, U}, {1, 1}},
-    {"a prompt counts for its row alone", "abcdef", 6, {4, 2, 0, U}, {2, 0}},
-    {"a newline at the edge makes one row", "abcd\ne", 5, {4, 0, 0, U}, {1, 0}},
-    {"and the letter after it stands on that", "abcd\ne", 6, {4, 0, 0, U}, {1, 1}},
-    {"a wide letter that fits to the edge", "ab漢", 5, {4, 0, 0, U}, {1, 0}},
-    {"before a wide letter that does not fit", "abc漢", 3, {4, 0, 0, U}, {0, 3}},
-    {"a wide letter that does not fit is whole below", "abc漢", 6, {4, 0, 0, U}, {1, 2}},
-    {"a family is one cluster", FAMILY "x", 18, {10, 0, 0, U}, {0, 2}},
-    {"or three characters", FAMILY "x", 18, {10, 0, 0, W}, {0, 6}},
-    {"or three parts", FAMILY "x", 18, {10, 0, 0, Z}, {0, 6}},
-    {"a mark takes no column", "e\u0301x", 3, {10, 0, 0, U}, {0, 1}},
-    {"a prompt up to the edge", "", 0, {4, 4, 0, U}, {1, 0}},
-    {"a letter that is wider than the screen", "漢", 3, {1, 0, 0, U}, {2, 0}},
-    {"a tab as wide as it is measured", "a\tb", 3, {80, 0, 0, U}, {0, 3}},
-    {"or of no column", "a\tb", 3, {80, 0, 0, W}, {0, 2}},
-    {"a tab to the next multiple", "a\tb", 2, {80, 0, 8, U}, {0, 8}},
-    {"in each mode", "a\tb", 2, {80, 0, 8, W}, {0, 8}},
-    {"and the letter after it", "a\tb", 3, {80, 0, 8, U}, {0, 9}},
-    {"before it", "a\tb", 1, {80, 0, 8, U}, {0, 1}},
-    {"multiples of four", "a\tb", 2, {80, 0, 4, U}, {0, 4}},
-    {"a tab at a multiple", "abcd\t", 5, {80, 0, 4, U}, {0, 8}},
-    {"a tab after a prompt", "\t", 1, {80, 2, 8, U}, {0, 8}},
-    {"a tab on the next line", "abc\n\t\t", 6, {80, 2, 8, U}, {1, 16}},
-    {"a tab on a wrapped row", "abcdef\t", 7, {5, 0, 4, U}, {1, 4}},
-    {"a tab ends at the right edge", "abcdefghi\t", 10, {12, 0, 8, U}, {1, 0}},
-    {"and a letter after it stands on the next row", "abcdefghi\tj", 11, {12, 0, 8, U}, {1, 1}},
-    {"a tab at the right edge goes to the next row", "abcd\t", 5, {4, 0, 3, U}, {1, 3}},
-    {"a tab that is wider than the screen", "\t", 1, {4, 0, 8, U}, {1, 0}},
+    {"nothing, without a prompt", "", 0, {10, 0, 0, U, 0, 0}, {0, 0}},
+    {"nothing, after a prompt", "", 0, {10, 2, 0, U, 0, 0}, {0, 2}},
+    {"two letters after a prompt", "ab", 2, {10, 2, 0, U, 0, 0}, {0, 4}},
+    {"a newline leads below, and to the left", "ab\ncd", 3, {10, 2, 0, U, 0, 0}, {1, 0}},
+    {"and letters go on there", "ab\ncd", 5, {10, 2, 0, U, 0, 0}, {1, 2}},
+    {"so does the one cluster of a carriage return and a newline", "ab\r\ncd", 5, {10, 2, 0, U, 0, 0}, {1, 1}},
+    {"newlines alone", "\n\n", 2, {10, 5, 0, U, 0, 0}, {2, 0}},
+    {"a line after another prompt", "ab\ncd", 4, {10, 2, 0, U, 3, 0}, {1, 4}},
+    {"that leaves no column", "ab\ncd", 4, {10, 2, 0, U, 10, 0}, {2, 1}},
+    {"a control character of two columns", "a\1b", 2, {10, 0, 0, U, 0, 2}, {0, 3}},
+    {"a delete of as many", "a\177b", 2, {10, 0, 0, W, 0, 2}, {0, 3}},
+    {"and one of two bytes", "a\302\200b", 3, {10, 0, 0, U, 0, 4}, {0, 5}},
+    {"but no tab with stops", "\1\t", 2, {10, 0, 4, U, 0, 2}, {0, 4}},
+    {"which is one without", "\1\t", 2, {10, 0, 0, U, 0, 2}, {0, 4}},
+    {"before the right edge", "abcd", 3, {4, 0, 0, U, 0, 0}, {0, 3}},
+    {"the right edge is the next row", "abcd", 4, {4, 0, 0, U, 0, 0}, {1, 0}},
+    {"and the next letter stands there", "abcde", 5, {4, 0, 0, U, 0, 0}, {1, 1}},
+    {"a prompt counts for its row alone", "abcdef", 6, {4, 2, 0, U, 0, 0}, {2, 0}},
+    {"a newline at the edge makes one row", "abcd\ne", 5, {4, 0, 0, U, 0, 0}, {1, 0}},
+    {"and the letter after it stands on that", "abcd\ne", 6, {4, 0, 0, U, 0, 0}, {1, 1}},
+    {"a wide letter that fits to the edge", "ab漢", 5, {4, 0, 0, U, 0, 0}, {1, 0}},
+    {"before a wide letter that does not fit, where it stands", "abc漢", 3, {4, 0, 0, U, 0, 0}, {1, 0}},
+    {"a wide letter that does not fit is whole below", "abc漢", 6, {4, 0, 0, U, 0, 0}, {1, 2}},
+    {"a family is one cluster", FAMILY "x", 18, {10, 0, 0, U, 0, 0}, {0, 2}},
+    {"or three characters", FAMILY "x", 18, {10, 0, 0, W, 0, 0}, {0, 6}},
+    {"or three parts", FAMILY "x", 18, {10, 0, 0, Z, 0, 0}, {0, 6}},
+    {"a mark takes no column", "e\u0301x", 3, {10, 0, 0, U, 0, 0}, {0, 1}},
+    {"a prompt up to the edge", "", 0, {4, 4, 0, U, 0, 0}, {1, 0}},
+    {"a letter that is wider than the screen", "漢", 3, {1, 0, 0, U, 0, 0}, {2, 0}},
+    {"a tab as wide as it is measured", "a\tb", 3, {80, 0, 0, U, 0, 0}, {0, 3}},
+    {"or of no column", "a\tb", 3, {80, 0, 0, W, 0, 0}, {0, 2}},
+    {"a tab to the next multiple", "a\tb", 2, {80, 0, 8, U, 0, 0}, {0, 8}},
+    {"in each mode", "a\tb", 2, {80, 0, 8, W, 0, 0}, {0, 8}},
+    {"and the letter after it", "a\tb", 3, {80, 0, 8, U, 0, 0}, {0, 9}},
+    {"before it", "a\tb", 1, {80, 0, 8, U, 0, 0}, {0, 1}},
+    {"multiples of four", "a\tb", 2, {80, 0, 4, U, 0, 0}, {0, 4}},
+    {"a tab at a multiple", "abcd\t", 5, {80, 0, 4, U, 0, 0}, {0, 8}},
+    {"a tab after a prompt", "\t", 1, {80, 2, 8, U, 0, 0}, {0, 8}},
+    {"a tab on the next line", "abc\n\t\t", 6, {80, 2, 8, U, 0, 0}, {1, 16}},
+    {"a tab on a wrapped row", "abcdef\t", 7, {5, 0, 4, U, 0, 0}, {1, 4}},
+    {"a tab ends at the right edge", "abcdefghi\t", 10, {12, 0, 8, U, 0, 0}, {1, 0}},
+    {"and a letter after it stands on the next row", "abcdefghi\tj", 11, {12, 0, 8, U, 0, 0}, {1, 1}},
+    {"a tab at the right edge goes to the next row", "abcd\t", 5, {4, 0, 3, U, 0, 0}, {1, 3}},
+    {"a tab that is wider than the screen", "\t", 1, {4, 0, 8, U, 0, 0}, {1, 0}},
 };
 
 /* The place at each cell. */
 static const struct laid places[] = {
-    {"no text, far away", "", 0, {10, 2, 0, U}, {7, 7}},
-    {"on the prompt", "ab\ncd", 0, {10, 2, 0, U}, {0, 1}},
-    {"at the start", "ab\ncd", 0, {10, 2, 0, U}, {0, 2}},
-    {"between two letters", "ab\ncd", 1, {10, 2, 0, U}, {0, 3}},
-    {"at the end of a line", "ab\ncd", 2, {10, 2, 0, U}, {0, 4}},
-    {"to the right of a line", "ab\ncd", 2, {10, 2, 0, U}, {0, SIZE_MAX}},
-    {"inside it", "ab\ncd", 4, {10, 2, 0, U}, {1, 1}},
-    {"to the right of the last line", "ab\ncd", 5, {10, 2, 0, U}, {1, 9}},
-    {"below the last line", "ab\ncd", 5, {10, 2, 0, U}, {SIZE_MAX, 0}},
-    {"before a wide letter", "a漢b", 1, {10, 0, 0, U}, {0, 1}},
-    {"in its right half", "a漢b", 1, {10, 0, 0, U}, {0, 2}},
-    {"after it", "a漢b", 4, {10, 0, 0, U}, {0, 3}},
-    {"where it stands", "abc漢", 3, {4, 0, 0, U}, {1, 0}},
-    {"in its right half there", "abc漢", 3, {4, 0, 0, U}, {1, 1}},
-    {"inside a tab", "a\tb", 1, {20, 0, 8, U}, {0, 7}},
-    {"after a tab", "a\tb", 2, {20, 0, 8, U}, {0, 8}},
-    {"a tab of one column", "a\tb", 2, {20, 0, 0, U}, {0, 2}},
-    {"two places at one cell", "a\tb", 2, {20, 0, 0, W}, {0, 1}},
-    {"a mark is of its letter", "e\u0301x", 0, {10, 0, 0, U}, {0, 0}},
-    {"inside a family", FAMILY "x", 0, {10, 0, 0, U}, {0, 1}},
-    {"or of six", FAMILY "x", 0, {10, 0, 0, W}, {0, 5}},
+    {"no text, far away", "", 0, {10, 2, 0, U, 0, 0}, {7, 7}},
+    {"on the prompt", "ab\ncd", 0, {10, 2, 0, U, 0, 0}, {0, 1}},
+    {"at the start", "ab\ncd", 0, {10, 2, 0, U, 0, 0}, {0, 2}},
+    {"between two letters", "ab\ncd", 1, {10, 2, 0, U, 0, 0}, {0, 3}},
+    {"at the end of a line", "ab\ncd", 2, {10, 2, 0, U, 0, 0}, {0, 4}},
+    {"to the right of a line", "ab\ncd", 2, {10, 2, 0, U, 0, 0}, {0, SIZE_MAX}},
+    {"inside it", "ab\ncd", 4, {10, 2, 0, U, 0, 0}, {1, 1}},
+    {"to the right of the last line", "ab\ncd", 5, {10, 2, 0, U, 0, 0}, {1, 9}},
+    {"below the last line", "ab\ncd", 5, {10, 2, 0, U, 0, 0}, {SIZE_MAX, 0}},
+    {"before a wide letter", "a漢b", 1, {10, 0, 0, U, 0, 0}, {0, 1}},
+    {"in its right half", "a漢b", 1, {10, 0, 0, U, 0, 0}, {0, 2}},
+    {"after it", "a漢b", 4, {10, 0, 0, U, 0, 0}, {0, 3}},
+    {"where it stands", "abc漢", 3, {4, 0, 0, U, 0, 0}, {1, 0}},
+    {"in its right half there", "abc漢", 3, {4, 0, 0, U, 0, 0}, {1, 1}},
+    {"inside a tab", "a\tb", 1, {20, 0, 8, U, 0, 0}, {0, 7}},
+    {"after a tab", "a\tb", 2, {20, 0, 8, U, 0, 0}, {0, 8}},
+    {"a tab of one column", "a\tb", 2, {20, 0, 0, U, 0, 0}, {0, 2}},
+    {"two places at one cell", "a\tb", 2, {20, 0, 0, W, 0, 0}, {0, 1}},
+    {"a mark is of its letter", "e\u0301x", 0, {10, 0, 0, U, 0, 0}, {0, 0}},
+    {"inside a family", FAMILY "x", 0, {10, 0, 0, U, 0, 0}, {0, 1}},
+    {"or of six", FAMILY "x", 0, {10, 0, 0, W, 0, 0}, {0, 5}},
 };
 
 static void see_place(const struct laid *row) {
@@ -517,8 +524,76 @@ static void see_cell(const struct laid *row) {
         printf("  got %zu, %zu\n", got.line, got.column);
 }
 
+/* The rows of a text: where each begins, and how many there are. */
+static const struct {
+    const char *what, *text;
+    lodvarn_screen screen;
+    size_t count, starts[5];
+} laid_rows[] = {
+    {"no text", "", {80, 0, 0, U, 0, 0}, 1, {0}},
+    {"one row", "ab", {3, 0, 0, U, 0, 0}, 1, {0}},
+    {"one to the right edge, and the next for the cursor", "abc", {3, 0, 0, U, 0, 0}, 2, {0, 3}},
+    {"a wrapped line", "abcde", {3, 0, 0, U, 0, 0}, 2, {0, 3}},
+    {"after a prompt", "abcde", {3, 2, 0, U, 0, 0}, 3, {0, 1, 4}},
+    {"a prompt over a whole row", "ab", {3, 3, 0, U, 0, 0}, 2, {0, 0}},
+    {"two lines", "ab\r\ncd", {80, 2, 0, U, 0, 0}, 2, {0, 4}},
+    {"the end of a line at the right edge", "abc\nd", {3, 0, 0, U, 0, 0}, 2, {0, 3}},
+    {"after another prompt", "a\nbcde", {4, 0, 0, U, 2, 0}, 3, {0, 2, 4}},
+    {"a wide letter that does not fit", "ab漢", {3, 0, 0, U, 0, 0}, 2, {0, 2}},
+    {"a letter that is wider than the screen", "漢a", {1, 0, 0, U, 0, 0}, 4, {0, 0, 3, 4}},
+    {"a control character of two columns", "a\1b", {3, 0, 0, U, 0, 2}, 2, {0, 2}},
+    {"of as many as it has", "a\1b", {4, 0, 0, U, 0, 0}, 1, {0}},
+    {"a tab to the next stop", "a\tb", {4, 0, 4, U, 0, 2}, 2, {0, 2}},
+};
+
+static void rows_are_found(void) {
+    for (size_t i = 0; i < COUNT(laid_rows); i++) {
+        size_t starts[6] = {NO, NO, NO, NO, NO, NO}, count = NO, len = strlen(laid_rows[i].text);
+        int answer = lodvarn_rows(&laid_rows[i].screen, laid_rows[i].text, len, starts, 5, &count);
+        int same = answer == LODVARN_DONE && count == laid_rows[i].count && starts[5] == NO;
+        for (size_t k = 0; k < count && k < 5; k++) same = same && starts[k] == laid_rows[i].starts[k];
+        if (!see(laid_rows[i].what, same)) printf("  got %zu: %zu, %zu, %zu\n", count, starts[0], starts[1], starts[2]);
+        starts[1] = NO;
+        SEE(lodvarn_rows(&laid_rows[i].screen, laid_rows[i].text, len, starts, 1, &count) == LODVARN_DONE);
+        SEE(count == laid_rows[i].count && starts[0] == 0 && starts[1] == NO);
+        SEE(lodvarn_rows(&laid_rows[i].screen, laid_rows[i].text, len, NULL, 0, &count) == LODVARN_DONE && count == laid_rows[i].count);
+    }
+}
+
+/* Motions by rows, one after another from a place: up or down by so many, the column that is kept, and the place. */
+static const struct {
+    const char *what, *text;
+    size_t pos;
+    lodvarn_screen screen;
+    struct { int down; size_t n, place, column; } steps[4];
+} rows_moved[] = {
+    {"over a shorter line, and back to the column", "abcdef\n\nghi", 11, {4, 0, 0, U, 0, 0}, {{0, 1, 7, 3}, {0, 1, 6, 3}, {0, 1, 3, 3}, {0, 1, NO, 3}}},
+    {"down, to the last row of the next line", "abcdef\nghi", 1, {4, 0, 0, U, 0, 0}, {{1, 1, 5, 1}, {1, 1, 8, 1}, {1, 1, NO, 1}, {0, 2, 1, 1}}},
+    {"after a prompt, and another", "abcd\nefg", 0, {80, 4, 0, U, 2, 0}, {{1, 1, 7, 4}, {0, 1, 0, 4}}},
+    {"many rows at once", "a\nb\nc\nd", 0, {80, 0, 0, U, 0, 0}, {{1, 3, 6, 0}, {0, 2, 2, 0}, {0, 2, NO, 0}, {1, 3, NO, 0}}},
+    {"by columns over a wide letter and a tab", "ab日c\n\tx\nabcdefghij", 5, {80, 0, 8, U, 0, 0}, {{1, 1, 7, 4}, {1, 1, 14, 4}, {0, 2, 5, 4}}},
+    {"a line that ends at the right edge has one row more", "abcd\nef", 6, {4, 0, 0, U, 0, 0}, {{0, 1, 4, 1}, {0, 1, 1, 1}}},
+};
+
+static void motions_by_rows_keep_the_column(void) {
+    for (size_t i = 0; i < COUNT(rows_moved); i++) {
+        lodvarn *t = NULL;
+        size_t column = LODVARN_OWN_COLUMN;
+        must(lodvarn_open(&t, NULL, rows_moved[i].text, strlen(rows_moved[i].text)) > 0);
+        must(lodvarn_set_pos(t, rows_moved[i].pos) > 0);
+        for (size_t k = 0; k < 4 && rows_moved[i].steps[k].n; k++) {
+            size_t place = NO, n = rows_moved[i].steps[k].n, wanted = rows_moved[i].steps[k].place;
+            int answer = (rows_moved[i].steps[k].down ? lodvarn_row_below : lodvarn_row_above)(t, &rows_moved[i].screen, n, &column, &place);
+            int same = answer == (wanted != NO) && place == wanted && column == rows_moved[i].steps[k].column;
+            if (!see(rows_moved[i].what, same)) printf("  step %zu: got %d, %zu, %zu\n", k, answer, place, column);
+            if (place != NO) lodvarn_set_pos(t, place);
+        }
+        lodvarn_close(&t);
+    }
+}
+
 static void cells_and_places_are_found(void) {
-    static const struct laid inside = {"inside a cluster, where it starts", "xe\u0301x", 2, {10, 0, 0, U}, {0, 1}};
+    static const struct laid inside = {"inside a cluster, where it starts", "xe\u0301x", 2, {10, 0, 0, U, 0, 0}, {0, 1}};
     see_cell(&inside);
     for (size_t i = 0; i < COUNT(cells); i++) see_cell(&cells[i]), see_place(&cells[i]);
     for (size_t i = 0; i < COUNT(places); i++) see_place(&places[i]);
@@ -695,11 +770,11 @@ static const lodvarn_options *other_options(size_t size, int mode, size_t ring_s
 
 static const lodvarn_screen *screen_of(uint16_t columns, int mode) {
     static lodvarn_screen screen;
-    screen = (lodvarn_screen){columns, 0, 8, (enum lodvarn_mode)mode};
+    screen = (lodvarn_screen){columns, 0, 8, (enum lodvarn_mode)mode, 0, 0};
     return &screen;
 }
 
-static const lodvarn_screen screen = {10, 0, 8, LODVARN_UNICODE};
+static const lodvarn_screen screen = {10, 0, 8, LODVARN_UNICODE, 0, 0};
 static const lodvarn_position corner = {0, 0};
 
 /* No call takes the movement. */
@@ -720,6 +795,8 @@ static void numbers_outside_of_their_enums(void) {
         LEAVES(NO_SUCH_NUMBER, lodvarn_width((enum lodvarn_mode)number, "a", 1, &out.number));
         LEAVES(NO_SUCH_NUMBER, lodvarn_cell(screen_of(10, number), 0, "a", 1, &out.position));
         LEAVES(NO_SUCH_NUMBER, lodvarn_place_at(screen_of(10, number), corner, "a", 1, &out.number));
+        LEAVES(NO_SUCH_NUMBER, lodvarn_rows(screen_of(10, number), "a", 1, &out.number, 1, &out.number));
+        LEAVES(NO_SUCH_NUMBER, lodvarn_row_above(s, screen_of(10, number), 1, &out.number, &out.number));
     }
     EACH_OUTSIDE(LODVARN_FORWARD, LODVARN_BACKWARD)
         LEAVES(NO_SUCH_NUMBER, lodvarn_kill_range(s, range(0, 1), (enum lodvarn_direction)number));
@@ -730,6 +807,9 @@ static void numbers_outside_of_their_enums(void) {
     each_bad_movement(refuse_movement);
     LEAVES(NO_SUCH_NUMBER, lodvarn_cell(screen_of(0, U), 0, "a", 1, &out.position));
     LEAVES(NO_SUCH_NUMBER, lodvarn_place_at(screen_of(0, U), corner, "a", 1, &out.number));
+    LEAVES(NO_SUCH_NUMBER, lodvarn_rows(screen_of(0, U), "a", 1, &out.number, 1, &out.number));
+    LEAVES(NO_SUCH_NUMBER, lodvarn_row_below(s, screen_of(0, U), 1, &out.number, &out.number));
+    LEAVES(NO_SUCH_NUMBER, lodvarn_row_below(s, &screen, 65536, &out.number, &out.number));
     static const size_t sizes[] = {0, 1, sizeof options - 1, sizeof options + 1, 2 * sizeof options, SIZE_MAX};
     for (size_t i = 0; i < COUNT(sizes); i++) {
         LEAVES(NO_SUCH_NUMBER, lodvarn_open(&out.opened, other_options(sizes[i], U, 60), "a", 1));
@@ -779,6 +859,7 @@ static void texts_that_are_no_utf8(void) {
         LEAVES(NOT_UTF8, lodvarn_last_cluster(bad, len, &out.number));
         LEAVES(NOT_UTF8, lodvarn_cell(&screen, 0, bad, len, &out.position));
         LEAVES(NOT_UTF8, lodvarn_place_at(&screen, corner, bad, len, &out.number));
+        LEAVES(NOT_UTF8, lodvarn_rows(&screen, bad, len, &out.number, 1, &out.number));
     }
     SEE(lodvarn_script("\xff\n", 2, out.text, 8, &out.number) == LODVARN_DONE && out.number == 4);
     SEE(!memcmp(out.text, "bad\n#", 5));
@@ -1147,6 +1228,8 @@ int main(void) {
     widths_are_measured();
     clusters_are_found();
     cells_and_places_are_found();
+    rows_are_found();
+    motions_by_rows_keep_the_column();
     movements_mean_what_they_say();
     numbers_mean_what_they_say();
     numbers_outside_of_their_enums();

@@ -389,7 +389,7 @@ static int is_after(lodvarn_position a, lodvarn_position b) {
 
 /* Whether the place that is found at the cell of another one is the last whose cell is not after that. */
 static int place_agrees(struct typed *t, lodvarn_view text, size_t pos) {
-    lodvarn_screen screen = {20, 2, 8, t->own_mode};
+    lodvarn_screen screen = {20, 2, 8, t->own_mode, 0, 0};
     lodvarn_position at = cell_of(&screen, text, pos);
     size_t place, k = 0;
     if (lodvarn_place_at(&screen, at, text.at, text.len, &place) != LODVARN_DONE || place > text.len) return 0;

@@ -99,6 +99,25 @@ static long long py_destination(session *it, lodvarn_movement movement, size_t o
     return told(it, it->s ? lodvarn_destination(it->s, movement, &range.to) : LODVARN_CLOSED, range, out);
 }
 
+static long long row(session *it, int answer, size_t place, size_t column, size_t out[2]) {
+    if (answer <= 0) return answer;
+    out[0] = chars_in(text_of(it).at, place);
+    out[1] = column;
+    return answer;
+}
+
+static long long py_row_above(session *it, const lodvarn_screen *screen, size_t n, size_t column, size_t out[2]) {
+    size_t place = 0;
+    int answer = it->s ? lodvarn_row_above(it->s, screen, n, &column, &place) : LODVARN_CLOSED;
+    return row(it, answer, place, column, out);
+}
+
+static long long py_row_below(session *it, const lodvarn_screen *screen, size_t n, size_t column, size_t out[2]) {
+    size_t place = 0;
+    int answer = it->s ? lodvarn_row_below(it->s, screen, n, &column, &place) : LODVARN_CLOSED;
+    return row(it, answer, place, column, out);
+}
+
 static long long py_cluster_at(session *it, long long index, size_t out[2]) {
     lodvarn_cluster cluster = {0, 0};
     size_t place = place_of(it, index);

@@ -127,6 +127,24 @@ class Places(Scripts):
                 self.assertEqual(lodvarn.place_at(screen, wanted, text), place)
         self.assertEqual(lodvarn.place_at(Screen(10), (2**64 - 1, 0), "漢字"), 2)
 
+    def test_motions_by_rows_keep_the_column(self):
+        with Session("漢字é\n\na") as session:
+            screen = Screen(4, continuation=2)
+            self.assertEqual(session.row_above(screen), (4, 3))
+            self.assertEqual(session.row_above(screen, 1, 2), (3, 1))
+            session.pos = 0
+            self.assertEqual(session.row_below(screen, 1), (3, 1))
+            self.assertIsNone(session.row_below(screen, n=9))
+
+    def test_rows_begin_at_places(self):
+        for screen, text, wanted in [
+            (Screen(10), "", [0]),
+            (Screen(3, 2), "é漢字\nb", [0, 1, 2, 4]),
+            (Screen(4, continuation=3, controls=2), "\x01\x01\nab", [0, 2, 4]),
+        ]:
+            with self.subTest(text=text, screen=screen):
+                self.assertEqual(lodvarn.rows(screen, text), wanted)
+
     def test_texts_are_measured(self):
         self.assertEqual([lodvarn.width(FAMILY, it) for it in Mode], [2, 6, 6])
         for text, first, last in [("", "", ""), ("e\u0301x", "e\u0301", "x"), ("x" + FAMILY, "x", FAMILY)]:

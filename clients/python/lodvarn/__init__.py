@@ -361,19 +361,22 @@ class Report(NamedTuple):
 
 
 class Screen(NamedTuple):
-    """A screen: how many columns it has, the column where the text begins, after a prompt, and the distance of tab
-    stops, 0 if a tab is as wide as `width` says."""
+    """A screen: how many columns it has, the column where the text begins, after a prompt, the distance of tab stops, 0
+    if a tab is as wide as `width` says, how columns are counted, the column where each line after the first begins, and
+    the columns of a control character, 0 if as many as `width` says."""
 
     columns: int
     prompt: int = 0
     tab: int = 0
     mode: Mode = Mode.UNICODE
+    continuation: int = 0
+    controls: int = 0
 
 
-def _on(screen: Screen) -> list[tuple[int, int, int, int]]:
+def _on(screen: Screen) -> list[tuple[int, int, int, int, int, int]]:
     """Returns a screen as the library takes it."""
-    columns, prompt, tab, mode = _of(Screen, screen)
-    return [(columns, prompt, tab, _of(Mode, mode).value)]
+    columns, prompt, tab, mode, continuation, controls = _of(Screen, screen)
+    return [(columns, prompt, tab, _of(Mode, mode).value, continuation, controls)]
 
 
 # How many characters of each side of the cursor repr shows.
@@ -633,7 +636,10 @@ class Session:
         return self._do(lib.py_indent, _of(Movement, movement)._in_c, amount, lib.LODVARN_DEDENT)
 
     def begin_group(self) -> None:
-        """Begins an undo group: once it is closed, one undo takes back all its changes. Groups may be nested."""
+        """Begins an undo group: once it is closed, one undo takes back all its changes. Groups may be nested.
+
+        What was undone is forgotten, also if nothing changes in the group.
+        """
         self._do(lib.py_begin_group)
 
     def end_group(self) -> bool:
@@ -801,6 +807,20 @@ class Session:
         """
         return _pair(lib.py_cluster_at, self._it, place)
 
+    def row_above(self, screen: Screen, column: Optional[int] = None, n: int = 1) -> Optional[tuple[int, int]]:
+        """Returns the place n rows above the cursor on a screen, and the column that it is looked for at: the given one,
+        or for None the cursor's. Pass that to the next such call, and the cursor comes back to it over a shorter row.
+        None if there are fewer rows.
+
+        Each line is laid out by itself, as by `rows`, the first after the prompt of the screen, and the others after its
+        continuation. Raises NoSuchNumberError if the screen has no columns.
+        """
+        return _pair(lib.py_row_above, self._it, _on(screen), n, _or_most(column))
+
+    def row_below(self, screen: Screen, column: Optional[int] = None, n: int = 1) -> Optional[tuple[int, int]]:
+        """Returns the place n rows below the cursor on a screen, and the column, as `row_above` does."""
+        return _pair(lib.py_row_below, self._it, _on(screen), n, _or_most(column))
+
     @property
     def entries(self) -> int:
         """How many entries the record has, the marks of groups too."""
@@ -959,3 +979,16 @@ def place_at(screen: Screen, cell: tuple[int, int], text: str) -> int:
     row, column = cell
     place = _size(lib.lodvarn_place_at, _on(screen), (row, column), given, size)
     return int(lib.chars_in(given, place))
+
+
+def rows(screen: Screen, text: str) -> list[int]:
+    """Returns the places of a text where its rows on a screen begin, from row 0 on.
+
+    A row goes on to the place where the next one begins; a text that ends at the right edge has one more, which is
+    empty. Raises NoSuchNumberError if the screen has no columns.
+    """
+    given, size = _sent(text)
+    on, starts, count = _on(screen), ffi.NULL, -1
+    while count < (count := _size(lib.lodvarn_rows, on, given, size, starts, max(count, 0))):
+        starts = _new("size_t[]", count)
+    return [lib.chars_in(given, start) for start in starts[0:count]]

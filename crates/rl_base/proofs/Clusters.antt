@@ -5,3 +5,5 @@ pub mod ClassLemmas
 pub mod WordLemmas
 pub mod SearchLemmas
 pub mod WidthLemmas
+pub mod CellLemmas
+pub mod RowLemmas

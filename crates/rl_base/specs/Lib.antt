@@ -1,5 +1,6 @@
 pub mod Text
 pub mod Widths
+pub mod Screen
 pub mod Lines
 pub mod Clusters
 pub mod Words

@@ -10,6 +10,7 @@ pub mod motion;
 pub mod notes;
 pub mod places;
 pub mod reports;
+pub mod screen;
 pub mod splice;
 pub mod testing;
 pub mod watch;
@@ -21,6 +22,7 @@ pub use listeners::{ChangeListener, DeleteListener, Direction, NoListener, Refus
 pub use motion::{Anchor, At, CharSearch, Movement, RepeatCount, Word, WordAction};
 pub use notes::Notes;
 pub use reports::{Report, ReportKind, Reports};
+pub use screen::Screen;
 pub use splice::Splice;
 pub use testing::{RefuseAt, TextEvent};
 pub use watch::{Watch, WatchFault};

@@ -1,4 +1,3 @@
-mod CellLemmas
 mod HandleSteps
 mod ReportLogLemmas
 mod PartsSteps

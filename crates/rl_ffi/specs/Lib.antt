@@ -1,7 +1,6 @@
 pub mod Answers
 pub mod Buffers
 pub mod Calls
-pub mod Cells
 pub mod Commands
 pub mod Handle
 pub mod Held
@@ -17,3 +16,4 @@ pub mod RecordLines
 pub mod ReportLog
 pub mod Reports
 pub mod Texts
+pub mod Screen

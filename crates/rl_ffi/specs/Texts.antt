@@ -1,20 +1,16 @@
 -- What the calls that need no session answer.
-use Rattle.std.specs.Prelude.{◌≡◌, ◌⊎◌, ℕ, ℤ, ◌+◌, ◌*◌, zero, suc, List, [], ◌∷◌, length, reverse, Option, Some, None, Result, Ok, Err}
-use Rattle.std.specs.Str.{IsCharBoundary, IsUtf8}
+use Rattle.std.specs.Prelude.{◌≡◌, ◌⊎◌, ℕ, ℤ, ◌+◌, ◌*◌, List, [], ◌∷◌, length, reverse, Option, Some, None}
+use Rattle.std.specs.Str.{IsUtf8}
 use Rattle.rl_base.specs.Clusters.{clusters}
 use Rattle.rl_base.specs.Widths.{width}
 use Rattle.rl_base.specs.declared.layout.GraphemeClusterMode.{GraphemeClusterMode}
 use Rattle.rl_session.specs.Script.{Ran, StoppedBy}
 use Rattle.rl_session.specs.declared.script.ScriptFault.{ScriptFault}
 use Rattle.rl_ffi.specs.Answers.{number}
-use Rattle.rl_ffi.specs.Calls.{Tale, Writes, refuses, told_where, where_named}
-use Rattle.rl_ffi.specs.Cells.{cell, place_at}
+use Rattle.rl_ffi.specs.Calls.{Tale, Writes, told_where, where_named}
 use Rattle.rl_ffi.specs.Numbers.{mode_of}
 use Rattle.rl_ffi.specs.declared.answers.Answer.{Answer}
-use Rattle.rl_ffi.specs.declared.answers.Answer.TheVariants.{BadPlace, Done, NoMemory, NoSuchNumber, NotUtf8}
-use Rattle.rl_ffi.specs.declared.cells.Screen.{Screen}
-use Rattle.rl_ffi.specs.declared.shapes.CPosition.{CPosition}
-use Rattle.rl_ffi.specs.declared.shapes.CScreen.{CScreen}
+use Rattle.rl_ffi.specs.declared.answers.Answer.TheVariants.{Done, NoMemory, NotUtf8}
 
 -- the number of what is answered
 abbrev pub Answers : {A : Type 0} → Tale A → ℤ → A → A → Type 0
@@ -37,29 +33,6 @@ TellsFirst text = of_bytes text (Writes (first_length (clusters text)))
 
 abbrev pub TellsLast : List ℕ → Tale ℕ
 TellsLast text = of_bytes text (Writes (first_length (reverse (clusters text))))
-
--- a screen has a column at least
-abbrev pub screen_by : ℕ → Result GraphemeClusterMode Answer → ℕ → Result Screen Answer
-screen_by zero mode tab = Err NoSuchNumber
-screen_by (suc k) (Err why) tab = Err why
-screen_by (suc k) (Ok mode) tab = Ok (record { mode = mode; columns = suc k; tab = tab })
-
-abbrev pub screen_of : CScreen → Result Screen Answer
-screen_of s = screen_by s.columns (mode_of s.mode) s.tab
-
-abbrev pub position : ℕ × ℕ → CPosition
-position at = record { line = at.0; column = at.1 }
-
--- the cell of a place
-abbrev pub TellsCell : CScreen → ℕ → List ℕ → Tale CPosition
-TellsCell screen place text = where_named (screen_of screen) (λ (on : Screen). of_bytes text (λ n out out'.
-    (IsCharBoundary text place × Writes (Some (position (cell on screen.prompt text place))) n out out')
-    ⊎ ((¬ (IsCharBoundary text place)) × refuses BadPlace n out out')))
-
--- the place of a cell
-abbrev pub TellsPlace : CScreen → CPosition → List ℕ → Tale ℕ
-TellsPlace screen at text =
-    where_named (screen_of screen) (λ (on : Screen). of_bytes text (Writes (Some (place_at on screen.prompt text (at.line, at.column)))))
 
 -- the version 0.1.0 in one number
 abbrev pub version : ℕ

@@ -5,7 +5,6 @@
 
 mod answers;
 mod buffers;
-mod cells;
 mod commands;
 mod handle;
 mod held;
@@ -20,11 +19,11 @@ mod record;
 mod record_lines;
 mod report_log;
 mod reports;
+mod screen;
 mod shapes;
 mod split_box;
 mod texts;
 mod view;
 
-pub use cells::cells_are_found;
 pub use commands::calls_are_rows;
 pub use report_log::no_event_is_lost;

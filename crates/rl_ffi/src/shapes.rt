@@ -65,6 +65,8 @@ pub struct CScreen {
     pub prompt: u16,
     pub tab: u16,
     pub mode: u32,
+    pub continuation: u16,
+    pub controls: u16,
 }
 
 /// What may be chosen of a session, whose mode is a number.

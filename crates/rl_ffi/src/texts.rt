@@ -3,14 +3,12 @@ ghost use Rattle.std.specs.Prelude.{◌≡◌, ℕ, List, length, Some, IfOk, If
 ghost use Rattle.std.specs.Str.{IsUtf8};
 ghost use Rattle.rl_ffi.specs.Answers.{merged, number};
 ghost use Rattle.rl_ffi.specs.Buffers.{written};
-ghost use Rattle.rl_ffi.specs.Texts.{Answers, Printed, TellsCell, TellsFirst, TellsLast, TellsPlace, TellsWidth, screen_of, version};
+ghost use Rattle.rl_ffi.specs.Texts.{Answers, Printed, TellsFirst, TellsLast, TellsWidth, version};
 ghost use Rattle.rl_ffi.specs.declared.answers.Answer.TheVariants.{NotUtf8};
 
 use crate::answers::{Answer, Outcome, merged};
 use crate::buffers::write;
-use crate::cells::{Screen, cell, place_at};
 use crate::numbers::mode_of;
-use crate::shapes::{CPosition, CScreen};
 use rl_session::run_script;
 use std::alloc::Global;
 use unicode_segmentation::UnicodeSegmentation;
@@ -102,70 +100,6 @@ pub extern "C" fn lodvarn_last_cluster(text: &[u8], bytes: &mut usize) -> i32
     ensures { Answers (TellsLast text.now) result bytes.old bytes.new }
 {
     merged(last(text, bytes)).number()
-}
-
-// The screen, unless it is none: it has a column at least.
-fn screen_of(screen: &CScreen) -> Result<Screen, Answer>
-    ensures { result ≡ screen_of screen.now }
-{
-    if screen.columns == 0 {
-        return Err(Answer::NoSuchNumber);
-    }
-    Ok(Screen {
-        mode: mode_of(screen.mode)?,
-        columns: screen.columns,
-        tab: screen.tab,
-    })
-}
-
-fn find_cell(screen: &CScreen, place: usize, text: &[u8], found: &mut CPosition) -> Outcome
-    ensures { TellsCell screen.now place text.now (merged result) found.old found.new }
-{
-    let prompt = screen.prompt;
-    let screen = screen_of(screen)?;
-    let text = text_of(text)?;
-    if !text.is_char_boundary(place) {
-        return Err(Answer::BadPlace);
-    }
-    let (line, column) = cell(&screen, prompt, text, place);
-    *found = CPosition { line, column };
-    Ok(Answer::Done)
-}
-
-/// `lodvarn_cell`.
-#[unsafe(no_mangle)]
-pub extern "C" fn lodvarn_cell(
-    screen: &CScreen,
-    place: usize,
-    text: &[u8],
-    found: &mut CPosition,
-) -> i32
-    ensures { Answers (TellsCell screen.now place text.now) result found.old found.new }
-{
-    merged(find_cell(screen, place, text, found)).number()
-}
-
-fn find_place(screen: &CScreen, at: CPosition, text: &[u8], place: &mut usize) -> Outcome
-    ensures { TellsPlace screen.now at text.now (merged result) place.old place.new }
-{
-    let prompt = screen.prompt;
-    let screen = screen_of(screen)?;
-    let text = text_of(text)?;
-    *place = place_at(&screen, prompt, text, (at.line, at.column));
-    Ok(Answer::Done)
-}
-
-/// `lodvarn_place_at`.
-#[unsafe(no_mangle)]
-pub extern "C" fn lodvarn_place_at(
-    screen: &CScreen,
-    at: CPosition,
-    text: &[u8],
-    place: &mut usize,
-) -> i32
-    ensures { Answers (TellsPlace screen.now at text.now) result place.old place.new }
-{
-    merged(find_place(screen, at, text, place)).number()
 }
 
 /// `lodvarn_version`.

@@ -4,3 +4,4 @@ pub mod TailLemmas
 pub mod LineStartLemmas
 pub mod RoomyLemmas
 pub mod LineReadLemmas
+pub mod RowLemmas

@@ -5,6 +5,7 @@ pub mod LineRanges
 pub mod Plan
 pub mod Motions
 pub mod LineMotions
+pub mod Rows
 pub mod Ranges
 pub mod Edits
 pub mod Deletions

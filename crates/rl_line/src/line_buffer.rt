@@ -22,6 +22,7 @@ mod line_motions;
 mod lines;
 mod motions;
 mod ranges;
+mod rows;
 mod transpositions;
 
 use crate::change::{Change, Way, find_room_over, go_over, nth_on, tell_over, tell_swap};

@@ -93,6 +93,8 @@ pub struct lodvarn_screen {
     pub prompt: u16,
     pub tab: u16,
     pub mode: lodvarn_mode,
+    pub continuation: u16,
+    pub controls: u16,
 }
 #[repr(C)]
 #[derive(Debug, Copy, Clone)]
@@ -374,6 +376,24 @@ extern "C" {
     ) -> ::std::os::raw::c_int;
 }
 extern "C" {
+    pub fn lodvarn_row_above(
+        s: *mut lodvarn,
+        screen: *const lodvarn_screen,
+        n: usize,
+        column: *mut usize,
+        place: *mut usize,
+    ) -> ::std::os::raw::c_int;
+}
+extern "C" {
+    pub fn lodvarn_row_below(
+        s: *mut lodvarn,
+        screen: *const lodvarn_screen,
+        n: usize,
+        column: *mut usize,
+        place: *mut usize,
+    ) -> ::std::os::raw::c_int;
+}
+extern "C" {
     pub fn lodvarn_entries(s: *mut lodvarn) -> usize;
 }
 extern "C" {
@@ -454,6 +474,16 @@ extern "C" {
         text: *const ::std::os::raw::c_char,
         len: usize,
         place: *mut usize,
+    ) -> ::std::os::raw::c_int;
+}
+extern "C" {
+    pub fn lodvarn_rows(
+        screen: *const lodvarn_screen,
+        text: *const ::std::os::raw::c_char,
+        len: usize,
+        starts: *mut usize,
+        cap: usize,
+        count: *mut usize,
     ) -> ::std::os::raw::c_int;
 }
 #[repr(C)]

@@ -18,6 +18,9 @@ pub const LODVARN_NO_LIMIT: usize = usize::MAX;
 /// No bound for the record.
 pub const LODVARN_NO_BOUND: usize = usize::MAX;
 
+/// Of motions by rows: the column of the cursor.
+pub const LODVARN_OWN_COLUMN: usize = usize::MAX;
+
 /// What a session is opened with if nothing is chosen.
 pub const LODVARN_OPTIONS: lodvarn_options = lodvarn_options {
     size: std::mem::size_of::<lodvarn_options>(),

@@ -227,6 +227,24 @@ impl Handle<lodvarn> {
     }
 }
 
+impl Handle<lodvarn> {
+    /// The place of a motion by rows, and the column that it keeps to.
+    pub(crate) fn row(
+        &self,
+        above: bool,
+        screen: &Screen,
+        n: u16,
+        column: Option<usize>,
+    ) -> Result<Option<(usize, usize)>, Fault> {
+        let call = if above { lodvarn_row_above } else { lodvarn_row_below };
+        let (screen, n) = (screen.passed(), n.into());
+        let mut column = column.unwrap_or(LODVARN_OWN_COLUMN);
+        let place =
+            written(|out| self.read(|at| unsafe { call(at, &screen, n, &mut column, out) }))?;
+        Ok(place.map(|place| (place, column)))
+    }
+}
+
 pub(crate) fn script(script: &[u8], out: &mut [u8], printed: &mut usize) -> i32 {
     let (at, len) = (script.as_ptr().cast(), script.len());
     unsafe { lodvarn_script(at, len, out.as_mut_ptr().cast(), out.len(), printed) }
@@ -262,6 +280,16 @@ pub(crate) fn place_at(
     let Position { line, column } = cell;
     let cell = lodvarn_position { line, column };
     written(|out| unsafe { lodvarn_place_at(&screen, cell, at, len, out) })
+}
+
+pub(crate) fn rows(
+    screen: &Screen,
+    text: &str,
+    starts: &mut [usize],
+) -> Result<Option<usize>, Fault> {
+    let (screen, at, len) = (screen.passed(), start_of(text), text.len());
+    let (to, cap) = (starts.as_mut_ptr(), starts.len());
+    written(|out| unsafe { lodvarn_rows(&screen, at, len, to, cap, out) })
 }
 
 pub(crate) fn answer_name(answer: i32) -> &'static str {

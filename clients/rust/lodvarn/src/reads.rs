@@ -61,6 +61,43 @@ impl Session {
         told(self.handle.destination(movement))
     }
 
+    /// The place `n` rows above the cursor on a screen, and the column that it is looked for at: the given one, or the
+    /// cursor's. Give that to the next motion by rows, and the cursor comes back to it over a shorter row. `None` if there
+    /// are fewer rows. Each line is laid out by itself, the first after the prompt of the screen, and the others after its
+    /// continuation.
+    ///
+    /// ```
+    /// # use lodvarn::{Fault, Screen, Session};
+    /// # fn main() -> Result<(), Fault> {
+    /// let screen = Screen::new(4u16.try_into().expect("4 is not 0"));
+    /// let mut session = Session::builder().text("abcdef\n\nghi").open()?;
+    /// assert_eq!(session.row_above(&screen, 1, None), Some((7, 3)));
+    /// session.set_pos(7)?;
+    /// assert_eq!(session.row_above(&screen, 2, Some(3)), Some((3, 3)));
+    /// # Ok(())
+    /// # }
+    /// ```
+    #[must_use]
+    pub fn row_above(
+        &self,
+        screen: &Screen,
+        n: u16,
+        column: Option<usize>,
+    ) -> Option<(usize, usize)> {
+        told(self.handle.row(true, screen, n, column))
+    }
+
+    /// The place `n` rows below the cursor on a screen, and the column, as [`row_above`](Session::row_above) tells them.
+    #[must_use]
+    pub fn row_below(
+        &self,
+        screen: &Screen,
+        n: u16,
+        column: Option<usize>,
+    ) -> Option<(usize, usize)> {
+        told(self.handle.row(false, screen, n, column))
+    }
+
     /// The first grapheme cluster from a place on. `None` at the end of the text. It takes as long as the cluster does,
     /// however long the text is.
     ///

@@ -88,7 +88,8 @@ impl Session {
 
 methods! {
     /// Begins an undo group: once it is closed, one undo takes back all its changes. It may stay open from one key to
-    /// the next, where the guard of [`group`](Session::group) can't be held.
+    /// the next, where the guard of [`group`](Session::group) can't be held. What was undone is forgotten, also if
+    /// nothing changes in the group.
     ///
     /// # Errors
     ///

@@ -69,4 +69,19 @@ impl Screen {
     pub fn place_at(&self, cell: Position, text: &str) -> usize {
         sure(calls::place_at(self, cell, text))
     }
+
+    /// The places of a text where its rows begin, from row 0 on. A row goes on to the place where the next one begins; a
+    /// text that ends at the right edge has one more, which is empty.
+    ///
+    /// ```
+    /// # use lodvarn::Screen;
+    /// let screen = Screen::new(3u16.try_into().expect("3 is not 0"));
+    /// assert_eq!(screen.rows("abcd\ne"), [0, 3, 5]);
+    /// ```
+    #[must_use]
+    pub fn rows(&self, text: &str) -> Vec<usize> {
+        let mut starts = vec![0; sure(calls::rows(self, text, &mut []))];
+        let _ = calls::rows(self, text, &mut starts);
+        starts
+    }
 }

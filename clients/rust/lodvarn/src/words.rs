@@ -301,6 +301,10 @@ pub struct Screen {
     pub tab: u16,
     /// How columns are counted. At first [`Mode::Unicode`].
     pub mode: Mode,
+    /// The column where each line after the first begins, after another prompt. At first 0.
+    pub continuation: u16,
+    /// The columns of a control character, as 2 for `^A`. At first 0: as many as [`width`](crate::width) tells.
+    pub controls: u16,
 }
 
 impl Screen {
@@ -312,6 +316,8 @@ impl Screen {
             prompt: 0,
             tab: 0,
             mode: Mode::Unicode,
+            continuation: 0,
+            controls: 0,
         }
     }
 
@@ -322,6 +328,8 @@ impl Screen {
             prompt: self.prompt,
             tab: self.tab,
             mode: self.mode as u32,
+            continuation: self.continuation,
+            controls: self.controls,
         }
     }
 }

@@ -1,8 +1,8 @@
 use Rattle.std.proofs.Common.{◌≡◌, ◌+◌, ◌≤◌, length}
 use Rattle.unicode_segmentation.specs.Iter.{graphemes_left}
 use Rattle.rl_base.specs.Clusters.{bytes_in}
-use Rattle.rl_ffi.specs.Cells.{cells, last_within, place_at}
-use Rattle.rl_ffi.proofs.cells.place_at.Given as goal
+use Rattle.rl_base.specs.Screen.{cells, last_within, place_at}
+use Rattle.rl_base.proofs.screen.Screen.place_at.Given as goal
 
 -- choosing on among the places from here chooses what choosing among all does; no row comes without a cluster, and the place
 -- lies before what is left
@@ -12,5 +12,6 @@ invariant-loop-cluster l =
       rows : l.row + length (graphemes_left l.cluster-iterator) ≤ length l.text;
       column : l.column ≤ 65535;
       place : l.place + bytes_in (graphemes_left l.cluster-iterator) ≡ length l.text;
-      chosen : last_within l.cell l.found (cells l.screen l.place (l.row, l.column) (graphemes_left l.cluster-iterator)) ≡ place_at l.screen l.prompt l.text l.cell;
+      found : l.found ≤ l.place;
+      chosen : last_within l.cell l.found (cells l.self l.place (l.row, l.column) (graphemes_left l.cluster-iterator)) ≡ place_at l.self l.text l.cell;
     }

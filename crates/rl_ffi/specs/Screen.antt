@@ -1,0 +1,71 @@
+-- What the calls tell that lay a text out on a screen.
+use Rattle.std.specs.Prelude.{◌≡◌, ◌⊎◌, ℕ, ◌^◌, ◌-◌, ◌==◌, zero, suc, List, length, Option, Some, None, Result, Ok, Err, if◌then◌else◌}
+use Rattle.std.specs.Str.{IsCharBoundary}
+use Rattle.rl_base.specs.Lines.{line_number}
+use Rattle.rl_base.specs.Screen.{cell, filled, place_at, rows}
+use Rattle.rl_base.specs.declared.layout.GraphemeClusterMode.{GraphemeClusterMode}
+use Rattle.rl_base.specs.declared.screen.Screen.{Screen}
+use Rattle.rl_line.specs.Line.{Line}
+use Rattle.rl_line.specs.Rows.{Above, Below, kept_column, own_cell}
+use Rattle.rl_line.specs.Rows as motion
+use Rattle.rl_ffi.specs.Calls.{Tale, Telling, Writes, refuses, where_named}
+use Rattle.rl_ffi.specs.Numbers.{count_of, mode_of}
+use Rattle.rl_ffi.specs.Texts.{of_bytes}
+use Rattle.rl_ffi.specs.declared.answers.Answer.{Answer}
+use Rattle.rl_ffi.specs.declared.answers.Answer.TheVariants.{BadPlace, Done, NoSuchNumber}
+use Rattle.rl_ffi.specs.declared.shapes.CPosition.{CPosition}
+use Rattle.rl_ffi.specs.declared.shapes.CScreen.{CScreen}
+
+-- a screen has a column at least
+abbrev pub screen_by : ℕ → Result GraphemeClusterMode Answer → CScreen → Result Screen Answer
+screen_by zero mode s = Err NoSuchNumber
+screen_by (suc k) (Err why) s = Err why
+screen_by (suc k) (Ok mode) s =
+    Ok (record { mode = mode; columns = suc k; prompt = s.prompt; continuation = s.continuation; tab = s.tab; controls = s.controls })
+
+abbrev pub screen_of : CScreen → Result Screen Answer
+screen_of s = screen_by s.columns (mode_of s.mode) s
+
+abbrev pub position : ℕ × ℕ → CPosition
+position at = record { line = at.0; column = at.1 }
+
+-- the cell of a place
+abbrev pub TellsCell : CScreen → ℕ → List ℕ → Tale CPosition
+TellsCell screen place text = where_named (screen_of screen) (λ (on : Screen). of_bytes text (λ n out out'.
+    (IsCharBoundary text place × Writes (Some (position (cell on text place))) n out out')
+    ⊎ ((¬ (IsCharBoundary text place)) × refuses BadPlace n out out')))
+
+-- the place of a cell
+abbrev pub TellsPlace : CScreen → CPosition → List ℕ → Tale ℕ
+TellsPlace screen at text =
+    where_named (screen_of screen) (λ (on : Screen). of_bytes text (Writes (Some (place_at on text (at.line, at.column)))))
+
+-- as many values as fit are written to a buffer, and how many there are
+abbrev pub Fills : {A : Type 0} → List A → Tale (List A × ℕ)
+Fills values n out out' = (n ≡ Done) × (out' ≡ (filled values out.0, length values))
+
+-- the places where rows begin
+abbrev pub TellsRows : CScreen → List ℕ → Tale (List ℕ × ℕ)
+TellsRows screen text = where_named (screen_of screen) (λ (on : Screen). of_bytes text (Fills (rows on text)))
+
+-- the column that a motion by rows is given: the greatest number stands for the cursor's
+abbrev pub column_of : ℕ → Option ℕ
+column_of number = if number == 2 ^ 64 - 1 then None else Some number
+
+-- the place to which a motion by rows leads, and the column that it keeps to
+abbrev pub WritesRow : Option (ℕ × ℕ) → Tale (ℕ × ℕ)
+WritesRow told = Writes told
+
+-- a motion by so many rows from the cursor, up or down, to the column that was handed in
+abbrev pub TellsRow : (Screen → List ℕ → ℕ → ℕ → ℕ → Option (ℕ × ℕ) → Type 0) → CScreen → ℕ → Telling Line (ℕ × ℕ)
+TellsRow Comes screen n line answer out out' =
+    where_named (screen_of screen) (λ (on : Screen). where_named (count_of n) (λ (k : ℕ) answer out out'.
+    (told : Option (ℕ × ℕ)) × motion.Tells on line.text (Comes on line.text (line_number line.text line.cursor) (own_cell on line.text line.cursor).0 k)
+    (kept_column on line.text (column_of out.1) line.cursor) told
+    × WritesRow told answer out out')) answer out out'
+
+abbrev pub TellsRowAbove : CScreen → ℕ → Telling Line (ℕ × ℕ)
+TellsRowAbove = TellsRow Above
+
+abbrev pub TellsRowBelow : CScreen → ℕ → Telling Line (ℕ × ℕ)
+TellsRowBelow = TellsRow Below
