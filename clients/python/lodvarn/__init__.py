@@ -9,9 +9,10 @@
 
 A place is an index of the text, as of any str: session.text[start:end] is what stands between two places. Only what has
 `bytes` in its name counts bytes of UTF-8. A count n is of grapheme clusters, words, lines or repetitions, at most
-65535. Lines and columns count from 0. A command returns whether there was anything to do. What is refused raises a
-LodvarnError; one for a place or a number that is out of its range is a ValueError too. One thread at a time uses a
-session, and no signal handler changes one. A call keeps the interpreter's lock, so other threads wait for its end.
+65535, and 0 does nothing. Lines and columns count from 0. A command returns whether there was anything to do. What is
+refused raises a LodvarnError; one for a place or a number that is out of its range is a ValueError too. One thread at a
+time uses a session, and no signal handler changes one. A call keeps the interpreter's lock, so other threads wait for
+its end.
 """
 
 from __future__ import annotations
@@ -496,15 +497,15 @@ class Session:
         return self._do(lib.py_move, _of(Movement, movement)._in_c)
 
     def insert(self, c: str, n: int = 1) -> bool:
-        """Inserts a character n times at the cursor. Returns True. Raises NoRoomError."""
+        """Inserts a character n times at the cursor. Returns False if n is 0. Raises NoRoomError."""
         # What _do does, but sooner: no call is made as often as that of a letter.
         try:
-            answer = _insert(self._it, c, n)
+            answer: int = _insert(self._it, c, n)
         except OverflowError:
             answer = _NO_SUCH_NUMBER
         if answer < 0 or self._on_change is not None:
             return self._finish(_insert, answer)
-        return True
+        return answer > 0
 
     def paste(self, text: str, n: int = 1) -> bool:
         """Inserts a text n times at the cursor. Returns False if it is empty. Raises NoRoomError."""
@@ -521,7 +522,7 @@ class Session:
         """Replaces the text that was just yanked by the one before it in the ring, in two changes.
 
         Returns False if the last command was not a yank. If the text before it is empty, what was yanked is deleted.
-        Raises NoRoomError, which leaves the whole session, and BadYankSizeError.
+        Raises NoRoomError, which leaves the whole session.
         """
         return self._do(lib.py_yank_pop)
 
@@ -667,7 +668,7 @@ class Session:
             self.end_group()
 
     def undo(self, n: int = 1) -> bool:
-        """Undoes the last n changes and groups, one if n is 0. Returns False if there was no change."""
+        """Undoes the last n changes and groups. Returns False if there was no change."""
         return self._do(lib.py_undo, n)
 
     def redo(self) -> bool:
@@ -838,7 +839,7 @@ class Session:
 
     @property
     def last_was_yank(self) -> bool:
-        """Whether the last command was a yank or yank_pop that returned True. A yank with n = 0 counts."""
+        """Whether the last command was a yank or yank_pop that returned True."""
         return _asked(lib.py_last_was_yank, self._it) > 0
 
     def _options(self) -> Any:

@@ -62,13 +62,12 @@ methods! {
     ///
     /// # Errors
     ///
-    /// [`Fault::NoRoom`], which leaves the whole session; [`Fault::BadYankSize`] if what was yanked does not stand before
-    /// the cursor, as may be after a yank with n = 0; [`Fault::NoMemory`].
+    /// [`Fault::NoRoom`], which leaves the whole session; [`Fault::NoMemory`].
     pub fn yank_pop(&mut self) -> Result<Inserted, Fault> = Inserted::of(lodvarn_yank_pop());
 }
 
 methods! {
-    /// Whether the last command was a `yank` or `yank_pop` that found a text. A yank with n = 0 counts.
+    /// Whether the last command was a `yank` or `yank_pop` that found a text.
     pub fn last_was_yank(&self) -> bool = lodvarn_last_was_yank();
 
     /// How many texts the ring has.
