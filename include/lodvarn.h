@@ -164,9 +164,10 @@ typedef struct lodvarn_position {
     size_t column;
 } lodvarn_position;
 
-/* A grapheme cluster: the place where it ends, and how many columns it takes. */
+/* A grapheme cluster: where it begins and ends, and how many columns it takes. */
 typedef struct lodvarn_cluster {
-    size_t end;
+    size_t from;
+    size_t to;
     size_t columns;
 } lodvarn_cluster;
 
@@ -502,9 +503,12 @@ int lodvarn_slice(lodvarn *s, lodvarn_range range, lodvarn_view *view);
 /* Returns the place of the cursor. */
 size_t lodvarn_pos(lodvarn *s);
 
-/* Returns the number of the cursor's line; and the number of lines, at least 1. */
-size_t lodvarn_cursor_line(lodvarn *s);
+/* Returns the number of lines, at least 1. */
 size_t lodvarn_count_lines(lodvarn *s);
+
+/* Tells the number of the line in which a place stands; a newline belongs to the line that it ends. Errors:
+ * BAD_PLACE. */
+int lodvarn_line_at(lodvarn *s, size_t place, size_t *line);
 
 /* Tells where the cursor is: the number of its line, and the width of the text from the start of that line to the
  * cursor, at most 65535. */
@@ -513,15 +517,19 @@ int lodvarn_find_cursor(lodvarn *s, lodvarn_position *position);
 /* Tells where a line begins, and where it ends before its newline. Returns NOTHING if there is no such line. */
 int lodvarn_find_line(lodvarn *s, size_t line, lodvarn_range *range);
 
-/* Tells what lodvarn_copy by a movement would copy. Returns NOTHING if there is nothing. */
-int lodvarn_covers(lodvarn *s, lodvarn_movement movement, lodvarn_range *range);
+/* Tells what lodvarn_copy by a movement would copy with the cursor at the place from, as lodvarn_pos(s). Returns NOTHING
+ * if there is nothing. Errors: BAD_PLACE. */
+int lodvarn_covers(lodvarn *s, size_t from, lodvarn_movement movement, lodvarn_range *range);
 
-/* Tells where lodvarn_move by a movement would go. Returns NOTHING if there is nowhere to go. */
-int lodvarn_destination(lodvarn *s, lodvarn_movement movement, size_t *place);
+/* Tells where lodvarn_move by a movement would go with the cursor at the place from. Returns NOTHING if there is nowhere
+ * to go. Errors: BAD_PLACE. */
+int lodvarn_destination(lodvarn *s, size_t from, lodvarn_movement movement, size_t *place);
 
-/* Measures the first grapheme cluster of the text from a place on, and reads no more of the text than that. Returns
- * NOTHING if the place is the end of the text. Errors: BAD_PLACE. */
+/* Measures the first grapheme cluster of the text from a place on; the last one of the text before a place. They read no
+ * more of the text than is near to the place. Return NOTHING if the place is the end of the text, or its start. Errors:
+ * BAD_PLACE. */
 int lodvarn_cluster_at(lodvarn *s, size_t place, lodvarn_cluster *cluster);
+int lodvarn_cluster_before(lodvarn *s, size_t place, lodvarn_cluster *cluster);
 
 /* Returns the number of entries of the record, the marks of groups too; and how many groups are open. */
 size_t lodvarn_entries(lodvarn *s);
@@ -564,7 +572,8 @@ int lodvarn_script(const char *script, size_t len, char *out, size_t cap, size_t
 /* Measures a text: sets *columns to how many it takes, at most 65535. */
 int lodvarn_width(enum lodvarn_mode mode, const char *text, size_t len, size_t *columns);
 
-/* Sets *bytes to the length of the first grapheme cluster of a text; of the last one. Return NOTHING if it is empty. */
+/* Sets *bytes to the length of the first grapheme cluster of a text; of the last one. Return NOTHING if it is empty. They
+ * check that the whole text is UTF-8: go over that of a session by lodvarn_cluster_at. */
 int lodvarn_first_cluster(const char *text, size_t len, size_t *bytes);
 int lodvarn_last_cluster(const char *text, size_t len, size_t *bytes);
 

@@ -92,12 +92,17 @@ class Places(Scripts):
             (session.find_line(2), FAMILY),
             (session.find_line(3), None),
             (session.covers(Movement.search_for(Search.TO, "z")), None),
+            (session.covers(LINE, 1), "é日 cd"),
+            (session.covers(BACK, 2), "é日"),
+            (session.covers(BACK, 0), None),
         ]:
             self.assertEqual(told and text[slice(*told)], wanted)
-        self.assertEqual(session.destination(BACK), 8)
+        self.assertEqual([session.destination(BACK, it) for it in (None, 2, 0, 6)], [8, 0, None, 3])
         self.assertIsNone(session.destination(LINE))
-        self.assertEqual([session.cluster_at(it) for it in (1, 12, 17)], [(2, 2), (17, 2), None])
-        self.assertEqual((session.find_cursor(), session.cursor_line, session.count_lines()), ((1, 5), 1, 3))
+        self.assertEqual([session.cluster_at(it) for it in (1, 12, 17)], [(1, 2, 2), (12, 17, 2), None])
+        self.assertEqual([session.cluster_before(it) for it in (2, 17, 0)], [(1, 2, 2), (12, 17, 2), None])
+        self.assertEqual([session.line_at(it) for it in (0, 5, 6, 11, 12, 17)], [0, 0, 1, 1, 2, 2])
+        self.assertEqual((session.find_cursor(), session.count_lines(), session.pos), ((1, 5), 3, 10))
 
     def test_what_is_given_are_indexes(self):
         session = opened("é日c", 1)
@@ -301,7 +306,9 @@ class Faults(Scripts):
         self.refuses(lodvarn.IsWatchedError, session, session.watch)
         for call, given in [
             (session.set_text, (2, "é")), (session.insert_at, (3, "x")), (session.replace, (2, 1, "x")),
-            (session.cluster_at, (3,)), (session.slice, (0, 2**64)), (lodvarn.cell, (Screen(9), 2, "é")),
+            (session.cluster_at, (3,)), (session.cluster_before, (3,)), (session.line_at, (3,)),
+            (session.covers, (LINE, 3)), (session.destination, (START, 3)), (session.slice, (0, 2**64)),
+            (lodvarn.cell, (Screen(9), 2, "é")),
         ]:
             self.refuses(lodvarn.BadPlaceError, session, call, *given)
         for call, given in [

@@ -27,10 +27,10 @@ from typing import Any, Callable, Iterator, NamedTuple, Optional, TypeVar
 from ._lodvarn import ffi, lib
 
 __all__ = [
-    "BadPlaceError", "BadYankSizeError", "Case", "ClosedError", "Direction", "IsWatchedError", "LodvarnError", "Mode",
-    "Movement", "NoMemoryError", "NoRoomError", "NoSuchNumberError", "NotReplayingError", "Report", "ReportKind",
-    "Screen", "Search", "Session", "Splice", "Stop", "Word", "cell", "first_cluster", "last_cluster", "place_at",
-    "run_script", "width",
+    "BadPlaceError", "BadYankSizeError", "Case", "ClosedError", "Cluster", "Direction", "IsWatchedError",
+    "LodvarnError", "Mode", "Movement", "NoMemoryError", "NoRoomError", "NoSuchNumberError", "NotReplayingError",
+    "Report", "ReportKind", "Screen", "Search", "Session", "Splice", "Stop", "Word", "cell", "first_cluster",
+    "last_cluster", "place_at", "run_script", "width",
 ]
 
 __version__ = "0.1.0"
@@ -334,6 +334,14 @@ class Movement:
     def to_text_end(cls) -> Movement:
         """To the end of the text."""
         return cls._made("to_text_end")
+
+
+class Cluster(NamedTuple):
+    """A grapheme cluster, which stands from `start` to `end`, and how many columns it takes."""
+
+    start: int
+    end: int
+    columns: int
 
 
 class Splice(NamedTuple):
@@ -769,10 +777,9 @@ class Session:
     def pos(self, pos: int) -> None:
         self._do(lib.py_set_pos, _place(lib.place_of, self._it, pos))
 
-    @property
-    def cursor_line(self) -> int:
-        """The number of the cursor's line."""
-        return _asked(lib.py_cursor_line, self._it)
+    def line_at(self, place: int) -> int:
+        """Returns the number of the line in which a place stands. Raises BadPlaceError."""
+        return _size(lib.py_line_at, self._it, _place(lib.place_of, self._it, place))
 
     def count_lines(self) -> int:
         """Returns how many lines the text has, at least 1."""
@@ -786,21 +793,34 @@ class Session:
         """Returns the places where a line begins and ends, before its newline, or None if there is no such line."""
         return _pair(lib.py_find_line, self._it, line)
 
-    def covers(self, movement: Movement) -> Optional[tuple[int, int]]:
-        """Returns the two places between which stands what a copy by a movement would take, or None if nothing does."""
-        return _pair(lib.py_covers, self._it, _of(Movement, movement)._in_c)
+    def _start(self, start: Optional[int]) -> int:
+        """Returns the place in bytes of a place, or of the cursor."""
+        return _asked(lib.py_pos, self._it) if start is None else _place(lib.place_of, self._it, start)
 
-    def destination(self, movement: Movement) -> Optional[int]:
-        """Returns the place where a move would go, or None if there is nowhere to go."""
-        told = _pair(lib.py_destination, self._it, _of(Movement, movement)._in_c)
-        return told[1] if told else None
+    def covers(self, movement: Movement, start: Optional[int] = None) -> Optional[tuple[int, int]]:
+        """Returns the two places between which stands what a copy by a movement would take, or None if nothing does.
 
-    def cluster_at(self, place: int) -> Optional[tuple[int, int]]:
-        """Returns the place where the first cluster from a place on ends, and its columns. None at the end of the text.
+        The movement begins at `start`, or at the cursor. Raises BadPlaceError.
+        """
+        return _pair(lib.py_covers, self._it, self._start(start), _of(Movement, movement)._in_c)
+
+    def destination(self, movement: Movement, start: Optional[int] = None) -> Optional[int]:
+        """Returns the place where a move from `start`, or from the cursor, would go, or None if there is nowhere to go.
 
         Raises BadPlaceError.
         """
-        return _pair(lib.py_cluster_at, self._it, place)
+        told = _pair(lib.py_destination, self._it, self._start(start), _of(Movement, movement)._in_c)
+        return told[1] if told else None
+
+    def cluster_at(self, place: int) -> Optional[Cluster]:
+        """Returns the first cluster of the text from a place on. None at the end of the text. Raises BadPlaceError."""
+        told = _pair(lib.py_cluster_at, self._it, _place(lib.place_of, self._it, place))
+        return Cluster(place, place + told[0], told[1]) if told else None
+
+    def cluster_before(self, place: int) -> Optional[Cluster]:
+        """Returns the last cluster of the text before a place. None at its start. Raises BadPlaceError."""
+        told = _pair(lib.py_cluster_before, self._it, _place(lib.place_of, self._it, place))
+        return Cluster(place - told[0], place, told[1]) if told else None
 
     @property
     def entries(self) -> int:

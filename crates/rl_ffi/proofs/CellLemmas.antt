@@ -51,6 +51,18 @@ within-after screen (r, c) cluster = by_newline (is_newline cluster)
     by_newline true = next-row screen.columns r c 0
     by_newline false = by_tab (is_tab cluster && nat_lt 0 screen.tab)
 
+-- past the given cell no place is chosen
+pub none-chosen : (screen : Screen) (cell : ℕ × ℕ) (place : ℕ) (at : ℕ × ℕ) (clusters : List (List ℕ)) (found : ℕ) → is_within (wrapped screen.columns at) cell ≡ false
+    → last_within cell found (cells screen place at clusters) ≡ found
+none-chosen screen cell place at [] found past = ap (λ b. cond b place found) past
+none-chosen screen cell place at (cluster ∷ more) found past =
+    ap (λ b. last_within cell (cond b place found) (cells screen (place + length cluster) (after screen at cluster) more)) past
+    ∙ none-chosen screen cell (place + length cluster) (after screen at cluster) more found (still (is_within (wrapped screen.columns (after screen at cluster)) cell) refl)
+  where
+    still : (b : Bool) → is_within (wrapped screen.columns (after screen at cluster)) cell ≡ b → b ≡ false
+    still true e = sym (within-trans _ _ cell (within-after screen at cluster) e) ∙ past
+    still false e = refl
+
 -- of cells none of which is before the given one, the last that is not after it is that one; or all are after it
 abbrev Chosen : ℕ × ℕ → ℕ → List (ℕ × (ℕ × ℕ)) → Type 0
 Chosen cell found ps = (last_within cell found ps ≡ found) ⊎ ((j : ℕ) × (slice_get ps j ≡ Some (last_within cell found ps, cell)))

@@ -100,9 +100,11 @@ pub(crate) fn place_at(screen: &Screen, prompt: u16, text: &str, cell: (usize, u
     let mut place: usize = 0;
     let mut found: usize = 0;
     for cluster in text.graphemes(true) {
-        if is_within(wrapped(screen.columns, row, column), cell) {
-            found = place;
+        // No cell after this one is nearer.
+        if !is_within(wrapped(screen.columns, row, column), cell) {
+            return found;
         }
+        found = place;
         (row, column) = after(screen, row, column, cluster);
         place += cluster.len();
     }

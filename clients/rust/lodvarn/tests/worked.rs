@@ -2,7 +2,8 @@
 //! movement of a session is what the word of a script is.
 mod typed;
 
-use lodvarn::{first_cluster, run_script, width, Mode, Position, Screen, Session};
+use lodvarn::{first_cluster, last_cluster, run_script, width};
+use lodvarn::{Cluster, Mode, Position, Screen, Session};
 use std::process::Command;
 use typed::Typed;
 
@@ -37,7 +38,7 @@ fn rows() -> Vec<([Vec<u8>; 3], bool)> {
 fn reads_agree(s: &Session) {
     let (text, pos, mode) = (s.text(), s.pos(), s.options().mode);
     let own = text[..pos].matches('\n').count();
-    assert_eq!(s.cursor_line(), own);
+    assert_eq!(s.line_at(pos), Ok(own));
     assert_eq!(s.count_lines(), text.matches('\n').count() + 1);
     let first = text[..pos].rfind('\n').map_or(0, |at| at + 1);
     let end = text[pos..].find('\n').map_or(text.len(), |at| pos + at);
@@ -46,10 +47,16 @@ fn reads_agree(s: &Session) {
     let column = width(mode, &text[first..pos]);
     assert_eq!(s.find_cursor(), Position { line: own, column });
     let next = first_cluster(&text[pos..]);
-    let cluster = s.cluster_at(pos).expect("a place");
-    let cluster = cluster.map(|it| (it.end, it.columns));
-    let wanted = (pos + next.len(), width(mode, next));
-    assert_eq!(cluster, Some(wanted).filter(|_| !next.is_empty()));
+    let cluster = |from, text: &str| Cluster {
+        from,
+        to: from + text.len(),
+        columns: width(mode, text),
+    };
+    let wanted = Some(cluster(pos, next)).filter(|_| !next.is_empty());
+    assert_eq!(s.cluster_at(pos), Ok(wanted));
+    let last = last_cluster(&text[..pos]);
+    let wanted = Some(cluster(pos - last.len(), last)).filter(|_| !last.is_empty());
+    assert_eq!(s.cluster_before(pos), Ok(wanted));
     let texts = (0..).map_while(|back| s.ring_text(back)).count();
     assert_eq!(texts, s.ring_count());
     assert_eq!(s.slice(first..end), Ok(&text[first..end]));

@@ -1,11 +1,11 @@
-use Rattle.std.proofs.Common.{rules, arith, Bool, ◌≡◌, ◌+◌, ℕ, length, if◌then◌else◌, length-append, sym, ap, ◌∙◌}
+use Rattle.std.proofs.Common.{rules, arith, true, false, if◌then◌else◌, ◌≡◌, ◌+◌, ℕ, length, length-append, sym, ap, ◌∙◌}
 use Rattle.std.specs.List.{concat}
 use Rattle.unicode_segmentation.specs.Iter.{graphemes_left}
 use Rattle.rl_base.specs.Clusters.{bytes_in, clusters}
 use Rattle.rl_base.proofs.Clusters.ClusterLemmas.{bytes_in-clusters}
-use Rattle.rl_ffi.specs.Cells.{cells, is_within, last_within, wrapped}
+use Rattle.rl_ffi.specs.Cells.{after, cells, is_within, last_within, wrapped}
+use Rattle.rl_ffi.proofs.CellLemmas.{none-chosen}
 use Rattle.rl_ffi.proofs.cells.place_at.Goals as goal
-use Rattle.rl_ffi.proofs.cells.place_at.Goals.{then-is_within, else-is_within}
 
 pub loop-cluster-init : goal.loop-cluster-init
 loop-cluster-init c =
@@ -20,24 +20,30 @@ loop-cluster-init c =
 
 pub loop-cluster-preserved : goal.loop-cluster-preserved
 loop-cluster-preserved c =
-    let i = c.loop-cluster.invariant in
     let step = c.in-Some.ensures.steps in
     let rest = graphemes_left c.next.new.self in
     let screen = c.args.screen.now in
-    let chosen : Bool → ℕ = λ b. if b then c.loop-cluster.place else c.loop-cluster.found in
-    let tested : is_within (wrapped screen.columns (c.loop-cluster.row, c.loop-cluster.column)) c.args.cell ≡ c.is_within.result =
-    ap (λ at. is_within at c.args.cell) (sym c.wrapped.ensures) ∙ sym c.is_within.ensures in
-    let found : c.if-is_within.found ≡ chosen (is_within (wrapped screen.columns (c.loop-cluster.row, c.loop-cluster.column)) c.args.cell) =
-    elim c.if-is_within.branch [
-      | then-is_within w ↦ w.found-is ∙ sym (ap chosen (tested ∙ w.if-is_within.true))
-      | else-is_within w ↦ w.found-is ∙ sym (ap chosen (tested ∙ w.if-is_within.false))
-    ] in
+    let cell = c.args.cell in
+    let place = c.loop-cluster.place in
+    let next = place + length c.in-Some.cluster.now in
+    let at : ℕ × ℕ = (c.loop-cluster.row, c.loop-cluster.column) in
+    let within : is_within (wrapped screen.columns at) cell ≡ true =
+    ap (λ x. is_within x cell) (sym c.wrapped.ensures) ∙ sym c.is_within.ensures ∙ c.if-not-is_within.false in
     record {
       rows = search rules;
       column = search rules;
-      place = omega (arith, i.place, ap bytes_in step, length-append c.in-Some.cluster.now (concat rest));
+      place = omega (arith, c.loop-cluster.invariant.place, ap bytes_in step, length-append c.in-Some.cluster.now (concat rest));
       chosen =
-          ap (λ f. last_within c.args.cell f (cells screen (c.loop-cluster.place + length c.in-Some.cluster.now) c.after.result rest)) found
-          ∙ ap (λ at. last_within c.args.cell (chosen (is_within (wrapped screen.columns (c.loop-cluster.row, c.loop-cluster.column)) c.args.cell)) (cells screen (c.loop-cluster.place + length c.in-Some.cluster.now) at rest)) c.after.ensures.place
-          ∙ sym (ap (λ l. last_within c.args.cell c.loop-cluster.found (cells screen c.loop-cluster.place (c.loop-cluster.row, c.loop-cluster.column) l)) step) ∙ i.chosen;
+          ap (λ x. last_within cell place (cells screen next x rest)) c.after.ensures.place
+          ∙ sym (ap (λ b. last_within cell (if b then place else c.loop-cluster.found) (cells screen next (after screen at c.in-Some.cluster.now) rest)) within)
+          ∙ sym (ap (λ l. last_within cell c.loop-cluster.found (cells screen place at l)) step) ∙ c.loop-cluster.invariant.chosen;
     }
+
+pub returns-then-not-is_within : goal.returns-then-not-is_within
+returns-then-not-is_within c =
+    let screen = c.args.screen.now in
+    let at : ℕ × ℕ = (c.loop-cluster.row, c.loop-cluster.column) in
+    let past : is_within (wrapped screen.columns at) c.args.cell ≡ false =
+    ap (λ x. is_within x c.args.cell) (sym c.wrapped.ensures) ∙ sym c.is_within.ensures ∙ c.if-not-is_within.true in
+    sym (none-chosen screen c.args.cell c.loop-cluster.place at (graphemes_left c.loop-cluster.cluster-iterator) c.loop-cluster.found past)
+    ∙ c.loop-cluster.invariant.chosen
