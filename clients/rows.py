@@ -1,5 +1,6 @@
 #!/usr/bin/env python3
-"""Prints the worked scripts of crates/rl_tests as a table for C: what each shows, the script, and what it prints.
+"""Prints the worked scripts of crates/rl_tests as a table for C: what each shows, the script, what it prints, and whether
+each of its lines has a call that does the same.
 
     python3 clients/rows.py > rows.h
 
@@ -16,6 +17,11 @@ TEXT = r'"(?:[^"\\]|\\.)*"'
 CONSTANT = re.compile(rf"const (\w+): &str = ({TEXT});")
 ESCAPE = re.compile(rb"\\(?:x(..)|u\{(\w+)\}|(.))")
 LETTERS = {b"n": b"\n", b"r": b"\r", b"t": b"\t", b"\\": b"\\", b'"': b'"'}
+# A line without a call prints bad, since it means nothing, or has a count of 0, by which a call does nothing.
+NO_TIMES = re.compile(
+    rb"^(?:(?:move|kill|copy|(?:in|de)dent \d+) )?(?:ins|paste|yank|del|back|twords|undo|prevword|nextword|to|bword|fword"
+    rb"|find|bchar|fchar|up|down) 0+(?: |$)", re.M,
+)
 # What stands in a text of C as it is. Two question marks and what comes after them may mean another character there.
 PLAIN = set(range(32, 127)) - set(b'"\\?')
 
@@ -60,6 +66,11 @@ def rows_of(source):
     return rows
 
 
+def has_calls(script, printed):
+    """Whether each line of a script has a call that does the same."""
+    return b"bad" not in printed.split(b"\n") and not NO_TIMES.search(script)
+
+
 def in_c(text):
     """A text as C has it. A NUL would end it."""
     if 0 in text:
@@ -68,10 +79,10 @@ def in_c(text):
 
 
 def main():
-    print("static const struct row {\n    const char *what, *script, *wanted;\n} rows[] = {")
+    print("static const struct row {\n    const char *what, *script, *wanted;\n    int has_calls;\n} rows[] = {")
     for file in sorted(TESTS.glob("*.rt")):
         for row in rows_of(file.read_text()):
-            print(f"    {{{', '.join(in_c(text) for text in row)}}},")
+            print(f"    {{{', '.join(in_c(text) for text in row)}, {int(has_calls(*row[1:]))}}},")
     print("};")
 
 

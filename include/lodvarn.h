@@ -26,7 +26,8 @@
  * - Lengths, limits and places are in bytes. A place is a number of bytes from the start of the text. It must be a
  *   boundary: an end of the text, or between two characters.
  * - A character c is a Unicode scalar value: up to 0x10FFFF, and no surrogate.
- * - A count n is of grapheme clusters, words, lines or repetitions, up to 65535.
+ * - A count n is of grapheme clusters, words, lines or repetitions, up to 65535, also that of a movement. A count of 0
+ *   does nothing: the call returns NOTHING, and the whole session stays.
  * - Columns are those of a terminal, where a wide character takes two. Lines and columns are numbered from 0.
  * - The record has entries: changes, and the marks where groups begin and end.
  *
@@ -38,9 +39,9 @@
  * that takes a text. What an error leaves:
  * - NO_MEMORY: an edit of several steps stops after the steps that it made, and the record has these. Every other call
  *   leaves text, cursor, record and limit as they were. The ring may have kept a text that a kill did not delete.
- * - BAD_PLACE, BAD_YANK_SIZE, NOT_REPLAYING and NO_ROOM: text, cursor, record and limit as they were. The call still
- *   counts as a command, unless it is a read, lodvarn_kill_range, or lodvarn_yank_pop that is out of room: a kill after
- *   it begins a new text of the ring, and lodvarn_yank_pop after it finds nothing.
+ * - BAD_PLACE, NOT_REPLAYING and NO_ROOM: text, cursor, record and limit as they were. The call still counts as a
+ *   command, unless it is a read, lodvarn_kill_range, or lodvarn_yank_pop that is out of room: a kill after it begins a
+ *   new text of the ring, and lodvarn_yank_pop after it finds nothing.
  * - Every other error: the whole session as it was.
  * A call writes to an argument only if it returns 1 or more, or TOO_SMALL. lodvarn_script writes in any case.
  *
@@ -88,7 +89,7 @@ enum lodvarn_answer {
     LODVARN_DONE_AT_END = 2,     /* done, and what was inserted went to the end of the text */
     LODVARN_NO_MEMORY = -1,      /* out of memory */
     LODVARN_BAD_PLACE = -2,      /* a place is past the end or inside a character, or two places are out of order */
-    LODVARN_BAD_YANK_SIZE = -3,  /* the text before the cursor was not just yanked */
+    LODVARN_BAD_YANK_SIZE = -3,  /* no text of the yanked size ends at the cursor of a line by itself */
     LODVARN_NOT_REPLAYING = -4,  /* the entries do not lead to the present text */
     LODVARN_NO_ROOM = -5,        /* the text would get longer than the limit */
     LODVARN_NOT_UTF8 = -6,       /* a text that was passed is not UTF-8 */
@@ -164,9 +165,10 @@ typedef struct lodvarn_position {
     size_t column;
 } lodvarn_position;
 
-/* A grapheme cluster: the place where it ends, and how many columns it takes. */
+/* A grapheme cluster: where it begins and ends, and how many columns it takes. */
 typedef struct lodvarn_cluster {
-    size_t end;
+    size_t from;
+    size_t to;
     size_t columns;
 } lodvarn_cluster;
 
@@ -340,8 +342,7 @@ int lodvarn_yank(lodvarn *s, size_t n);
 /* Replaces the text that the last call yanked by the one before it in the ring. These are two changes: call
  * lodvarn_begin_group before the yank, and lodvarn_end_group after the last call of this, if one undo should take back
  * all. Returns NOTHING if the last command was not a yank. If the text before it is empty, what was yanked is deleted.
- * Errors: NO_ROOM, which leaves the whole session; BAD_YANK_SIZE if no text of the yanked length ends at the cursor, as
- * may happen after a yank with n = 0; NO_MEMORY. */
+ * Errors: NO_ROOM, which leaves the whole session; NO_MEMORY. */
 int lodvarn_yank_pop(lodvarn *s);
 
 /* Replaces the whole text by another one, which is cut to the limit. The cursor goes to the place pos of the new text,
@@ -424,7 +425,7 @@ int lodvarn_begin_group(lodvarn *s);
 int lodvarn_end_group(lodvarn *s);
 int lodvarn_end_all_groups(lodvarn *s);
 
-/* Undoes the last n changes and groups, one if n is 0, all if there are fewer. The cursor goes to where it was before
+/* Undoes the last n changes and groups, all if there are fewer. The cursor goes to where it was before
  * them. An edit is a change of its own, or several, as its comment says. But it joins the last change, and is undone
  * with it, if it is
  * - one letter or digit by lodvarn_insert with n = 1, and the last change an insertion that ends at its place;
@@ -504,9 +505,12 @@ int lodvarn_slice(lodvarn *s, lodvarn_range range, lodvarn_view *view);
 /* Returns the place of the cursor. */
 size_t lodvarn_pos(lodvarn *s);
 
-/* Returns the number of the cursor's line; and the number of lines, at least 1. */
-size_t lodvarn_cursor_line(lodvarn *s);
+/* Returns the number of lines, at least 1. */
 size_t lodvarn_count_lines(lodvarn *s);
+
+/* Tells the number of the line in which a place stands; a newline belongs to the line that it ends. Errors:
+ * BAD_PLACE. */
+int lodvarn_line_at(lodvarn *s, size_t place, size_t *line);
 
 /* Tells where the cursor is: the number of its line, and the width of the text from the start of that line to the
  * cursor, at most 65535. */
@@ -515,15 +519,19 @@ int lodvarn_find_cursor(lodvarn *s, lodvarn_position *position);
 /* Tells where a line begins, and where it ends before its newline. Returns NOTHING if there is no such line. */
 int lodvarn_find_line(lodvarn *s, size_t line, lodvarn_range *range);
 
-/* Tells what lodvarn_copy by a movement would copy. Returns NOTHING if there is nothing. */
-int lodvarn_covers(lodvarn *s, lodvarn_movement movement, lodvarn_range *range);
+/* Tells what lodvarn_copy by a movement would copy with the cursor at the place from, as lodvarn_pos(s). Returns NOTHING
+ * if there is nothing. Errors: BAD_PLACE. */
+int lodvarn_covers(lodvarn *s, size_t from, lodvarn_movement movement, lodvarn_range *range);
 
-/* Tells where lodvarn_move by a movement would go. Returns NOTHING if there is nowhere to go. */
-int lodvarn_destination(lodvarn *s, lodvarn_movement movement, size_t *place);
+/* Tells where lodvarn_move by a movement would go with the cursor at the place from. Returns NOTHING if there is nowhere
+ * to go. Errors: BAD_PLACE. */
+int lodvarn_destination(lodvarn *s, size_t from, lodvarn_movement movement, size_t *place);
 
-/* Measures the first grapheme cluster of the text from a place on, and reads no more of the text than that. Returns
- * NOTHING if the place is the end of the text. Errors: BAD_PLACE. */
+/* Measures the first grapheme cluster of the text from a place on; the last one of the text before a place. They read no
+ * more of the text than is near to the place. Return NOTHING if the place is the end of the text, or its start. Errors:
+ * BAD_PLACE. */
 int lodvarn_cluster_at(lodvarn *s, size_t place, lodvarn_cluster *cluster);
+int lodvarn_cluster_before(lodvarn *s, size_t place, lodvarn_cluster *cluster);
 
 /* Tells the place n rows above the cursor on a screen; n rows below it: the last one of that row whose column is not
  * after *column. Begin with LODVARN_OWN_COLUMN in *column, for which the cursor's is taken and written there, and pass
@@ -551,7 +559,7 @@ size_t lodvarn_ring_count(lodvarn *s);
 int lodvarn_ring_text(lodvarn *s, size_t back, lodvarn_view *view);
 
 /* Returns whether lodvarn_yank_pop would find a yanked text to replace: from a lodvarn_yank or lodvarn_yank_pop that
- * put one in, also no times, up to the next command; but a kill that removes nothing leaves it so. */
+ * put one in, up to the next command; but a kill that removes nothing leaves it so. */
 bool lodvarn_last_was_yank(lodvarn *s);
 
 /* Returns how many reports wait; a folded one is one. */
@@ -575,7 +583,8 @@ int lodvarn_script(const char *script, size_t len, char *out, size_t cap, size_t
 /* Measures a text: sets *columns to how many it takes, at most 65535. */
 int lodvarn_width(enum lodvarn_mode mode, const char *text, size_t len, size_t *columns);
 
-/* Sets *bytes to the length of the first grapheme cluster of a text; of the last one. Return NOTHING if it is empty. */
+/* Sets *bytes to the length of the first grapheme cluster of a text; of the last one. Return NOTHING if it is empty. They
+ * check that the whole text is UTF-8: go over that of a session by lodvarn_cluster_at. */
 int lodvarn_first_cluster(const char *text, size_t len, size_t *bytes);
 int lodvarn_last_cluster(const char *text, size_t len, size_t *bytes);
 

@@ -146,7 +146,7 @@ static void begin_row(struct editor *e, struct spot *at, const struct view *view
  * wrapped. */
 static void draw_cluster(struct editor *e, const char *bytes, lodvarn_cluster it, struct spot *at,
                          const struct view *view) {
-    size_t sum = 0, len = it.end - at->place;
+    size_t sum = 0, len = it.to - it.from;
     if (*bytes == '\n' || at->column + it.columns > view->columns) begin_row(e, at, view);
     if (*bytes == '\n') return;
     at->column += it.columns;
@@ -167,7 +167,7 @@ static void draw(struct editor *e, struct spot at, size_t end, const struct view
         if (view->top == 0) fputs(prompt, stdout);
         at.column = prompt_columns;
     }
-    for (lodvarn_cluster it; at.place < end && lodvarn_cluster_at(e->session, at.place, &it) > 0; at.place = it.end)
+    for (lodvarn_cluster it; at.place < end && lodvarn_cluster_at(e->session, at.place, &it) > 0; at.place = it.to)
         draw_cluster(e, e->text + at.place, it, &at, view);
     if (end == e->len && at.column >= view->columns) begin_row(e, &at, view);
     if (at.row < view->top || view->bottom < at.row || at.column >= view->columns) return;
@@ -178,16 +178,15 @@ static void draw(struct editor *e, struct spot at, size_t end, const struct view
 
 /* Where to begin if the text has changed from a place on: a cluster before, since what comes may join that one, and not
  * at the left edge of a row that is wrapped, since what comes may fit in the row above. */
-static struct spot spot_before(const char *bytes, size_t place, uint16_t columns) {
+static struct spot spot_before(struct editor *e, size_t place, uint16_t columns) {
     lodvarn_screen screen = screen_of(columns);
     lodvarn_position cell = {0, 0};
+    lodvarn_cluster it;
     do {
-        size_t k = 0;
-        lodvarn_last_cluster(bytes, place, &k);
-        place -= k;
-        if (place == 0) return (struct spot){0, 0, 0};
-        lodvarn_cell(&screen, place, bytes, place, &cell);
-    } while (cell.column == 0 && bytes[place - 1] != '\n');
+        if (lodvarn_cluster_before(e->session, place, &it) <= 0 || it.from == 0) return (struct spot){0, 0, 0};
+        place = it.from;
+        lodvarn_cell(&screen, place, e->text, place, &cell);
+    } while (cell.column == 0 && e->text[place - 1] != '\n');
     return (struct spot){place, cell.line, cell.column};
 }
 
@@ -245,7 +244,7 @@ static void redraw(struct editor *e) {
     } else if (has_changed) {
         const char *newline = NULL;
         if (view.last == e->shown.last) newline = memchr(e->text + change.new_to, '\n', e->len - change.new_to);
-        draw(e, spot_before(e->text, change.from, view.columns), newline ? (size_t)(newline - e->text) : e->len, &view);
+        draw(e, spot_before(e, change.from, view.columns), newline ? (size_t)(newline - e->text) : e->len, &view);
     }
     go_to(e, cursor.row, cursor.column);
     e->cursor.place = cursor.place;

@@ -119,14 +119,16 @@ static int has_left_all(void) {
         && lodvarn_record_undo(r, l, 1) == LODVARN_DONE && stands(l, "a|");
 }
 
-static void refuse_movement(lodvarn_movement bad) {
-    LEAVES(NO_SUCH_NUMBER, lodvarn_line_move(l, bad, LODVARN_UNICODE, 0));
-    LEAVES(NO_SUCH_NUMBER, lodvarn_line_destination(l, bad, LODVARN_UNICODE, 0, &out.number));
-    LEAVES(NO_SUCH_NUMBER, lodvarn_line_covers(l, bad, &out.range));
-    LEAVES(NO_SUCH_NUMBER, lodvarn_line_delete_by(l, ALONE, bad));
-    LEAVES(NO_SUCH_NUMBER, lodvarn_line_kill(l, ALONE, bad));
-    LEAVES(NO_SUCH_NUMBER, lodvarn_line_indent(l, ALONE, bad, 1, LODVARN_INDENT));
-}
+/* No call takes the movement; none does anything by it. */
+#define NO_CALL_TAKES(wanted, movement)                                                       \
+    LEAVES(wanted, lodvarn_line_move(l, movement, LODVARN_UNICODE, 0));                       \
+    LEAVES(wanted, lodvarn_line_destination(l, movement, LODVARN_UNICODE, 0, &out.number));   \
+    LEAVES(wanted, lodvarn_line_covers(l, movement, &out.range));                             \
+    LEAVES(wanted, lodvarn_line_delete_by(l, ALONE, movement));                               \
+    LEAVES(wanted, lodvarn_line_kill(l, ALONE, movement));                                    \
+    LEAVES(wanted, lodvarn_line_indent(l, ALONE, movement, 1, LODVARN_INDENT))
+static void refuse_movement(lodvarn_movement bad) { NO_CALL_TAKES(NO_SUCH_NUMBER, bad); }
+static void leave_movement(lodvarn_movement by) { NO_CALL_TAKES(NOTHING, by); }
 
 static void numbers_that_are_none(void) {
     each_bad_movement(refuse_movement);
@@ -160,6 +162,16 @@ static void numbers_that_are_none(void) {
     }
     LEAVES(NO_SUCH_NUMBER, lodvarn_line_delete_by(l, ALONE, lodvarn_whole_line()));
     LEAVES(NO_SUCH_NUMBER, lodvarn_line_delete_by(l, ALONE, lodvarn_chars_back(1)));
+}
+
+static void counts_of_0_do_nothing(void) {
+    LEAVES(NOTHING, lodvarn_line_insert(l, ALONE, 'a', 0));
+    LEAVES(NOTHING, lodvarn_line_paste(l, ALONE, "a", 1, 0));
+    LEAVES(NOTHING, lodvarn_line_delete(l, ALONE, 0));
+    LEAVES(NOTHING, lodvarn_line_backspace(l, ALONE, 0));
+    LEAVES(NOTHING, lodvarn_line_transpose_words(l, ALONE, 0));
+    LEAVES(NOTHING, lodvarn_record_undo(r, l, 0));
+    each_counted_movement(0, leave_movement);
 }
 
 static void texts_that_are_no_utf8(void) {
@@ -378,6 +390,7 @@ static void rings_yank(void) {
 int main(void) {
     handles_open_and_close();
     numbers_that_are_none();
+    counts_of_0_do_nothing();
     texts_that_are_no_utf8();
     places_that_are_none();
     lines_are_edited();

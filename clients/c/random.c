@@ -16,8 +16,9 @@ static void add(const char *format, ...) {
     va_end(given);
 }
 
+/* A count of 0 means something in a script alone. */
 static unsigned count(void) {
-    static const unsigned counts[] = {0, 1, 1, 1, 1, 2, 2, 3, 5, 65535};
+    static const unsigned counts[] = {1, 1, 1, 1, 2, 2, 3, 5, 65535};
     return ONE_OF(counts);
 }
 
@@ -129,7 +130,7 @@ static void add_other(struct typed *t) {
     case 2: add("copy"); add_movement(); break;
     case 3: add("case %s", ONE_OF(cases)); break;
     case 4: add("twords %u", count()); break;
-    case 5: add("yank %u", below(3)); break;
+    case 5: add("yank %u", 1 + below(2)); break;
     case 6: add("undo %u", count() % 9); break;
     case 7: add("trunc %u", below((unsigned)lodvarn_entries(t->s) + 2)); break;
     default: add("%s", ONE_OF(plain));

@@ -66,6 +66,12 @@ static inline int around(int k, int first) {
     for (int k = 0, number; k < NUMBERS; k++) \
         if ((number = around(k, first)) < (int)(first) || number > (int)(last))
 
+/* Tries each kind of movement that has a count. */
+static inline void each_counted_movement(size_t n, void (*try)(lodvarn_movement)) {
+    for (uint32_t kind = LODVARN_WORDS_BACK_; kind <= LODVARN_LINES_DOWN_; kind++)
+        if (kind != LODVARN_FROM_FIRST_WORD_) try(lodvarn_movement_(kind, 'a', n));
+}
+
 /* Tries movements of no kind, of a number outside of its enum, with a count that is too great, and to no character. */
 static inline void each_bad_movement(void (*refuse)(lodvarn_movement)) {
     EACH_OUTSIDE(LODVARN_WHOLE_LINE_, LODVARN_TO_FIRST_NONBLANK_) refuse(lodvarn_movement_((uint32_t)number, 'a', 1));
@@ -76,13 +82,7 @@ static inline void each_bad_movement(void (*refuse)(lodvarn_movement)) {
     EACH_OUTSIDE(LODVARN_AT_START, LODVARN_AFTER_END)
         refuse(lodvarn_words_forward(LODVARN_BIG, (enum lodvarn_stop)number, 1));
     EACH_OUTSIDE(LODVARN_TO, LODVARN_BACK_TO_AFTER) refuse(lodvarn_search_for((enum lodvarn_search)number, 'a', 1));
-    for (size_t i = 0; i < COUNT(great_counts); i++) {
-        size_t n = great_counts[i];
-        for (uint32_t kind = LODVARN_WORDS_BACK_; kind < LODVARN_FROM_FIRST_WORD_; kind++)
-            refuse(lodvarn_movement_(kind, 'a', n));
-        refuse(lodvarn_chars_back(n)), refuse(lodvarn_chars_forward(n));
-        refuse(lodvarn_lines_up(n)), refuse(lodvarn_lines_down(n));
-    }
+    for (size_t i = 0; i < COUNT(great_counts); i++) each_counted_movement(great_counts[i], refuse);
     for (size_t i = 0; i < COUNT(no_characters); i++)
         for (int search = LODVARN_TO; search <= LODVARN_BACK_TO_AFTER; search++)
             refuse(lodvarn_search_for((enum lodvarn_search)search, no_characters[i], 1));

@@ -108,14 +108,11 @@ static void see_printed(const char *what, char *printed, const char *wanted) {
     free(printed);
 }
 
-/* A line without a meaning, for which there is no call, prints bad. */
-static int has_bad_line(const char *printed) { return !strncmp(printed, "bad\n", 4) || strstr(printed, "\nbad\n"); }
-
 static void scripts_print(void) {
     for (size_t i = 0; i < COUNT(rows); i++) {
         const struct row *row = &rows[i];
         see_printed(row->what, printed_at_once(row->script), row->wanted);
-        if (has_bad_line(row->wanted)) continue;
+        if (!row->has_calls) continue;
         see_printed(row->what, printed_by(row->script), row->wanted);
         see(row->what, typed_reads_agree(&script_session));
     }
@@ -181,7 +178,10 @@ static void reads_read(void) {
     static const size_t lines[][2] = {{0, 2}, {3, 3}, {4, 6}};
     lodvarn_range line = {NO, NO};
     open_at("ab\n|\ncd", 2);
-    SEE(chosen().limit == 6 && lodvarn_cursor_line(s) == 1 && lodvarn_count_lines(s) == 3);
+    SEE(chosen().limit == 6 && lodvarn_count_lines(s) == 3);
+    static const size_t line_of[] = {0, 0, 0, 1, 2, 2, 2};
+    for (size_t place = 0, number = NO; place <= 6; place++)
+        SEE(lodvarn_line_at(s, place, &number) == LODVARN_DONE && number == line_of[place]);
     SEE(lodvarn_find_line(s, 3, &line) == LODVARN_NOTHING && line.from == NO && line.to == NO);
     for (size_t i = 0; i < 3; i++)
         SEE(lodvarn_find_line(s, i, &line) == LODVARN_DONE && line.from == lines[i][0] && line.to == lines[i][1]);
@@ -194,7 +194,8 @@ static void reads_read(void) {
     SEE(!lodvarn_last_was_yank(s));
 }
 
-/* What a movement covers, and where it goes, from a place of "one two\n  three x\n \t \n". NO if that is nothing. */
+/* What a movement covers, and where it goes, from a place of "one two\n  three x\n \t \n", wherever the cursor is. NO if
+ * that is nothing. */
 static void movements_are_asked(void) {
     const struct {
         size_t pos;
@@ -218,7 +219,6 @@ static void movements_are_asked(void) {
         {12, lodvarn_from_first_word(), 4, 12, NO},
         {12, lodvarn_chars_back(2), 10, 12, 10},
         {12, lodvarn_chars_forward(2), 12, 14, 14},
-        {12, lodvarn_chars_forward(0), NO, NO, NO},
         {12, lodvarn_lines_up(1), 0, 18, 4},
         {22, lodvarn_lines_down(1), NO, NO, NO},
         {2, lodvarn_lines_down(1), 0, 18, 10},
@@ -231,33 +231,39 @@ static void movements_are_asked(void) {
         {18, lodvarn_to_first_nonblank(), 18, 21, 21},
         {22, lodvarn_to_first_nonblank(), NO, NO, NO},
     };
-    open_at("one two\n  three x\n \t \n|", 64);
+    open_at("one two\n|  three x\n \t \n", 64);
     for (size_t i = 0; i < COUNT(table); i++) {
         lodvarn_range got = {NO, NO};
-        size_t to = NO;
-        lodvarn_set_pos(s, table[i].pos);
-        int covers = lodvarn_covers(s, table[i].by, &got), goes = lodvarn_destination(s, table[i].by, &to);
+        size_t to = NO, from = table[i].pos;
+        int covers = lodvarn_covers(s, from, table[i].by, &got), goes = lodvarn_destination(s, from, table[i].by, &to);
         if (!SEE(covers == (table[i].from != NO) && got.from == table[i].from && got.to == table[i].to))
             printf("  by row %zu: %zu to %zu\n", i, got.from, got.to);
         if (!SEE(goes == (table[i].destination != NO) && to == table[i].destination))
             printf("  by row %zu: %zu\n", i, to);
+        SEE(lodvarn_pos(s) == 8);
     }
 }
 
 static void clusters_of_a_session_are_measured(void) {
     static const size_t table[][3] = {{0, 1, 1}, {1, 2, 1}, {2, 5, 2}, {6, 9, 1}, {7, 9, 0}, {9, 27, 2}, {16, 27, 2}};
-    lodvarn_cluster got = {NO, NO};
+    static const size_t before[][3] = {{1, 0, 1}, {2, 1, 1}, {5, 2, 2}, {7, 6, 1}, {9, 6, 1}, {16, 9, 2}, {27, 9, 2}};
+    lodvarn_cluster got = {NO, NO, NO};
     open_at("ab漢\ne\u0301" FAMILY "|", 64);
-    SEE(lodvarn_cluster_at(s, 27, &got) == LODVARN_NOTHING && got.end == NO && got.columns == NO);
+    SEE(lodvarn_cluster_at(s, 27, &got) == LODVARN_NOTHING && got.to == NO && got.columns == NO);
+    SEE(lodvarn_cluster_before(s, 0, &got) == LODVARN_NOTHING && got.from == NO && got.columns == NO);
     for (size_t i = 0; i < COUNT(table); i++)
-        if (!SEE(lodvarn_cluster_at(s, table[i][0], &got) == LODVARN_DONE && got.end == table[i][1]
-                 && got.columns == table[i][2]))
-            printf("  at %zu: %zu, %zu\n", table[i][0], got.end, got.columns);
-    SEE(lodvarn_cluster_at(s, 5, &got) == LODVARN_DONE && got.end == 6);
+        if (!SEE(lodvarn_cluster_at(s, table[i][0], &got) == LODVARN_DONE && got.from == table[i][0]
+                 && got.to == table[i][1] && got.columns == table[i][2]))
+            printf("  at %zu: %zu, %zu\n", table[i][0], got.to, got.columns);
+    for (size_t i = 0; i < COUNT(before); i++)
+        if (!SEE(lodvarn_cluster_before(s, before[i][0], &got) == LODVARN_DONE && got.from == before[i][1]
+                 && got.to == before[i][0] && got.columns == before[i][2]))
+            printf("  before %zu: %zu, %zu\n", before[i][0], got.from, got.columns);
+    SEE(lodvarn_cluster_at(s, 5, &got) == LODVARN_DONE && got.to == 6);
     lodvarn_position at = {NO, NO};
     SEE(lodvarn_find_cursor(s, &at) == LODVARN_DONE && at.line == 1 && at.column == 3);
     SET(mode, LODVARN_WC_WIDTH);
-    SEE(lodvarn_cluster_at(s, 9, &got) == LODVARN_DONE && got.end == 27 && got.columns == 6);
+    SEE(lodvarn_cluster_at(s, 9, &got) == LODVARN_DONE && got.to == 27 && got.columns == 6);
     SEE(lodvarn_find_cursor(s, &at) == LODVARN_DONE && at.line == 1 && at.column == 7);
     SET(prompt, 5);
     lodvarn_set_pos(s, 1);
@@ -270,10 +276,8 @@ static void insertions_return_where_they_went(void) {
     DOES(NO_ROOM, lodvarn_insert(s, 0xe9, 2), "|ab");
     DOES(DONE, lodvarn_insert(s, 0xe9, 1), "é|ab");
     DOES(NO_ROOM, lodvarn_insert(s, 'x', 1), "é|ab");
-    DOES(DONE, lodvarn_insert(s, 'x', 0), "é|ab");
     open_at("ab|", 4);
     DOES(DONE_AT_END, lodvarn_insert(s, 'x', 2), "abxx|");
-    DOES(DONE_AT_END, lodvarn_insert(s, 'x', 0), "abxx|");
     open_at("|ab", 6);
     DOES(NOTHING, lodvarn_paste(s, NULL, 0, 1), "|ab");
     DOES(NOTHING, lodvarn_paste(s, "x", 0, 9), "|ab");
@@ -320,12 +324,6 @@ static void a_yank_is_popped(void) {
     lodvarn_keep(s, "c", 1);
     DOES(DONE, lodvarn_yank(s, 1), "c|ab");
     DOES(DONE, lodvarn_yank_pop(s), "xy|ab#xy#c");
-    open_at("ab|", 64);
-    lodvarn_kill(s, lodvarn_to_text_start());
-    DOES(DONE_AT_END, lodvarn_yank(s, 0), "|#ab");
-    SEE(lodvarn_last_was_yank(s));
-    DOES(BAD_YANK_SIZE, lodvarn_yank_pop(s), "|#ab");
-    SEE(!lodvarn_last_was_yank(s));
 }
 
 static void the_ring_has_what_was_killed_and_kept(void) {
@@ -728,12 +726,15 @@ static void print_state(char *to, size_t cap) {
     fclose(file);
 }
 
-/* "aé\nb " with a limit of 12 bytes, in a group, with reports. A kill was done last, or a yank of no times. */
+/* "aé\nb " with a limit of 12 bytes, in a group, with reports. A kill was done last, or a yank. */
 static void begin_row(int yanked) {
     open_at("aé\nb cd|", 12);
     must(lodvarn_watch(s, 9, 64) == LODVARN_DONE && lodvarn_keep(s, "kept", 4) == LODVARN_DONE);
     must(lodvarn_begin_group(s) == LODVARN_DONE && lodvarn_kill(s, WORD_BACK) == LODVARN_DONE);
-    if (yanked) must(lodvarn_yank(s, 0) == LODVARN_DONE_AT_END);
+    if (yanked) {
+        must(lodvarn_end_kills(s) == LODVARN_DONE && lodvarn_kill(s, WORD_BACK) == LODVARN_DONE);
+        must(lodvarn_yank(s, 1) == LODVARN_DONE_AT_END);
+    }
     must(lodvarn_forget_report(s) == LODVARN_DONE && lodvarn_take_change(s, &out.splice) == LODVARN_DONE);
     memset(&out, '#', sizeof out);
     memset(&untouched, '#', sizeof untouched);
@@ -747,7 +748,7 @@ static int has_left_all(int yanked, int parts) {
     int same = !strcmp(now, before) && !memcmp(&out, &untouched, sizeof out)
         && lodvarn_last_was_yank(s) == (yanked && !parts) && lodvarn_take_change(s, &out.splice) == LODVARN_NOTHING;
     lodvarn_kill(s, WORD_BACK);
-    same = same && lodvarn_ring_count(s) == (yanked || parts ? 3 : 2);
+    same = same && lodvarn_ring_count(s) == (yanked ? 4 : parts ? 3 : 2);
     return same && lodvarn_undo(s, 65535) == LODVARN_DONE && lodvarn_text(s, &out.view) > 0 && is(out.view, "aé\nb cd");
 }
 
@@ -777,16 +778,17 @@ static const lodvarn_screen *screen_of(uint16_t columns, int mode) {
 static const lodvarn_screen screen = {10, 0, 8, LODVARN_UNICODE, 0, 0};
 static const lodvarn_position corner = {0, 0};
 
-/* No call takes the movement. */
-static void refuse_movement(lodvarn_movement bad) {
-    LEAVES(NO_SUCH_NUMBER, lodvarn_move(s, bad));
-    LEAVES(NO_SUCH_NUMBER, lodvarn_delete_by(s, bad));
-    LEAVES(NO_SUCH_NUMBER, lodvarn_kill(s, bad));
-    LEAVES(NO_SUCH_NUMBER, lodvarn_copy(s, bad, out.text, sizeof out.text, &out.number));
-    LEAVES(NO_SUCH_NUMBER, lodvarn_indent(s, bad, 1, LODVARN_INDENT));
-    LEAVES(NO_SUCH_NUMBER, lodvarn_covers(s, bad, &out.range));
-    LEAVES(NO_SUCH_NUMBER, lodvarn_destination(s, bad, &out.number));
-}
+/* No call takes the movement; none does anything by it. */
+#define NO_CALL_TAKES(wanted, movement)                                                  \
+    LEAVES(wanted, lodvarn_move(s, movement));                                           \
+    LEAVES(wanted, lodvarn_delete_by(s, movement));                                      \
+    LEAVES(wanted, lodvarn_kill(s, movement));                                           \
+    LEAVES(wanted, lodvarn_copy(s, movement, out.text, sizeof out.text, &out.number));   \
+    LEAVES(wanted, lodvarn_indent(s, movement, 1, LODVARN_INDENT));                      \
+    LEAVES(wanted, lodvarn_covers(s, 1, movement, &out.range));                          \
+    LEAVES(wanted, lodvarn_destination(s, 1, movement, &out.number))
+static void refuse_movement(lodvarn_movement bad) { NO_CALL_TAKES(NO_SUCH_NUMBER, bad); }
+static void leave_movement(lodvarn_movement by) { NO_CALL_TAKES(NOTHING, by); }
 
 static void numbers_outside_of_their_enums(void) {
     EACH_OUTSIDE(LODVARN_UNICODE, LODVARN_NO_ZWJ) {
@@ -843,6 +845,19 @@ static void counts_and_characters_that_are_none(void) {
     DOES(DONE, lodvarn_backspace(s, 65535), "|");
 }
 
+/* By a count of 0, also where there is no text or no room, and a run of kills goes on. */
+static void counts_of_0_do_nothing(void) {
+    LEAVES(NOTHING, lodvarn_insert(s, 'a', 0));
+    LEAVES(NOTHING, lodvarn_paste(s, "a", 1, 0));
+    LEAVES(NOTHING, lodvarn_paste(s, NULL, 0, 0));
+    LEAVES(NOTHING, lodvarn_yank(s, 0));
+    LEAVES(NOTHING, lodvarn_delete(s, 0));
+    LEAVES(NOTHING, lodvarn_backspace(s, 0));
+    LEAVES(NOTHING, lodvarn_transpose_words(s, 0));
+    LEAVES(NOTHING, lodvarn_undo(s, 0));
+    each_counted_movement(0, leave_movement);
+}
+
 static void texts_that_are_no_utf8(void) {
     for (size_t i = 0; i < COUNT(no_utf8); i++) {
         const char *bad = no_utf8[i];
@@ -882,6 +897,10 @@ static void places_that_are_none(void) {
         PARTS(BAD_PLACE, lodvarn_set_text(s, bad, "aé\nb ", 6));
         PARTS(BAD_PLACE, lodvarn_insert_at(s, bad, "x", 1));
         LEAVES(BAD_PLACE, lodvarn_cluster_at(s, bad, &out.cluster));
+        LEAVES(BAD_PLACE, lodvarn_cluster_before(s, bad, &out.cluster));
+        LEAVES(BAD_PLACE, lodvarn_line_at(s, bad, &out.number));
+        LEAVES(BAD_PLACE, lodvarn_covers(s, bad, lodvarn_whole_text(), &out.range));
+        LEAVES(BAD_PLACE, lodvarn_destination(s, bad, lodvarn_to_text_start(), &out.number));
         LEAVES(BAD_PLACE, lodvarn_cell(&screen, bad, "aé\nb ", 6, &out.position));
         refuse_range(0, bad);
         refuse_range(bad, 6);
@@ -906,9 +925,10 @@ static int read_all(void) {
     lodvarn_options now = chosen();
     size_t place;
     return lodvarn_text(s, &view) > 0 && lodvarn_slice(s, range(0, 1), &view) > 0 && lodvarn_pos(s)
-        && lodvarn_count_lines(s) > lodvarn_cursor_line(s) && lodvarn_find_cursor(s, &position) > 0
-        && lodvarn_find_line(s, 0, &covered) > 0 && lodvarn_covers(s, lodvarn_chars_back(1), &covered) > 0
-        && lodvarn_destination(s, lodvarn_chars_back(1), &place) > 0 && lodvarn_cluster_at(s, 0, &cluster) > 0
+        && lodvarn_count_lines(s) && lodvarn_line_at(s, 1, &place) > 0 && lodvarn_find_cursor(s, &position) > 0
+        && lodvarn_find_line(s, 0, &covered) > 0 && lodvarn_covers(s, 1, lodvarn_whole_line(), &covered) > 0
+        && lodvarn_destination(s, 1, lodvarn_chars_back(1), &place) > 0 && lodvarn_cluster_at(s, 0, &cluster) > 0
+        && lodvarn_cluster_before(s, 1, &cluster) > 0
         && lodvarn_entries(s) + lodvarn_level(s) && lodvarn_can_undo(s) && !lodvarn_can_redo(s)
         && lodvarn_ring_text(s, 0, &view) > 0 && lodvarn_ring_count(s) && lodvarn_count_reports(s) && now.limit
         && lodvarn_next_report(s, &report) > 0 && lodvarn_last_was_yank(s) + 1;
@@ -917,11 +937,12 @@ static int read_all(void) {
 static void nothing_is_done(void) {
     LEAVES(DONE, read_all());
     LEAVES(NOTHING, lodvarn_cluster_at(s, 6, &out.cluster));
+    LEAVES(NOTHING, lodvarn_cluster_before(s, 0, &out.cluster));
     LEAVES(NOTHING, lodvarn_find_line(s, 2, &out.range));
     LEAVES(NOTHING, lodvarn_find_line(s, SIZE_MAX, &out.range));
-    LEAVES(NOTHING, lodvarn_covers(s, lodvarn_to_line_end(), &out.range));
-    LEAVES(NOTHING, lodvarn_destination(s, lodvarn_whole_line(), &out.number));
-    LEAVES(NOTHING, lodvarn_ring_text(s, 2, &out.view));
+    LEAVES(NOTHING, lodvarn_covers(s, 6, lodvarn_to_line_end(), &out.range));
+    LEAVES(NOTHING, lodvarn_destination(s, 1, lodvarn_whole_line(), &out.number));
+    LEAVES(NOTHING, lodvarn_ring_text(s, lodvarn_ring_count(s), &out.view));
     LEAVES(NOTHING, lodvarn_ring_text(s, SIZE_MAX, &out.view));
     LEAVES(NOTHING, lodvarn_take_change(s, &out.splice));
     LEAVES(NOTHING, lodvarn_first_cluster("", 0, &out.number));
@@ -932,15 +953,13 @@ static void nothing_is_done(void) {
     PARTS(NOTHING, lodvarn_move(s, lodvarn_whole_text()));
     PARTS(NOTHING, lodvarn_move(s, lodvarn_from_first_word()));
     PARTS(NOTHING, lodvarn_paste(s, NULL, 0, 1));
-    PARTS(NOTHING, lodvarn_delete(s, 0));
     PARTS(NOTHING, lodvarn_delete(s, 1));
-    PARTS(NOTHING, lodvarn_backspace(s, 0));
     PARTS(NOTHING, lodvarn_delete_by(s, lodvarn_to_text_end()));
-    PARTS(NOTHING, lodvarn_kill(s, lodvarn_chars_back(0)));
-    PARTS(NOTHING, lodvarn_copy(s, lodvarn_chars_back(0), NULL, 0, &out.number));
+    PARTS(NOTHING, lodvarn_kill(s, lodvarn_chars_forward(1)));
+    PARTS(NOTHING, lodvarn_copy(s, lodvarn_to_line_end(), NULL, 0, &out.number));
     PARTS(NOTHING, lodvarn_change_case(s, LODVARN_UPPERCASE));
     PARTS(NOTHING, lodvarn_redo(s));
-    PARTS(DONE, lodvarn_truncate(s, 2));
+    PARTS(DONE, lodvarn_truncate(s, lodvarn_entries(s)));
     open_at("a|b", 64);
     DOES(DONE, lodvarn_delete_range(s, range(2, 2)), "ab|");
     DOES(DONE, lodvarn_replace(s, range(0, 1), NULL, 0), "|b");
@@ -983,7 +1002,7 @@ static void texts_are_lent(void) {
     lodvarn_forget_report(s), lodvarn_forget_report(s);
     SEE(lodvarn_next_report(s, &report) == LODVARN_DONE && is(report.old_text, "one two") && is(report.new_text, "1"));
     open_at("a|é\nb", 64);
-    SEE(lodvarn_covers(s, lodvarn_chars_forward(2), &goes) == LODVARN_DONE && lodvarn_slice(s, goes, &slice) > 0);
+    SEE(lodvarn_covers(s, 1, lodvarn_chars_forward(2), &goes) == LODVARN_DONE && lodvarn_slice(s, goes, &slice) > 0);
     SEE(is(slice, "é\n"));
     DOES(DONE, lodvarn_delete(s, 2), "a|b");
     DOES(DONE, lodvarn_delete(s, 9), "a|");
@@ -1234,6 +1253,7 @@ int main(void) {
     numbers_mean_what_they_say();
     numbers_outside_of_their_enums();
     counts_and_characters_that_are_none();
+    counts_of_0_do_nothing();
     texts_that_are_no_utf8();
     places_that_are_none();
     nothing_is_done();

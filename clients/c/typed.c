@@ -151,7 +151,7 @@ static void see(const char *what, int holds) {
 
 static int move(lodvarn *s, lodvarn_movement m) {
     size_t to = lodvarn_pos(s);
-    int asked = lodvarn_destination(s, m, &to), answer = lodvarn_move(s, m);
+    int asked = lodvarn_destination(s, to, m, &to), answer = lodvarn_move(s, m);
     see("move", asked == answer && lodvarn_pos(s) == to);
     return answer;
 }
@@ -160,7 +160,7 @@ static int move(lodvarn *s, lodvarn_movement m) {
 static int hand_out(lodvarn *s, lodvarn_movement m) {
     lodvarn_range range;
     lodvarn_view view;
-    int answer = lodvarn_covers(s, m, &range);
+    int answer = lodvarn_covers(s, lodvarn_pos(s), m, &range);
     if (answer <= 0) return answer;
     see("slice", lodvarn_slice(s, range, &view) == LODVARN_DONE && view.len == range.to - range.from);
     memcpy(handed, view.at, handed_len = view.len);
@@ -398,17 +398,23 @@ static int place_agrees(struct typed *t, lodvarn_view text, size_t pos) {
         && (!more || is_after(cell_of(&screen, text, place + k), at));
 }
 
-/* Whether line, column and cluster of the cursor are those that the calls tell that get the text. */
+/* Whether line, column and clusters at the cursor are those that the calls tell that get the text. */
 static int cursor_agrees(struct typed *t, lodvarn_view text, size_t own, size_t first) {
-    size_t pos = lodvarn_pos(t->s), k = 0, width = 0;
-    lodvarn_cluster found = {pos, 0};
+    size_t pos = lodvarn_pos(t->s), line = 0, k = 0, width = 0;
+    lodvarn_cluster found = {pos, pos, 0}, last = {pos, pos, 0};
     lodvarn_position at;
     if (lodvarn_find_cursor(t->s, &at) != LODVARN_DONE || at.line != own) return 0;
     if (lodvarn_width(t->own_mode, text.at + first, pos - first, &width) <= 0 || at.column != width) return 0;
+    if (lodvarn_line_at(t->s, pos, &line) != LODVARN_DONE || line != own) return 0;
     int more = lodvarn_cluster_at(t->s, pos, &found);
-    return more == (pos < text.len) && lodvarn_first_cluster(text.at + pos, text.len - pos, &k) == more
-        && lodvarn_width(t->own_mode, text.at + pos, k, &width) == LODVARN_DONE && found.end == pos + k
-        && found.columns == width;
+    if (more != (pos < text.len) || lodvarn_first_cluster(text.at + pos, text.len - pos, &k) != more
+        || lodvarn_width(t->own_mode, text.at + pos, k, &width) != LODVARN_DONE || found.from != pos
+        || found.to != pos + k || found.columns != width) return 0;
+    k = 0;
+    more = lodvarn_cluster_before(t->s, pos, &last);
+    return more == (pos > 0) && lodvarn_last_cluster(text.at, pos, &k) == more
+        && lodvarn_width(t->own_mode, text.at + pos - k, k, &width) == LODVARN_DONE && last.from == pos - k
+        && last.to == pos && last.columns == width;
 }
 
 /* Whether the ring has as many texts as it says. */
@@ -432,7 +438,7 @@ int typed_reads_agree(struct typed *t) {
         if (i < pos) { own++; first = i + 1; }
     }
     for (end = pos; end < text.len && text.at[end] != '\n'; end++) {}
-    return lodvarn_cursor_line(t->s) == own && lodvarn_count_lines(t->s) == lines
+    return lodvarn_count_lines(t->s) == lines
         && lodvarn_find_line(t->s, own, &line) == LODVARN_DONE && line.from == first && line.to == end
         && lodvarn_find_line(t->s, lines, &none) == LODVARN_NOTHING && none.from == 1 && none.to == 0
         && cursor_agrees(t, text, own, first) && place_agrees(t, text, pos) && ring_agrees(t);

@@ -84,9 +84,9 @@ static long long told(session *it, int answer, lodvarn_range range, size_t out[2
     return answer;
 }
 
-static long long py_covers(session *it, lodvarn_movement movement, size_t out[2]) {
+static long long py_covers(session *it, size_t from, lodvarn_movement movement, size_t out[2]) {
     lodvarn_range range = {0, 0};
-    return told(it, it->s ? lodvarn_covers(it->s, movement, &range) : LODVARN_CLOSED, range, out);
+    return told(it, it->s ? lodvarn_covers(it->s, from, movement, &range) : LODVARN_CLOSED, range, out);
 }
 
 static long long py_find_line(session *it, size_t line, size_t out[2]) {
@@ -94,9 +94,9 @@ static long long py_find_line(session *it, size_t line, size_t out[2]) {
     return told(it, it->s ? lodvarn_find_line(it->s, line, &range) : LODVARN_CLOSED, range, out);
 }
 
-static long long py_destination(session *it, lodvarn_movement movement, size_t out[2]) {
+static long long py_destination(session *it, size_t from, lodvarn_movement movement, size_t out[2]) {
     lodvarn_range range = {0, 0};
-    return told(it, it->s ? lodvarn_destination(it->s, movement, &range.to) : LODVARN_CLOSED, range, out);
+    return told(it, it->s ? lodvarn_destination(it->s, from, movement, &range.to) : LODVARN_CLOSED, range, out);
 }
 
 static long long row(session *it, int answer, size_t place, size_t column, size_t out[2]) {
@@ -118,14 +118,22 @@ static long long py_row_below(session *it, const lodvarn_screen *screen, size_t 
     return row(it, answer, place, column, out);
 }
 
-static long long py_cluster_at(session *it, long long index, size_t out[2]) {
-    lodvarn_cluster cluster = {0, 0};
-    size_t place = place_of(it, index);
-    int answer = it->s ? lodvarn_cluster_at(it->s, place, &cluster) : LODVARN_CLOSED;
+/* Writes how many characters a cluster has, and how many columns, if a call told one. */
+static long long told_cluster(session *it, int answer, lodvarn_cluster cluster, size_t out[2]) {
     if (answer <= 0) return answer;
-    out[0] = (size_t)index + chars_in(text_of(it).at + place, cluster.end - place);
+    out[0] = chars_in(text_of(it).at + cluster.from, cluster.to - cluster.from);
     out[1] = cluster.columns;
     return answer;
+}
+
+static long long py_cluster_at(session *it, size_t place, size_t out[2]) {
+    lodvarn_cluster cluster = {0, 0, 0};
+    return told_cluster(it, it->s ? lodvarn_cluster_at(it->s, place, &cluster) : LODVARN_CLOSED, cluster, out);
+}
+
+static long long py_cluster_before(session *it, size_t place, size_t out[2]) {
+    lodvarn_cluster cluster = {0, 0, 0};
+    return told_cluster(it, it->s ? lodvarn_cluster_before(it->s, place, &cluster) : LODVARN_CLOSED, cluster, out);
 }
 
 /* What went is not there any more. It had as many characters as the text then had more than what is left of it now. */

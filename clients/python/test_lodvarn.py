@@ -22,7 +22,7 @@ from typed import MOVEMENTS, NAMES, WORDS, Typed, do
 
 TOP = Path(__file__).resolve().parent.parent.parent
 sys.path.insert(0, str(TOP / "clients"))
-from rows import TESTS, rows_of  # noqa: E402
+from rows import TESTS, has_calls, rows_of  # noqa: E402
 
 FAMILY = "\U0001f468\u200d\U0001f469\u200d\U0001f467"
 BACK, LINE, START, END = Movement.words_back(Word.EMACS), *(MOVEMENTS[it][1]() for it in ("line", "home", "eol"))
@@ -44,15 +44,14 @@ class Scripts(unittest.TestCase):
 
 class Rows(unittest.TestCase):
     def test_the_worked_scripts(self):
-        rows = [[it.decode() for it in row] for file in sorted(TESTS.glob("*.rt")) for row in rows_of(file.read_text())]
+        rows = [row for file in sorted(TESTS.glob("*.rt")) for row in rows_of(file.read_text())]
         self.assertGreater(len(rows), 150)
         for what, script, wanted in rows:
             with self.subTest(what=what):
-                self.assertEqual(lodvarn.run_script(script.encode()).decode(), wanted)
-                # A line without a meaning, for which there is no call, prints bad.
-                if "\nbad\n" not in f"\n{wanted}":
+                self.assertEqual(lodvarn.run_script(script), wanted)
+                if has_calls(script, wanted):
                     typed = Typed()
-                    self.assertEqual("".join(map(typed.run, script.splitlines())), wanted)
+                    self.assertEqual("".join(map(typed.run, script.decode().splitlines())), wanted.decode())
 
 
 class Places(Scripts):
@@ -93,12 +92,17 @@ class Places(Scripts):
             (session.find_line(2), FAMILY),
             (session.find_line(3), None),
             (session.covers(Movement.search_for(Search.TO, "z")), None),
+            (session.covers(LINE, 1), "é日 cd"),
+            (session.covers(BACK, 2), "é日"),
+            (session.covers(BACK, 0), None),
         ]:
             self.assertEqual(told and text[slice(*told)], wanted)
-        self.assertEqual(session.destination(BACK), 8)
+        self.assertEqual([session.destination(BACK, it) for it in (None, 2, 0, 6)], [8, 0, None, 3])
         self.assertIsNone(session.destination(LINE))
-        self.assertEqual([session.cluster_at(it) for it in (1, 12, 17)], [(2, 2), (17, 2), None])
-        self.assertEqual((session.find_cursor(), session.cursor_line, session.count_lines()), ((1, 5), 1, 3))
+        self.assertEqual([session.cluster_at(it) for it in (1, 12, 17)], [(1, 2, 2), (12, 17, 2), None])
+        self.assertEqual([session.cluster_before(it) for it in (2, 17, 0)], [(1, 2, 2), (12, 17, 2), None])
+        self.assertEqual([session.line_at(it) for it in (0, 5, 6, 11, 12, 17)], [0, 0, 1, 1, 2, 2])
+        self.assertEqual((session.find_cursor(), session.count_lines(), session.pos), ((1, 5), 3, 10))
 
     def test_what_is_given_are_indexes(self):
         session = opened("é日c", 1)
@@ -311,8 +315,6 @@ class Faults(Scripts):
         session = opened("aé", 2, limit_bytes=3)
         session.kill(START)
         self.refuses(lodvarn.NotReplayingError, session, session.truncate, 0)
-        session.yank(0)
-        self.refuses(lodvarn.BadYankSizeError, session, session.yank_pop)
         session.yank()
         for call, given in [(session.insert, ("é",)), (session.paste, ("c", 2)), (session.yank, ())]:
             self.refuses(lodvarn.NoRoomError, session, call, *given)
@@ -322,7 +324,9 @@ class Faults(Scripts):
         self.refuses(lodvarn.IsWatchedError, session, session.watch)
         for call, given in [
             (session.set_text, (2, "é")), (session.insert_at, (3, "x")), (session.replace, (2, 1, "x")),
-            (session.cluster_at, (3,)), (session.slice, (0, 2**64)), (lodvarn.cell, (Screen(9), 2, "é")),
+            (session.cluster_at, (3,)), (session.cluster_before, (3,)), (session.line_at, (3,)),
+            (session.covers, (LINE, 3)), (session.destination, (START, 3)), (session.slice, (0, 2**64)),
+            (lodvarn.cell, (Screen(9), 2, "é")),
         ]:
             self.refuses(lodvarn.BadPlaceError, session, call, *given)
         for call, given in [

@@ -40,7 +40,7 @@ class Vi(Session):
     def selected(self) -> Tuple[int, int]:
         """Where the selection begins and ends. The characters at both of its ends are in it, but no last newline."""
         start, last = sorted((self.anchor, self.pos))
-        end, _ = self.cluster_at(last) or (last, 0)
+        end = it.end if (it := self.cluster_at(last)) else last
         return (start, end if self.cluster_at(end) else last) if self.state == VISUAL else (0, 0)
 
     def go(self, key: str) -> bool:
@@ -53,7 +53,7 @@ class Vi(Session):
 
     def take(self, key: str) -> bool:
         """Kills what a motion covers in the line."""
-        covered, line = self.covers(MOTIONS[key]) if key in MOTIONS else None, self.find_line(self.cursor_line)
+        covered, line = self.covers(MOTIONS[key]) if key in MOTIONS else None, self.find_line(self.line_at(self.pos))
         if not covered or not line or key in "jk":
             return False
         return self.kill_range(max(covered[0], line[0]), min(covered[1], line[1]))

@@ -9,9 +9,10 @@
 
 A place is an index of the text, as of any str: session.text[start:end] is what stands between two places. Only what has
 `bytes` in its name counts bytes of UTF-8. A count n is of grapheme clusters, words, lines or repetitions, at most
-65535. Lines and columns count from 0. A command returns whether there was anything to do. What is refused raises a
-LodvarnError; one for a place or a number that is out of its range is a ValueError too. One thread at a time uses a
-session, and no signal handler changes one. A call keeps the interpreter's lock, so other threads wait for its end.
+65535, and 0 does nothing. Lines and columns count from 0. A command returns whether there was anything to do. What is
+refused raises a LodvarnError; one for a place or a number that is out of its range is a ValueError too. One thread at a
+time uses a session, and no signal handler changes one. A call keeps the interpreter's lock, so other threads wait for
+its end.
 """
 
 from __future__ import annotations
@@ -26,10 +27,10 @@ from typing import Any, Callable, Iterator, NamedTuple, Optional, TypeVar
 from ._lodvarn import ffi, lib
 
 __all__ = [
-    "BadPlaceError", "BadYankSizeError", "Case", "ClosedError", "Direction", "IsWatchedError", "LodvarnError", "Mode",
-    "Movement", "NoMemoryError", "NoRoomError", "NoSuchNumberError", "NotReplayingError", "Report", "ReportKind",
-    "Screen", "Search", "Session", "Splice", "Stop", "Word", "cell", "first_cluster", "last_cluster", "place_at",
-    "run_script", "width",
+    "BadPlaceError", "BadYankSizeError", "Case", "ClosedError", "Cluster", "Direction", "IsWatchedError",
+    "LodvarnError", "Mode", "Movement", "NoMemoryError", "NoRoomError", "NoSuchNumberError", "NotReplayingError",
+    "Report", "ReportKind", "Screen", "Search", "Session", "Splice", "Stop", "Word", "cell", "first_cluster",
+    "last_cluster", "place_at", "run_script", "width",
 ]
 
 __version__ = "0.1.0"
@@ -335,6 +336,14 @@ class Movement:
         return cls._made("to_text_end")
 
 
+class Cluster(NamedTuple):
+    """A grapheme cluster, which stands from `start` to `end`, and how many columns it takes."""
+
+    start: int
+    end: int
+    columns: int
+
+
 class Splice(NamedTuple):
     """What stood from `start` to `old_end` gave way to what stands from `start` to `new_end` now."""
 
@@ -499,15 +508,15 @@ class Session:
         return self._do(lib.py_move, _of(Movement, movement)._in_c)
 
     def insert(self, c: str, n: int = 1) -> bool:
-        """Inserts a character n times at the cursor. Returns True. Raises NoRoomError."""
+        """Inserts a character n times at the cursor. Returns False if n is 0. Raises NoRoomError."""
         # What _do does, but sooner: no call is made as often as that of a letter.
         try:
-            answer = _insert(self._it, c, n)
+            answer: int = _insert(self._it, c, n)
         except OverflowError:
             answer = _NO_SUCH_NUMBER
         if answer < 0 or self._on_change is not None:
             return self._finish(_insert, answer)
-        return True
+        return answer > 0
 
     def paste(self, text: str, n: int = 1) -> bool:
         """Inserts a text n times at the cursor. Returns False if it is empty. Raises NoRoomError."""
@@ -524,7 +533,7 @@ class Session:
         """Replaces the text that was just yanked by the one before it in the ring, in two changes.
 
         Returns False if the last command was not a yank. If the text before it is empty, what was yanked is deleted.
-        Raises NoRoomError, which leaves the whole session, and BadYankSizeError.
+        Raises NoRoomError, which leaves the whole session.
         """
         return self._do(lib.py_yank_pop)
 
@@ -673,7 +682,7 @@ class Session:
             self.end_group()
 
     def undo(self, n: int = 1) -> bool:
-        """Undoes the last n changes and groups, one if n is 0. Returns False if there was no change."""
+        """Undoes the last n changes and groups. Returns False if there was no change."""
         return self._do(lib.py_undo, n)
 
     def redo(self) -> bool:
@@ -774,10 +783,9 @@ class Session:
     def pos(self, pos: int) -> None:
         self._do(lib.py_set_pos, _place(lib.place_of, self._it, pos))
 
-    @property
-    def cursor_line(self) -> int:
-        """The number of the cursor's line."""
-        return _asked(lib.py_cursor_line, self._it)
+    def line_at(self, place: int) -> int:
+        """Returns the number of the line in which a place stands. Raises BadPlaceError."""
+        return _size(lib.py_line_at, self._it, _place(lib.place_of, self._it, place))
 
     def count_lines(self) -> int:
         """Returns how many lines the text has, at least 1."""
@@ -791,21 +799,34 @@ class Session:
         """Returns the places where a line begins and ends, before its newline, or None if there is no such line."""
         return _pair(lib.py_find_line, self._it, line)
 
-    def covers(self, movement: Movement) -> Optional[tuple[int, int]]:
-        """Returns the two places between which stands what a copy by a movement would take, or None if nothing does."""
-        return _pair(lib.py_covers, self._it, _of(Movement, movement)._in_c)
+    def _start(self, start: Optional[int]) -> int:
+        """Returns the place in bytes of a place, or of the cursor."""
+        return _asked(lib.py_pos, self._it) if start is None else _place(lib.place_of, self._it, start)
 
-    def destination(self, movement: Movement) -> Optional[int]:
-        """Returns the place where a move would go, or None if there is nowhere to go."""
-        told = _pair(lib.py_destination, self._it, _of(Movement, movement)._in_c)
-        return told[1] if told else None
+    def covers(self, movement: Movement, start: Optional[int] = None) -> Optional[tuple[int, int]]:
+        """Returns the two places between which stands what a copy by a movement would take, or None if nothing does.
 
-    def cluster_at(self, place: int) -> Optional[tuple[int, int]]:
-        """Returns the place where the first cluster from a place on ends, and its columns. None at the end of the text.
+        The movement begins at `start`, or at the cursor. Raises BadPlaceError.
+        """
+        return _pair(lib.py_covers, self._it, self._start(start), _of(Movement, movement)._in_c)
+
+    def destination(self, movement: Movement, start: Optional[int] = None) -> Optional[int]:
+        """Returns the place where a move from `start`, or from the cursor, would go, or None if there is nowhere to go.
 
         Raises BadPlaceError.
         """
-        return _pair(lib.py_cluster_at, self._it, place)
+        told = _pair(lib.py_destination, self._it, self._start(start), _of(Movement, movement)._in_c)
+        return told[1] if told else None
+
+    def cluster_at(self, place: int) -> Optional[Cluster]:
+        """Returns the first cluster of the text from a place on. None at the end of the text. Raises BadPlaceError."""
+        told = _pair(lib.py_cluster_at, self._it, _place(lib.place_of, self._it, place))
+        return Cluster(place, place + told[0], told[1]) if told else None
+
+    def cluster_before(self, place: int) -> Optional[Cluster]:
+        """Returns the last cluster of the text before a place. None at its start. Raises BadPlaceError."""
+        told = _pair(lib.py_cluster_before, self._it, _place(lib.place_of, self._it, place))
+        return Cluster(place - told[0], place, told[1]) if told else None
 
     def row_above(self, screen: Screen, column: Optional[int] = None, n: int = 1) -> Optional[tuple[int, int]]:
         """Returns the place n rows above the cursor on a screen, and the column that it is looked for at: the given one,
@@ -858,7 +879,7 @@ class Session:
 
     @property
     def last_was_yank(self) -> bool:
-        """Whether the last command was a yank or yank_pop that returned True. A yank with n = 0 counts."""
+        """Whether the last command was a yank or yank_pop that returned True."""
         return _asked(lib.py_last_was_yank, self._it) > 0
 
     def _options(self) -> Any:

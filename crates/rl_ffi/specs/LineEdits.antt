@@ -129,6 +129,6 @@ kills_by movement = of_named (movement_of movement) (λ m. kills (is_by_characte
 abbrev pub kills_range : CRange → ℕ → Effect LineAndListeners
 kills_range r direction = of_named (direction_of direction) (λ side. in_range r (kills false (λ line. kill_range_plan line r.from r.to side)))
 
-abbrev pub indents : CMovement → ℕ → ℕ → Effect LineAndListeners
+unfoldable pub indents : CMovement → ℕ → ℕ → Effect LineAndListeners
 indents movement amount indentation =
     of_named (movement_of movement) (λ m. of_named (dedents_of indentation) (λ dedent. edits room_by_step (λ line. indent_plan line m amount dedent) truth))

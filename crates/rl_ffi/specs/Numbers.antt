@@ -16,7 +16,7 @@ use Rattle.rl_base.specs.declared.motion.WordAction.TheVariants.{Capitalize, Low
 use Rattle.rl_base.specs.declared.reports.ReportKind.{ReportKind}
 use Rattle.rl_base.specs.declared.reports.ReportKind.TheVariants as kind
 use Rattle.rl_ffi.specs.declared.answers.Answer.{Answer}
-use Rattle.rl_ffi.specs.declared.answers.Answer.TheVariants.{NoSuchNumber}
+use Rattle.rl_ffi.specs.declared.answers.Answer.TheVariants.{NoSuchNumber, Nothing}
 use Rattle.rl_ffi.specs.declared.shapes.CMovement.{CMovement}
 
 abbrev pub kind_number : ReportKind → ℕ
@@ -34,12 +34,9 @@ abbrev pub named : {A : Type 0} → Option A → Result A Answer
 named None = Err NoSuchNumber
 named (Some x) = Ok x
 
--- a count, which has 16 bits
-abbrev pub is_count : ℕ → Bool
-is_count n = nat_le n 65535
-
+-- a count, which has 16 bits. No times is nothing to do
 abbrev pub count_of : ℕ → Result ℕ Answer
-count_of n = if is_count n then Ok n else Err NoSuchNumber
+count_of n = if n == 0 then Err Nothing else if nat_le n 65535 then Ok n else Err NoSuchNumber
 
 -- a character's number: a Unicode scalar value
 abbrev pub scalar : ℕ → Option ℕ
@@ -100,6 +97,15 @@ movement_by k n c =
     if k == 127 then Some FirstNonBlank else
     None
 
--- a movement of C
+-- whether a kind of movements has a count
+abbrev pub has_count : ℕ → Bool
+has_count k = is_in_range 103 118 k || is_in_range 120 123 k
+
+-- a movement of C, by its count
+abbrev pub counted : CMovement → Result ℕ Answer → Result Movement Answer
+counted m (Err why) = Err why
+counted m (Ok n) = named (movement_by m.kind n m.c)
+
+-- a movement of C, whose count is read only if its kind has one
 abbrev pub movement_of : CMovement → Result Movement Answer
-movement_of m = if is_count m.n then named (movement_by m.kind m.n m.c) else Err NoSuchNumber
+movement_of m = counted m (if has_count m.kind then count_of m.n else Ok 0)

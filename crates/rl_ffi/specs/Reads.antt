@@ -1,14 +1,15 @@
 -- What the calls tell that change nothing.
-use Rattle.std.specs.Prelude.{◌≡◌, ℕ, ◌+◌, List, [], ◌∷◌, drop, length, slice_range, Option, Some, None, option_map}
+use Rattle.std.specs.Prelude.{◌≡◌, ℕ, ◌+◌, ◌-◌, List, [], ◌∷◌, drop, take, reverse, length, slice_range, Option, Some, None, option_map}
 use Rattle.std.specs.Str.{IsCharBoundary}
 use Rattle.std.specs.declared.ops.Range.{Range}
 use Rattle.rl_base.specs.Clusters.{clusters}
+use Rattle.rl_base.specs.Lines.{line_number}
 use Rattle.rl_base.specs.Widths.{width}
 use Rattle.rl_base.specs.declared.layout.GraphemeClusterMode.{GraphemeClusterMode}
 use Rattle.rl_line.specs.Line.{Line}
 use Rattle.rl_line.specs.LineRanges.{IsRange}
 use Rattle.rl_line.specs.Ranges.{covered}
-use Rattle.rl_session.specs.Commands.{line_place}
+use Rattle.rl_session.specs.Commands.{destination, line_place, with_cursor}
 use Rattle.rl_session.specs.State.{State}
 use Rattle.rl_ffi.specs.Calls.{Tale, Telling, Writes, told_named, told_where}
 use Rattle.rl_ffi.specs.Numbers.{movement_of}
@@ -46,11 +47,34 @@ TellsCovers movement = told_named (movement_of movement) (λ m (line : Line). Wr
 abbrev pub cursor_position : State → CPosition
 cursor_position s = record { line = (line_place s).0; column = (line_place s).1 }
 
--- where the first of some clusters ends, which begins at a place, and its columns
+-- what is told with the cursor at a place, which must be a boundary
+abbrev pub TellsFrom : {A : Type 0} → ℕ → Telling State A → Telling State A
+TellsFrom place Does s = told_where (IsCharBoundary s.line.text place) BadPlace (Does (with_cursor place s))
+
+-- what a movement covers from a place, where it leads from there, and the line in which a place stands
+abbrev pub TellsCoversFrom : ℕ → CMovement → Telling State CRange
+TellsCoversFrom place movement = told_named (movement_of movement) (λ m. TellsFrom place (λ (s : State). Writes (option_map range_shape (covered s.line m))))
+
+abbrev pub LeadsFrom : ℕ → CMovement → Telling State ℕ
+LeadsFrom place movement = told_named (movement_of movement) (λ m. TellsFrom place (λ (s : State). Writes (destination s m)))
+
+abbrev pub TellsLineAt : ℕ → Telling State ℕ
+TellsLineAt place = TellsFrom place (λ (s : State). Writes (Some (line_number s.line.text s.line.cursor)))
+
+-- the first of some clusters, which begins at a place, with its columns
 abbrev pub first_cluster : GraphemeClusterMode → ℕ → List (List ℕ) → Option CCluster
 first_cluster mode place [] = None
-first_cluster mode place (cluster ∷ more) = Some (record { end = place + length cluster; columns = width mode cluster })
+first_cluster mode place (cluster ∷ more) = Some (record { from = place; to = place + length cluster; columns = width mode cluster })
 
--- the first cluster of a text from a place on
+-- the first of some clusters in turned order, which ends at a place, with its columns
+abbrev pub last_cluster : GraphemeClusterMode → ℕ → List (List ℕ) → Option CCluster
+last_cluster mode place [] = None
+last_cluster mode place (cluster ∷ more) = Some (record { from = place - length cluster; to = place; columns = width mode cluster })
+
+-- the first cluster of a text from a place on; the last one before a place
 abbrev pub TellsCluster : List ℕ → GraphemeClusterMode → ℕ → Tale CCluster
 TellsCluster text mode place = told_where (IsCharBoundary text place) BadPlace (Writes (first_cluster mode place (clusters (drop place text))))
+
+abbrev pub TellsClusterBefore : List ℕ → GraphemeClusterMode → ℕ → Tale CCluster
+TellsClusterBefore text mode place =
+    told_where (IsCharBoundary text place) BadPlace (Writes (last_cluster mode place (reverse (clusters (take place text)))))

@@ -462,6 +462,7 @@ pub extern "C" fn lodvarn_line_change_case(
     told!(l, to, alloc, held => change_case(held, case))
 }
 
+#[tactic(auto, unfolding(crate::specs::LineEdits::indents))]
 fn indent(held: &mut LineAndListeners, movement: CMovement, amount: u8, indentation: u32) -> Outcome
     ensures { indents movement amount indentation held.old (merged result) held.new }
 {

@@ -1,4 +1,5 @@
-//! What the numbers of the calls stand for. Each function answers `NoSuchNumber` for a number that stands for nothing.
+//! What the numbers of the calls stand for. Each function answers `NoSuchNumber` for a number that stands for nothing, and
+//! `Nothing` for a count of 0.
 ghost use Rattle.std.specs.Prelude.{◌≡◌};
 ghost use Rattle.rl_ffi.specs.Numbers.{case_of, char_of, count_of, dedents_of, direction_of, kind_number, mode_number, mode_of, movement_by, movement_of, named};
 
@@ -36,6 +37,9 @@ pub(crate) fn char_of(number: u32) -> Result<char, Answer>
 pub(crate) fn count_of(number: usize) -> Result<RepeatCount, Answer>
     ensures { result ≡ count_of number }
 {
+    if number == 0 {
+        return Err(Answer::Nothing);
+    }
     if number > 65535 {
         return Err(Answer::NoSuchNumber);
     }
@@ -133,5 +137,10 @@ fn movement_by(kind: u32, n: RepeatCount, c: u32) -> Result<Movement, Answer>
 pub(crate) fn movement_of(movement: CMovement) -> Result<Movement, Answer>
     ensures { result ≡ movement_of movement }
 {
-    movement_by(movement.kind, count_of(movement.n)?, movement.c)
+    let n = if matches!(movement.kind, 103..=118 | 120..=123) {
+        count_of(movement.n)?
+    } else {
+        0
+    };
+    movement_by(movement.kind, n, movement.c)
 }

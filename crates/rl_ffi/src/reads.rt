@@ -2,16 +2,14 @@
 ghost use Rattle.std.specs.Prelude.{◌≡◌, Some, false, is_some, length};
 ghost use Rattle.std.specs.Option.{option_map, option_map_or};
 ghost use Rattle.rl_base.specs.KillRing.{text_back, yank_size};
-ghost use Rattle.rl_base.specs.Lines.{line_number, lines};
+ghost use Rattle.rl_base.specs.Lines.{lines};
 ghost use Rattle.rl_line.specs.LineRanges.{range_of_line};
 ghost use Rattle.rl_line.specs.Units.{has_change, last_of, level, redo_of};
-ghost use Rattle.rl_session.specs.Commands.{destination};
 ghost use Rattle.rl_session.specs.State.{State};
 ghost use Rattle.rl_ffi.specs.Answers.{merged};
-ghost use Rattle.rl_ffi.specs.Calls.{Tells, Writes, told_named};
+ghost use Rattle.rl_ffi.specs.Calls.{Tells, Writes};
 ghost use Rattle.rl_ffi.specs.Held.{a_session, session_of};
-ghost use Rattle.rl_ffi.specs.Numbers.{movement_of};
-ghost use Rattle.rl_ffi.specs.Reads.{Lends, TellsCluster, TellsCovers, TellsSlice, TellsText, cursor_position, range_shape};
+ghost use Rattle.rl_ffi.specs.Reads.{LeadsFrom, Lends, TellsCluster, TellsClusterBefore, TellsCovers, TellsCoversFrom, TellsLineAt, TellsSlice, TellsText, cursor_position, range_shape};
 
 use crate::answers::{Answer, Outcome, merged};
 use crate::handle::{Handle, of};
@@ -69,18 +67,6 @@ pub extern "C" fn lodvarn_pos(alloc: Global, s: &mut Handle) -> usize
     ensures kept { s.new.value ≡ s.old.value }
 {
     of!(s, alloc, Held::Session(session) => session.line().pos(), 0)
-}
-
-/// `lodvarn_cursor_line`.
-#[unsafe(no_mangle)]
-pub extern "C" fn lodvarn_cursor_line(alloc: Global, s: &mut Handle) -> usize
-    ensures value { result ≡ option_map_or (λ (s : State). line_number s.line.text s.line.cursor) (session_of s.old.value) 0 }
-    ensures kept { s.new.value ≡ s.old.value }
-{
-    of!(s, alloc, Held::Session(session) => {
-        session.index_lines();
-        session.line().line_number()
-    }, 0)
 }
 
 /// `lodvarn_count_lines`.
@@ -236,18 +222,35 @@ pub(crate) fn covers(line: &LineBuffer, movement: CMovement, range: &mut CRange)
     write_range(line.covered(&movement_of(movement)?), range)
 }
 
+fn covers_from(
+    session: &mut Session,
+    from: usize,
+    movement: CMovement,
+    range: &mut CRange,
+) -> Outcome
+    ensures value { TellsCoversFrom from movement session.old (merged result) range.old range.new }
+    ensures kept { session.new ≡ session.old }
+{
+    let movement = movement_of(movement)?;
+    match session.covers_from(from, &movement) {
+        Ok(found) => write_range(found, range),
+        Err(_) => Err(Answer::BadPlace),
+    }
+}
+
 /// `lodvarn_covers`.
 #[unsafe(no_mangle)]
 pub extern "C" fn lodvarn_covers(
     alloc: Global,
     s: &mut Handle,
+    from: usize,
     movement: CMovement,
     range: &mut CRange,
 ) -> i32
-    ensures value { Tells a_session (λ s. TellsCovers movement s.line) s.old.value result range.old range.new }
+    ensures value { Tells a_session (TellsCoversFrom from movement) s.old.value result range.old range.new }
     ensures kept { s.new.value ≡ s.old.value }
 {
-    of!(s, alloc, Held::Session(session) => covers(session.line(), movement, range))
+    of!(s, alloc, Held::Session(session) => covers_from(session, from, movement, range))
 }
 
 // Writes a place, if there is one.
@@ -263,10 +266,15 @@ pub(crate) fn write_place(found: Option<usize>, place: &mut usize) -> Outcome
     }
 }
 
-fn lead(session: &Session, movement: CMovement, place: &mut usize) -> Outcome
-    ensures { told_named (movement_of movement) (λ m (s : State). Writes (destination s m)) session.now (merged result) place.old place.new }
+fn lead(session: &mut Session, from: usize, movement: CMovement, place: &mut usize) -> Outcome
+    ensures value { LeadsFrom from movement session.old (merged result) place.old place.new }
+    ensures kept { session.new ≡ session.old }
 {
-    write_place(session.destination(&movement_of(movement)?), place)
+    let movement = movement_of(movement)?;
+    match session.destination_from(from, &movement) {
+        Ok(found) => write_place(found, place),
+        Err(_) => Err(Answer::BadPlace),
+    }
 }
 
 /// `lodvarn_destination`.
@@ -274,16 +282,43 @@ fn lead(session: &Session, movement: CMovement, place: &mut usize) -> Outcome
 pub extern "C" fn lodvarn_destination(
     alloc: Global,
     s: &mut Handle,
+    from: usize,
     movement: CMovement,
     place: &mut usize,
 ) -> i32
-    ensures value { Tells a_session (told_named (movement_of movement) (λ m (s : State). Writes (destination s m))) s.old.value result place.old place.new }
+    ensures value { Tells a_session (LeadsFrom from movement) s.old.value result place.old place.new }
     ensures kept { s.new.value ≡ s.old.value }
 {
-    of!(s, alloc, Held::Session(session) => lead(session, movement, place))
+    of!(s, alloc, Held::Session(session) => lead(session, from, movement, place))
 }
 
-// Writes where the first cluster of the text after a place ends, and how many columns it takes, if there is one.
+fn line_at(session: &mut Session, place: usize, number: &mut usize) -> Outcome
+    ensures value { TellsLineAt place session.old (merged result) number.old number.new }
+    ensures kept { session.new ≡ session.old }
+{
+    session.index_lines();
+    let line = session.line();
+    if !line.as_str().is_char_boundary(place) {
+        return Err(Answer::BadPlace);
+    }
+    write_place(Some(line.line_at(place)), number)
+}
+
+/// `lodvarn_line_at`.
+#[unsafe(no_mangle)]
+pub extern "C" fn lodvarn_line_at(
+    alloc: Global,
+    s: &mut Handle,
+    place: usize,
+    line: &mut usize,
+) -> i32
+    ensures value { Tells a_session (TellsLineAt place) s.old.value result line.old line.new }
+    ensures kept { s.new.value ≡ s.old.value }
+{
+    of!(s, alloc, Held::Session(session) => line_at(session, place, line))
+}
+
+// Writes where the first cluster of the text after a place begins and ends, and how many columns it takes, if there is one.
 fn measure(text: &str, mode: GraphemeClusterMode, place: usize, found: &mut CCluster) -> Outcome
     ensures { TellsCluster text.now mode place (merged result) found.old found.new }
 {
@@ -293,7 +328,8 @@ fn measure(text: &str, mode: GraphemeClusterMode, place: usize, found: &mut CClu
     match text[place..].graphemes(true).next() {
         Some(cluster) => {
             *found = CCluster {
-                end: place + cluster.len(),
+                from: place,
+                to: place + cluster.len(),
                 columns: usize::from(mode.width(cluster)),
             };
             Ok(Answer::Done)
@@ -314,4 +350,43 @@ pub extern "C" fn lodvarn_cluster_at(
     ensures kept { s.new.value ≡ s.old.value }
 {
     of!(s, alloc, Held::Session(session) => measure(session.line().as_str(), session.options().mode, place, cluster))
+}
+
+// The same of the last cluster of the text before a place.
+fn measure_before(
+    text: &str,
+    mode: GraphemeClusterMode,
+    place: usize,
+    found: &mut CCluster,
+) -> Outcome
+    ensures { TellsClusterBefore text.now mode place (merged result) found.old found.new }
+{
+    if !text.is_char_boundary(place) {
+        return Err(Answer::BadPlace);
+    }
+    match text[..place].graphemes(true).next_back() {
+        Some(cluster) => {
+            *found = CCluster {
+                from: place - cluster.len(),
+                to: place,
+                columns: usize::from(mode.width(cluster)),
+            };
+            Ok(Answer::Done)
+        }
+        None => Ok(Answer::Nothing),
+    }
+}
+
+/// `lodvarn_cluster_before`.
+#[unsafe(no_mangle)]
+pub extern "C" fn lodvarn_cluster_before(
+    alloc: Global,
+    s: &mut Handle,
+    place: usize,
+    cluster: &mut CCluster,
+) -> i32
+    ensures value { Tells a_session (λ (s : State). TellsClusterBefore s.line.text s.options.mode place) s.old.value result cluster.old cluster.new }
+    ensures kept { s.new.value ≡ s.old.value }
+{
+    of!(s, alloc, Held::Session(session) => measure_before(session.line().as_str(), session.options().mode, place, cluster))
 }

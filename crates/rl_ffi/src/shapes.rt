@@ -17,11 +17,12 @@ pub struct CPosition {
     pub column: usize,
 }
 
-/// A grapheme cluster: the byte place where it ends, and its columns.
+/// A grapheme cluster: the byte places where it begins and ends, and its columns.
 #[repr(C)]
 #[derive(Clone, Copy)]
 pub struct CCluster {
-    pub end: usize,
+    pub from: usize,
+    pub to: usize,
     pub columns: usize,
 }
 

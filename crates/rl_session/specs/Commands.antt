@@ -1,5 +1,5 @@
 -- What each command does.
-use Rattle.std.specs.Prelude.{◌≡◌, ℕ, ◌<◌, min, Bool, true, false, not, length, List, [], Any, Option, Some, None, ◌⊎◌, if◌then◌else◌, String}
+use Rattle.std.specs.Prelude.{◌≡◌, ℕ, ◌<◌, min, Bool, true, false, not, length, List, [], Any, Option, Some, None, Result, Ok, Err, ◌⊎◌, if◌then◌else◌, String}
 use Rattle.std.specs.Option.{option_map}
 use Rattle.std.specs.String.{string_bytes}
 use Rattle.std.specs.Str.{IsCharBoundary}
@@ -29,6 +29,7 @@ use Rattle.rl_session.specs.Options.{layout_of}
 use Rattle.rl_session.specs.Pair.{pair_step, pair_refused}
 use Rattle.rl_session.specs.declared.session.Command.{Command}
 use Rattle.rl_session.specs.declared.session.Command.TheVariants.{SetPos, Move, Insert, Paste, Yank, YankPop, Update, InsertStr, Replace, DeleteRange, Delete, Backspace, KillLine, KillBuffer, DiscardLine, DiscardBuffer, DeletePrevWord, DeleteWord, DeleteTo, TransposeChars, TransposeWords, EditWord, Kill, Copy, Indent, Begin, End, EndOne, Undo, Redo, Truncate, LinePlace, KillRange, Keep}
+use Rattle.rl_session.specs.declared.session.Fault.{Fault}
 use Rattle.rl_session.specs.declared.session.Fault.TheVariants.{NoMemory, BadPlace, BadYankSize, NotReplaying}
 use Rattle.rl_session.specs.declared.session.Reply.{Reply}
 use Rattle.rl_session.specs.declared.session.Reply.TheVariants as says
@@ -37,6 +38,15 @@ use Rattle.rl_session.specs.State.{State, Follows, IsBounded, Stands, with_ring}
 -- where a movement leads, if anywhere; over lines it counts columns from the prompt of the session's options
 abbrev pub destination : State → Movement → Option ℕ
 destination s movement = destination_in (layout_of s.options) s.line movement
+
+-- a session with its cursor at a place
+abbrev pub with_cursor : ℕ → State → State
+with_cursor place s = record s { line = record s.line { cursor = place } }
+
+-- what is asked of a session with its cursor at a place, if that is a boundary
+abbrev pub AskedFrom : {A : Type 0} → ℕ → (State → Option A) → State → Result (Option A) Fault → Type 0
+AskedFrom place asks s (Ok found) = IsCharBoundary s.line.text place × (found ≡ asks (with_cursor place s))
+AskedFrom place asks s (Err why) = (¬ (IsCharBoundary s.line.text place)) × (why ≡ BadPlace)
 
 -- where the cursor stands: the number of its line, from 0, and the columns from that line's start
 abbrev pub line_place : State → ℕ × ℕ

@@ -69,7 +69,8 @@ pub struct lodvarn_position {
 #[repr(C)]
 #[derive(Debug, Copy, Clone)]
 pub struct lodvarn_cluster {
-    pub end: usize,
+    pub from: usize,
+    pub to: usize,
     pub columns: usize,
 }
 #[repr(C)]
@@ -336,10 +337,14 @@ extern "C" {
     pub fn lodvarn_pos(s: *mut lodvarn) -> usize;
 }
 extern "C" {
-    pub fn lodvarn_cursor_line(s: *mut lodvarn) -> usize;
+    pub fn lodvarn_count_lines(s: *mut lodvarn) -> usize;
 }
 extern "C" {
-    pub fn lodvarn_count_lines(s: *mut lodvarn) -> usize;
+    pub fn lodvarn_line_at(
+        s: *mut lodvarn,
+        place: usize,
+        line: *mut usize,
+    ) -> ::std::os::raw::c_int;
 }
 extern "C" {
     pub fn lodvarn_find_cursor(
@@ -357,6 +362,7 @@ extern "C" {
 extern "C" {
     pub fn lodvarn_covers(
         s: *mut lodvarn,
+        from: usize,
         movement: lodvarn_movement,
         range: *mut lodvarn_range,
     ) -> ::std::os::raw::c_int;
@@ -364,12 +370,20 @@ extern "C" {
 extern "C" {
     pub fn lodvarn_destination(
         s: *mut lodvarn,
+        from: usize,
         movement: lodvarn_movement,
         place: *mut usize,
     ) -> ::std::os::raw::c_int;
 }
 extern "C" {
     pub fn lodvarn_cluster_at(
+        s: *mut lodvarn,
+        place: usize,
+        cluster: *mut lodvarn_cluster,
+    ) -> ::std::os::raw::c_int;
+}
+extern "C" {
+    pub fn lodvarn_cluster_before(
         s: *mut lodvarn,
         place: usize,
         cluster: *mut lodvarn_cluster,

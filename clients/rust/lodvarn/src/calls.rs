@@ -198,11 +198,14 @@ impl Handle<lodvarn> {
     calls! {
         fn find_cursor(&self) writes lodvarn_position = lodvarn_find_cursor();
         fn find_line(&self, line: usize) writes lodvarn_range = lodvarn_find_line(line);
-        fn covers(&self, movement: Movement) writes lodvarn_range
-            = lodvarn_covers(movement.passed());
-        fn destination(&self, movement: Movement) writes usize
-            = lodvarn_destination(movement.passed());
+        fn line_at(&self, place: usize) writes usize = lodvarn_line_at(place);
+        fn covers(&self, from: usize, movement: Movement) writes lodvarn_range
+            = lodvarn_covers(from, movement.passed());
+        fn destination(&self, from: usize, movement: Movement) writes usize
+            = lodvarn_destination(from, movement.passed());
         fn cluster_at(&self, place: usize) writes lodvarn_cluster = lodvarn_cluster_at(place);
+        fn cluster_before(&self, place: usize) writes lodvarn_cluster
+            = lodvarn_cluster_before(place);
     }
 
     calls! {

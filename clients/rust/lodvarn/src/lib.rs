@@ -14,9 +14,9 @@
 //! ```
 //!
 //! A place is a number of bytes from the start of the text, and a boundary, as an index of a `str` is. A count is of
-//! grapheme clusters, words, lines or repetitions. Lines, rows and columns are numbered from 0. A text that a session
-//! returns is lent: it borrows the session. Each call names the faults that it returns, and [`Fault`] says what they
-//! leave. `docs/RULES.md` of the repository says exactly what each call does.
+//! grapheme clusters, words, lines or repetitions, and 0 does nothing. Lines, rows and columns are numbered from 0. A
+//! text that a session returns is lent: it borrows the session. Each call names the faults that it returns, and
+//! [`Fault`] says what they leave. `docs/RULES.md` of the repository says exactly what each call does.
 //!
 //! A [`Session`] keeps a line, its record and its ring in step. An editor that was written for rustyline 19.0.0's own
 //! types, or that brings them together in its own way, finds them under their names in [`line_buffer`], [`undo`],

@@ -27,6 +27,7 @@
 //!   [`Fault::NoMemory`] instead; the listener has heard of the steps that were made then.
 //! - A place must be one between two characters, also that of [`set_pos`](LineBuffer::set_pos), and the cursor never
 //!   stands inside a character. If a call is given another place it panics, or returns [`Fault::BadPlace`].
+//! - A count of 0 does nothing, also one of a movement.
 //! - Words, movements and indents follow Lodvarn's rules where rustyline's drop a cluster, panic or miss a line:
 //!   `docs/DIFFERENCES.md` of the repository names each case. A width is at most 65535.
 //! - The text is the library's own, lent as long as the line does not change. Threads that share a line wait for each
@@ -211,8 +212,7 @@ impl LineBuffer {
         self.next_pos(1).map(|end| &self[self.pos()..end])
     }
 
-    /// The place n grapheme clusters after the cursor, or the end if there are fewer. `None` at the end, and for
-    /// n = 0.
+    /// The place n grapheme clusters after the cursor, or the end if there are fewer. `None` at the end.
     #[must_use]
     pub fn next_pos(&self, n: RepeatCount) -> Option<usize> {
         let (movement, mode) = (Movement::ForwardChar(n), GraphemeClusterMode::Unicode);
@@ -230,12 +230,12 @@ impl LineBuffer {
         self.move_with(movement, GraphemeClusterMode::Unicode, 0)
     }
 
-    /// Moves the cursor n grapheme clusters back. False at the start, and for n = 0.
+    /// Moves the cursor n grapheme clusters back. False at the start.
     pub fn move_backward(&mut self, n: RepeatCount) -> bool {
         self.move_by(Movement::BackwardChar(n))
     }
 
-    /// Moves the cursor n grapheme clusters forward. False at the end, and for n = 0.
+    /// Moves the cursor n grapheme clusters forward. False at the end.
     pub fn move_forward(&mut self, n: RepeatCount) -> bool {
         self.move_by(Movement::ForwardChar(n))
     }
@@ -271,15 +271,15 @@ impl LineBuffer {
         self.move_by(Movement::ForwardWord(n, at, word_def))
     }
 
-    /// Moves the cursor n lines up, one for n = 0, to the column where it is, or to the end of a line that is shorter.
-    /// False on the first line.
+    /// Moves the cursor n lines up, to the column where it is, or to the end of a line that is shorter. False on the
+    /// first line.
     pub fn move_to_line_up(&mut self, n: RepeatCount, layout: &Layout) -> bool {
         let (mode, prompt) = (layout.grapheme_cluster_mode, layout.prompt_size.col);
         self.move_with(Movement::LineUp(n), mode, prompt)
     }
 
-    /// Moves the cursor n lines down, one for n = 0, to the column where it is, or to the end of a line that is shorter.
-    /// False on the last line.
+    /// Moves the cursor n lines down, to the column where it is, or to the end of a line that is shorter. False on the
+    /// last line.
     pub fn move_to_line_down(&mut self, n: RepeatCount, layout: &Layout) -> bool {
         let (mode, prompt) = (layout.grapheme_cluster_mode, layout.prompt_size.col);
         self.move_with(Movement::LineDown(n), mode, prompt)

@@ -38,27 +38,46 @@ impl Session {
         told(self.handle.find_line(line)).map(|it| it.from..it.to)
     }
 
-    /// The range that a [`copy`](Session::copy) by a movement would copy, or `None` if the movement covers nothing.
+    /// The number of the line in which a place stands, from 0; a newline belongs to the line that it ends.
+    ///
+    /// # Errors
+    ///
+    /// [`Fault::BadPlace`].
+    pub fn line_at(&self, place: usize) -> Result<usize, Fault> {
+        let found = self.handle.line_at(place)?;
+        Ok(found.expect("a place stands in a line"))
+    }
+
+    /// The range that a [`copy`](Session::copy) by a movement would copy with the cursor at the place `from`, or `None`
+    /// if the movement covers nothing.
     ///
     /// ```
     /// # use lodvarn::{Fault, Movement, Session, Word};
     /// # fn main() -> Result<(), Fault> {
     /// let session = Session::builder().text("one two").open()?;
     /// let word = Movement::BackwardWord(1, Word::Emacs);
-    /// assert_eq!((session.covers(word), session.destination(word)), (Some(4..7), Some(4)));
-    /// assert_eq!(session.destination(Movement::EndOfLine), None);
+    /// assert_eq!(session.covers(session.pos(), word), Ok(Some(4..7)));
+    /// assert_eq!((session.destination(4, word), session.pos()), (Ok(Some(0)), 7));
     /// # Ok(())
     /// # }
     /// ```
-    #[must_use]
-    pub fn covers(&self, movement: Movement) -> Option<Range<usize>> {
-        told(self.handle.covers(movement)).map(|it| it.from..it.to)
+    ///
+    /// # Errors
+    ///
+    /// [`Fault::BadPlace`].
+    pub fn covers(&self, from: usize, movement: Movement) -> Result<Option<Range<usize>>, Fault> {
+        let found = self.handle.covers(from, movement)?;
+        Ok(found.map(|it| it.from..it.to))
     }
 
-    /// The place where [`move_by`](Session::move_by) would bring the cursor, or `None` if there is nowhere to go.
-    #[must_use]
-    pub fn destination(&self, movement: Movement) -> Option<usize> {
-        told(self.handle.destination(movement))
+    /// The place where [`move_by`](Session::move_by) would bring the cursor from the place `from`, or `None` if there is
+    /// nowhere to go.
+    ///
+    /// # Errors
+    ///
+    /// [`Fault::BadPlace`].
+    pub fn destination(&self, from: usize, movement: Movement) -> Result<Option<usize>, Fault> {
+        self.handle.destination(from, movement)
     }
 
     /// The place `n` rows above the cursor on a screen, and the column that it is looked for at: the given one, or the
@@ -107,8 +126,8 @@ impl Session {
     /// let session = Session::builder().text("e\u{301}漢").open()?;
     /// let (mut place, mut columns) = (0, vec![]);
     /// while let Some(cluster) = session.cluster_at(place)? {
-    ///     columns.push((place..cluster.end, cluster.columns));
-    ///     place = cluster.end;
+    ///     columns.push((cluster.from..cluster.to, cluster.columns));
+    ///     place = cluster.to;
     /// }
     /// assert_eq!(columns, [(0..3, 1), (3..6, 2)]);
     /// # Ok(())
@@ -119,20 +138,23 @@ impl Session {
     ///
     /// [`Fault::BadPlace`].
     pub fn cluster_at(&self, place: usize) -> Result<Option<Cluster>, Fault> {
-        let found = self.handle.cluster_at(place)?;
-        Ok(found.map(|it| Cluster {
-            end: it.end,
-            columns: it.columns,
-        }))
+        Ok(self.handle.cluster_at(place)?.map(Cluster::of))
+    }
+
+    /// The last grapheme cluster of the text before a place. `None` at its start. It takes as long as the cluster does,
+    /// as [`cluster_at`](Session::cluster_at) does.
+    ///
+    /// # Errors
+    ///
+    /// [`Fault::BadPlace`].
+    pub fn cluster_before(&self, place: usize) -> Result<Option<Cluster>, Fault> {
+        Ok(self.handle.cluster_before(place)?.map(Cluster::of))
     }
 }
 
 methods! {
     /// The place of the cursor, in bytes.
     pub fn pos(&self) -> usize = lodvarn_pos();
-
-    /// The number of the cursor's line, from 0.
-    pub fn cursor_line(&self) -> usize = lodvarn_cursor_line();
 
     /// How many lines the text has.
     pub fn count_lines(&self) -> usize = lodvarn_count_lines();

@@ -110,7 +110,7 @@ methods! {
     /// [`Fault::NoMemory`].
     pub fn end_all_groups(&mut self) -> Result<bool, Fault> = found(lodvarn_end_all_groups());
 
-    /// Undoes the last n changes and groups, one if n is 0, all if there are fewer. False if there was no change.
+    /// Undoes the last n changes and groups, all if there are fewer. False if there was no change.
     ///
     /// # Errors
     ///

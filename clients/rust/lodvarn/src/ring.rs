@@ -62,13 +62,12 @@ methods! {
     ///
     /// # Errors
     ///
-    /// [`Fault::NoRoom`], which leaves the whole session; [`Fault::BadYankSize`] if what was yanked does not stand before
-    /// the cursor, as may be after a yank with n = 0; [`Fault::NoMemory`].
+    /// [`Fault::NoRoom`], which leaves the whole session; [`Fault::NoMemory`].
     pub fn yank_pop(&mut self) -> Result<Inserted, Fault> = Inserted::of(lodvarn_yank_pop());
 }
 
 methods! {
-    /// Whether the last command was a `yank` or `yank_pop` that found a text. A yank with n = 0 counts.
+    /// Whether the last command was a `yank` or `yank_pop` that found a text.
     pub fn last_was_yank(&self) -> bool = lodvarn_last_was_yank();
 
     /// How many texts the ring has.
@@ -89,7 +88,8 @@ impl Session {
     ///
     /// [`Fault::NoMemory`]; nothing is done.
     pub fn copy(&mut self, movement: Movement) -> Result<Option<String>, Fault> {
-        let (mut out, mut len) = (room(self.covers(movement).map_or(0, |it| it.len()))?, 0);
+        let covered = self.covers(self.pos(), movement)?;
+        let (mut out, mut len) = (room(covered.map_or(0, |it| it.len()))?, 0);
         let is_copied = found(self.handle.copy(movement, &mut out, &mut len))?;
         Ok(is_copied.then(|| String::from_utf8(out).expect("the library's texts are UTF-8")))
     }

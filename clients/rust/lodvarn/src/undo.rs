@@ -21,6 +21,7 @@
 //!   [`undo`](Changeset::undo) and [`redo`](Changeset::redo) panic, and [`try_undo`](Changeset::try_undo) and
 //!   [`try_redo`](Changeset::try_redo) return [`Fault::NotReplaying`]. Record and line are as they were then. Only
 //!   texts are compared: a record of another line that has the same text there is not refused.
+//! - An undo of 0 does nothing.
 //! - `redo` and [`end_one`](Changeset::end_one) are public. A record tells how long it is, whether there is something to
 //!   undo, and whether an undo or a redo fits a line.
 //! - [`truncate`](Changeset::truncate) forgets what was undone.
@@ -112,8 +113,8 @@ impl Changeset {
         answered(done(self.record.cursors(before, after)));
     }
 
-    /// Undoes the last n changes and groups in a line, one if n is 0, all if there are fewer. False if there
-    /// was no change. No listener hears of it.
+    /// Undoes the last n changes and groups in a line, all if there are fewer. False if there was no
+    /// change. No listener hears of it.
     ///
     /// # Panics
     ///

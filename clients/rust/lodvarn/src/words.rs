@@ -280,13 +280,25 @@ impl Position {
     }
 }
 
-/// A grapheme cluster of a text, from a place on.
+/// A grapheme cluster of a text.
 #[derive(Clone, Copy, Debug, PartialEq, Eq, Hash)]
 pub struct Cluster {
-    /// The place where it ends, in bytes.
-    pub end: usize,
+    /// The place where it begins, in bytes.
+    pub from: usize,
+    /// The place where it ends.
+    pub to: usize,
     /// How many columns it takes.
     pub columns: usize,
+}
+
+impl Cluster {
+    pub(crate) fn of(it: ffi::lodvarn_cluster) -> Self {
+        Cluster {
+            from: it.from,
+            to: it.to,
+            columns: it.columns,
+        }
+    }
 }
 
 /// A screen, on which a text begins in row 0. Begin with [`Screen::new`], and change what should differ.

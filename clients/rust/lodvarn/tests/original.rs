@@ -46,7 +46,7 @@ fn texts_are_put_in() {
         "one |two" l h l.insert('x', 1, h), "Some(false)" "one x|two" ["4 + 'x'"];
         "ab|" l h l.insert('é', 1, h), "Some(true)" "abé|" ["2 + 'é'"];
         "ab|" l h l.insert('c', 2, h), "Some(true)" "abcc|" ["2 + \"cc\""];
-        "ab|" l h l.insert('c', 0, h), "Some(true)" "ab|" ["2 + \"\""];
+        "ab|" l h l.insert('c', 0, h), "None" "ab|" [];
         "ab|" l h l.yank("-", 3, h), "Some(true)" "ab---|" ["2 + \"---\""];
         "ab|" l h l.yank("", 3, h), "None" "ab|" [];
         "abc|" l h l.yank_pop(2, "xy", h), "Some(true)" "axy|" ["1 - \"bc\" Forward", "1 + \"xy\""];

@@ -2,7 +2,8 @@
 //! movement of a session is what the word of a script is.
 mod typed;
 
-use lodvarn::{first_cluster, run_script, width, Mode, Position, Screen, Session};
+use lodvarn::{first_cluster, last_cluster, run_script, width};
+use lodvarn::{Cluster, Mode, Position, Screen, Session};
 use std::process::Command;
 use typed::Typed;
 
@@ -18,8 +19,8 @@ fn bytes_of(literal: &str) -> Vec<u8> {
     bytes
 }
 
-/// What each script of the table shows, the script, and what it prints.
-fn rows() -> Vec<[Vec<u8>; 3]> {
+/// What each script of the table shows, the script, what it prints, and whether each of its lines has a call.
+fn rows() -> Vec<([Vec<u8>; 3], bool)> {
     let program = concat!(env!("CARGO_MANIFEST_DIR"), "/../../rows.py");
     let ran = Command::new("python3").arg(program).output();
     let ran = ran.expect("python3 runs");
@@ -28,15 +29,16 @@ fn rows() -> Vec<[Vec<u8>; 3]> {
     let is_row = |line: &&str| line.starts_with("    {");
     let lines = table.lines().filter(is_row);
     // What stands in a text has no quotation mark.
-    let parts = lines.map(|line| line.split('"').map(bytes_of).collect::<Vec<_>>());
-    parts.map(|it| [1, 3, 5].map(|i| it[i].clone())).collect()
+    let parts = lines.map(|line| line.split('"').collect::<Vec<_>>());
+    let row = |it: Vec<&str>| ([1, 3, 5].map(|i| bytes_of(it[i])), it[6] == ", 1},");
+    parts.map(row).collect()
 }
 
 /// The text tells the same as the reads.
 fn reads_agree(s: &Session) {
     let (text, pos, mode) = (s.text(), s.pos(), s.options().mode);
     let own = text[..pos].matches('\n').count();
-    assert_eq!(s.cursor_line(), own);
+    assert_eq!(s.line_at(pos), Ok(own));
     assert_eq!(s.count_lines(), text.matches('\n').count() + 1);
     let first = text[..pos].rfind('\n').map_or(0, |at| at + 1);
     let end = text[pos..].find('\n').map_or(text.len(), |at| pos + at);
@@ -45,10 +47,16 @@ fn reads_agree(s: &Session) {
     let column = width(mode, &text[first..pos]);
     assert_eq!(s.find_cursor(), Position { line: own, column });
     let next = first_cluster(&text[pos..]);
-    let cluster = s.cluster_at(pos).expect("a place");
-    let cluster = cluster.map(|it| (it.end, it.columns));
-    let wanted = (pos + next.len(), width(mode, next));
-    assert_eq!(cluster, Some(wanted).filter(|_| !next.is_empty()));
+    let cluster = |from, text: &str| Cluster {
+        from,
+        to: from + text.len(),
+        columns: width(mode, text),
+    };
+    let wanted = Some(cluster(pos, next)).filter(|_| !next.is_empty());
+    assert_eq!(s.cluster_at(pos), Ok(wanted));
+    let last = last_cluster(&text[..pos]);
+    let wanted = Some(cluster(pos - last.len(), last)).filter(|_| !last.is_empty());
+    assert_eq!(s.cluster_before(pos), Ok(wanted));
     let texts = (0..).map_while(|back| s.ring_text(back)).count();
     assert_eq!(texts, s.ring_count());
     assert_eq!(s.slice(first..end), Ok(&text[first..end]));
@@ -69,14 +77,13 @@ fn screens_agree(s: &Session) {
 fn scripts_print() {
     let rows = rows();
     assert!(rows.len() > 150, "{} rows", rows.len());
-    for [what, script, wanted] in rows {
+    for ([what, script, wanted], has_calls) in rows {
         let what = String::from_utf8_lossy(&what);
         assert_eq!(run_script(&script).as_ref(), Ok(&wanted), "{what}");
-        // There is no call for a line without a meaning.
-        let wanted = String::from_utf8_lossy(&wanted);
-        if wanted.lines().any(|line| line == "bad") {
+        if !has_calls {
             continue;
         }
+        let wanted = String::from_utf8_lossy(&wanted);
         let script = String::from_utf8(script).expect("it has a meaning");
         let mut typed = Typed::new();
         let printed: String = script.lines().map(|line| typed.line(line)).collect();

@@ -44,13 +44,24 @@ impl LineBuffer {
         }
     }
 
-    /// The number of the cursor's line, from 0. It is looked up in the table of line starts by binary search, if there is one
-    /// (`index_lines`); else the newlines before the cursor are counted.
+    /// The number of the cursor's line, from 0, as `line_at` finds it.
     pub fn line_number(&self) -> usize
         ensures value { result ≡ line_number self.now.text self.now.cursor }
         ensures within { result ≤ last_line self.now.text }
     {
         self.line_at(self.pos())
+    }
+
+    /// The number of the line in which a byte place stands, from 0; a newline belongs to the line that it ends. It is looked
+    /// up in the table of line starts by binary search, if there is one (`index_lines`); else the newlines before the place
+    /// are counted.
+    #[tactic(auto, using(crate::proofs::Lines::LineStartLemmas::tables))]
+    pub fn line_at(&self, place: usize) -> usize
+        requires { place ≤ length self.now.text }
+        ensures value { result ≡ line_number self.now.text place }
+        ensures within { result ≤ last_line self.now.text }
+    {
+        self.line.line_number(place)
     }
 
     /// How many lines the text has, at least one. A newline at its end has an empty line after it.
@@ -86,16 +97,6 @@ impl LineBuffer {
         // So the proof knows that the text is UTF-8.
         let _text = self.as_str();
         self.line.start(k)
-    }
-
-    // The number of the line that a place lies in.
-    #[tactic(auto, using(crate::proofs::Lines::LineStartLemmas::tables))]
-    pub(super) fn line_at(&self, pos: usize) -> usize
-        requires { pos ≤ length self.now.text }
-        ensures value { result ≡ line_number self.now.text pos }
-        ensures within { result ≤ last_line self.now.text }
-    {
-        self.line.line_number(pos)
     }
 
     // The number of the last line.

@@ -1,8 +1,10 @@
 //! Motions, where each leads and what it covers, copying by one, and where the cursor stands.
-ghost use Rattle.std.specs.Prelude.{◌≡◌, ◌≤◌, IfSome};
+ghost use Rattle.std.specs.Prelude.{◌≡◌, ◌≤◌, IfOk, IfSome};
 ghost use Rattle.std.specs.Str.{IsCharBoundary};
+ghost use Rattle.rl_line.specs.LineRanges.{IsRange};
 ghost use Rattle.rl_line.specs.Ranges.{covered};
-ghost use Rattle.rl_session.specs.Commands.{Does, destination, line_place};
+ghost use Rattle.rl_session.specs.Commands.{AskedFrom, Does, destination, line_place};
+ghost use Rattle.rl_session.specs.State.{State};
 ghost use Rattle.rl_session.specs.declared.session.Command.{Command};
 
 use crate::session::replies::handed_out;
@@ -39,6 +41,50 @@ impl Session {
         ensures boundary { IfSome result (IsCharBoundary self.now.line.text) }
     {
         self.line.destination(movement, &self.options.layout())
+    }
+
+    /// What `covers` would say with the cursor at a byte place. `BadPlace` if that is no boundary. Nothing is changed by it: a
+    /// run of kills goes on.
+    pub fn covers_from(
+        &mut self,
+        place: usize,
+        movement: &Movement,
+    ) -> Result<Option<Range<usize>>, Fault>
+        ensures asked { AskedFrom place (λ (s : State). covered s.line movement.now) self.old result }
+        ensures range { IfOk result (λ found. IfSome found (λ r. IsRange self.old.line.text r.start r.end)) }
+        ensures kept { self.new ≡ self.old }
+    {
+        if !self.line.as_str().is_char_boundary(place) {
+            return Err(Fault::BadPlace);
+        }
+        self.line.index_lines_for(movement);
+        let pos = self.line.pos();
+        self.line.set_pos(place);
+        let found = self.covers(movement);
+        self.line.set_pos(pos);
+        Ok(found)
+    }
+
+    /// What `destination` would say with the cursor at a byte place. `BadPlace` if that is no boundary. Nothing is changed by
+    /// it: a run of kills goes on.
+    pub fn destination_from(
+        &mut self,
+        place: usize,
+        movement: &Movement,
+    ) -> Result<Option<usize>, Fault>
+        ensures asked { AskedFrom place (λ (s : State). destination s movement.now) self.old result }
+        ensures boundary { IfOk result (λ found. IfSome found (IsCharBoundary self.old.line.text)) }
+        ensures kept { self.new ≡ self.old }
+    {
+        if !self.line.as_str().is_char_boundary(place) {
+            return Err(Fault::BadPlace);
+        }
+        self.line.index_lines_for(movement);
+        let pos = self.line.pos();
+        self.line.set_pos(place);
+        let found = self.destination(movement);
+        self.line.set_pos(pos);
+        Ok(found)
     }
 
     pub(super) fn do_move_by(&mut self, movement: &Movement) -> Reply

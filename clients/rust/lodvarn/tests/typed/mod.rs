@@ -175,7 +175,7 @@ fn truth(s: &mut Session, name: &str, rest: &mut Words) -> Result<String, Fault>
     let is_done = match name {
         "move" => {
             let (movement, pos) = (rest.movement(), s.pos());
-            let goes = s.destination(movement);
+            let goes = s.destination(pos, movement)?;
             assert_eq!(s.move_by(movement), goes.is_some(), "{movement:?}");
             assert_eq!(s.pos(), goes.unwrap_or(pos), "{movement:?}");
             Ok(goes.is_some())
@@ -260,13 +260,14 @@ fn told(s: &mut Session, name: &str, rest: &mut Words) -> Result<String, Fault> 
     match name {
         "copy" => {
             let movement = rest.movement();
-            let covered = s.covers(movement).map(|range| s.text()[range].to_string());
+            let covered = s.covers(s.pos(), movement)?;
+            let covered = covered.map(|range| s.text()[range].to_string());
             assert_eq!(s.copy(movement).as_ref(), Ok(&covered), "{movement:?}");
             Ok(handed(covered.as_deref()))
         }
         "del" => {
             let n = rest.number();
-            let covered = s.covers(Movement::ForwardChar(n));
+            let covered = s.covers(s.pos(), Movement::ForwardChar(n))?;
             let goes = covered.map(|range| s.text()[range].to_string());
             assert_eq!(s.delete(n), Ok(goes.is_some()));
             Ok(handed(goes.as_deref()))
