@@ -173,7 +173,7 @@ static void options_are_chosen(void) {
     SEE(lodvarn_set_options(s, &first) == LODVARN_DONE && has_chosen(&first));
     DOES(DONE, lodvarn_restart(s, "", 0), "|");
     for (const char *c = "abcd"; *c; c++) lodvarn_keep(s, c, 1);
-    DOES(DONE, lodvarn_end_kills(s), "|#d#c#b");
+    DOES(DONE, lodvarn_part(s), "|#d#c#b");
     SEE(has_chosen(&first));
 }
 
@@ -341,7 +341,7 @@ static void the_ring_has_what_was_killed_and_kept(void) {
     open_at("one two|", 64);
     DOES(DONE, lodvarn_kill(s, WORD_BACK), "one |#two");
     DOES(NOTHING, lodvarn_kill(s, lodvarn_to_text_end()), "one |#two");
-    DOES(DONE, lodvarn_end_kills(s), "one |#two");
+    DOES(DONE, lodvarn_part(s), "one |#two");
     DOES(DONE, lodvarn_kill(s, WORD_BACK), "|#one #two");
     DOES(DONE, lodvarn_keep(s, "né", 3), "|#né#one #two");
     DOES(DONE, lodvarn_keep(s, NULL, 0), "|##né#one #two");
