@@ -400,10 +400,6 @@ int lodvarn_kill(lodvarn *s, lodvarn_movement movement);
  * and the cursor stays then. Errors: BAD_PLACE, NO_MEMORY. */
 int lodvarn_kill_range(lodvarn *s, lodvarn_range range, enum lodvarn_direction direction);
 
-/* Ends a run of kills, as every other command does, and does nothing else: the next kill begins a new text of the ring,
- * and lodvarn_yank_pop finds nothing. */
-int lodvarn_end_kills(lodvarn *s);
-
 /* Puts a text into the ring, as a kill of its own, whatever was done before: the next lodvarn_yank gives it, and a kill
  * after this begins another text. Text, cursor and record stay. A ring of size 0 keeps nothing. Errors: NO_MEMORY. */
 int lodvarn_keep(lodvarn *s, const char *text, size_t len);
@@ -415,6 +411,11 @@ int lodvarn_copy(lodvarn *s, lodvarn_movement movement, char *out, size_t cap, s
 /* Inserts amount spaces at the start of each line that a movement covers, or deletes up to amount bytes of blanks
  * there. Each line is a change or more, see lodvarn_transpose_chars. Errors: NO_MEMORY. */
 int lodvarn_indent(lodvarn *s, lodvarn_movement movement, uint8_t amount, enum lodvarn_indentation indentation);
+
+/* Parts what comes from what was done: the next change joins no other, so that it is undone alone, the next kill begins
+ * a new text of the ring, and lodvarn_yank_pop finds nothing. Text, cursor, groups and what was undone stay. A change of
+ * nothing leaves it so; an undo, a redo, lodvarn_truncate and the begin or end of a group take it back. */
+int lodvarn_part(lodvarn *s);
 
 /* Begins an undo group: once it is closed, one undo takes back all its changes. Groups may be nested. What was undone is
  * forgotten, also if nothing changes in the group: begin one only if a change is to come. Errors: NO_MEMORY. */
@@ -431,8 +432,8 @@ int lodvarn_end_all_groups(lodvarn *s);
  * - one letter or digit by lodvarn_insert with n = 1, and the last change an insertion that ends at its place;
  * - the deletion or kill of one letter or digit, and the last change a deletion at that place, to either side;
  * - a text by lodvarn_replace, and the last change one whose new text ends at its place.
- * Motions between them do not matter; nothing joins over where a group begins or ends. Returns NOTHING if there was no
- * change. Errors: NO_MEMORY. */
+ * Motions between them do not matter; nothing joins right after lodvarn_part, or over where a group begins or ends.
+ * Returns NOTHING if there was no change. Errors: NO_MEMORY. */
 int lodvarn_undo(lodvarn *s, size_t n);
 
 /* Redoes what was undone last, one change or group. Returns NOTHING if there is none. Errors: NO_MEMORY. */

@@ -314,7 +314,7 @@ static int frugal_step(unsigned which) {
     CALL(lodvarn_move(s, lodvarn_search_for(LODVARN_BACK_TO, 'a', 1)));
     CALL(lodvarn_move(s, lodvarn_lines_up(1)));
     CALL(lodvarn_copy(s, lodvarn_whole_text(), out, sizeof out, &n));
-    CALL(lodvarn_end_kills(s));
+    CALL(lodvarn_part(s));
     CALL(lodvarn_take_change(s, &splice));
     CALL(lodvarn_next_report(s, &report));
     CALL(lodvarn_forget_report(s));

@@ -170,7 +170,7 @@ static void options_are_chosen(void) {
     SEE(lodvarn_set_options(s, &first) == LODVARN_DONE && has_chosen(&first));
     DOES(DONE, lodvarn_restart(s, "", 0), "|");
     for (const char *c = "abcd"; *c; c++) lodvarn_keep(s, c, 1);
-    DOES(DONE, lodvarn_end_kills(s), "|#d#c#b");
+    DOES(DONE, lodvarn_part(s), "|#d#c#b");
     SEE(has_chosen(&first));
 }
 
@@ -339,7 +339,7 @@ static void the_ring_has_what_was_killed_and_kept(void) {
     open_at("one two|", 64);
     DOES(DONE, lodvarn_kill(s, WORD_BACK), "one |#two");
     DOES(NOTHING, lodvarn_kill(s, lodvarn_to_text_end()), "one |#two");
-    DOES(DONE, lodvarn_end_kills(s), "one |#two");
+    DOES(DONE, lodvarn_part(s), "one |#two");
     DOES(DONE, lodvarn_kill(s, WORD_BACK), "|#one #two");
     DOES(DONE, lodvarn_keep(s, "né", 3), "|#né#one #two");
     DOES(DONE, lodvarn_keep(s, NULL, 0), "|##né#one #two");
@@ -732,7 +732,7 @@ static void begin_row(int yanked) {
     must(lodvarn_watch(s, 9, 64) == LODVARN_DONE && lodvarn_keep(s, "kept", 4) == LODVARN_DONE);
     must(lodvarn_begin_group(s) == LODVARN_DONE && lodvarn_kill(s, WORD_BACK) == LODVARN_DONE);
     if (yanked) {
-        must(lodvarn_end_kills(s) == LODVARN_DONE && lodvarn_kill(s, WORD_BACK) == LODVARN_DONE);
+        must(lodvarn_part(s) == LODVARN_DONE && lodvarn_kill(s, WORD_BACK) == LODVARN_DONE);
         must(lodvarn_yank(s, 1) == LODVARN_DONE_AT_END);
     }
     must(lodvarn_forget_report(s) == LODVARN_DONE && lodvarn_take_change(s, &out.splice) == LODVARN_DONE);

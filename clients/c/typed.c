@@ -224,7 +224,7 @@ static int redo(lodvarn *s) {
 }
 
 static int where(lodvarn *s) {
-    int answer = lodvarn_end_kills(s);
+    int answer = lodvarn_set_pos(s, lodvarn_pos(s));
     see("where", lodvarn_find_cursor(s, &cursor) == LODVARN_DONE);
     return answer;
 }
@@ -262,6 +262,7 @@ enum reply { OK, TRUTH, AT_END, TEXT, MARK, AT };
     ROW(twords, TRUTH, "N", lodvarn_transpose_words(s, g->n))                                          \
     ROW(yank, AT_END, "N", lodvarn_yank(s, g->n))                                                      \
     ROW(yankpop, AT_END, "", yank_pop(s))                                                              \
+    ROW(part, OK, "", lodvarn_part(s))                                                                  \
     ROW(begin, MARK, "", begin(s))                                                                     \
     ROW(end, TRUTH, "", end(s))                                                                        \
     ROW(endone, TRUTH, "", end_one(s))                                                                 \

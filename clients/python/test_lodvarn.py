@@ -508,7 +508,7 @@ class OnChange(Scripts):
         self.assertIs(session.on_change, call)
         inserted = report(ReportKind.CHAR_INSERTED, 1, "", "c", 1, 2)
         session.insert("c")
-        session.end_kills()
+        session.part()
         session.kill(END)
         self.assertEqual(seen, [inserted, STARTED, report(ReportKind.DELETED_FORWARD, 2, "b", "", 2, 2), STOPPED])
         session.on_change = None
@@ -554,7 +554,7 @@ class OnChange(Scripts):
         session, seen = Session("é"), []
         session.on_change = seen.append
         is_through = not interrupted(at, lambda: (session.insert("b"), session.set_text(1, "漢字")))
-        session.end_kills()
+        session.part()
         return self.loses_none(is_through, at, session, seen)
 
     def by_changes(self, at):

@@ -34,6 +34,7 @@ CASES = [
     ("one undo of what was typed", TWO, ["ia b" + DEL + "c" + ESC, "u"], ["one two", THREE], (0, 0)),
     ("and its redo", TWO, ["ia b" + DEL + "c" + ESC, "u", REDO], ["a cone two", THREE], (0, 3)),
     ("the last of a line", TWO, ["$x"], ["one tw", THREE], (0, 5)),
+    ("one undo of one key", TWO, ["xxu"], ["ne two", THREE], (0, 0)),
     ("two are exchanged", TWO, ["xp"], ["noe two", THREE], (0, 1)),
     ("each is put by itself", TWO, ["xxp"], ["en two", THREE], (0, 1)),
     ("a word that is put elsewhere", TWO, ["dwp"], ["tone wo", THREE], (0, 4)),

@@ -85,7 +85,7 @@ WORDS = {
     "update": ("JT", Session.set_text), "pos": ("Q", lambda s, pos: setattr(s, "pos", pos)),
     "str": ("QT", lambda s, at, text: s.insert_at(at, text) or True), "case": ("W", Session.change_case),
     "yankpop": ("", yank_pop), "begin": ("", lambda s: f"mark:{(s.entries, s.begin_group())[0]}"),
-    "where": ("", lambda s: "at:{}:{}".format(*(s.end_kills(), s.find_cursor())[1])),
+    "where": ("", lambda s: "at:{}:{}".format(*(setattr(s, "pos", s.pos), s.find_cursor())[1])),
 }
 # The words of an insertion, of which a script prints whether it went to the end of the text.
 INSERTIONS = {"ins", "paste", "str", "yank", "yankpop"}

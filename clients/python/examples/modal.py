@@ -93,7 +93,7 @@ if __name__ == "__main__":
     with RawTerminal(has_screen=True) as terminal:
         keys = terminal.keys(vi.draw)
         while (key := next(keys, "\x03")) not in ("\r", "\x03"):
-            vi.end_kills()  # What two keys kill is two texts of the ring.
+            vi.part()  # What two keys do is two undos, and two texts of the ring.
             print("" if (vi.go(key) if key in MOTIONS else key in KEYS and KEYS[key](vi, keys)) else "\a", end="")
             if vi.destination(MOTIONS["$"]) is None:
                 vi.go("h")  # It stands on a character.

@@ -615,10 +615,6 @@ class Session:
         """
         return self._do(lib.py_kill_range, self._places(start, end), _of(Direction, direction).value)
 
-    def end_kills(self) -> None:
-        """Ends a run of kills, so that the next one begins a new text of the ring."""
-        self._do(lib.py_end_kills)
-
     def keep(self, text: str) -> None:
         """Puts a text into the ring, as a kill by itself would: a yank gives it, and a kill after it begins another."""
         self._do(lib.py_keep, *_sent(text))
@@ -627,7 +623,7 @@ class Session:
         """Returns the text that a movement covers, or None if it covers nothing. A command: it ends a run of kills."""
         covered = self.covers(movement)
         text = self.slice(*covered) if covered else None
-        self.end_kills()
+        self.pos = self.pos  # This ends the run.
         return text
 
     def indent(self, movement: Movement, amount: int) -> bool:
@@ -643,6 +639,14 @@ class Session:
         Returns False if there is nothing to do.
         """
         return self._do(lib.py_indent, _of(Movement, movement)._in_c, amount, lib.LODVARN_DEDENT)
+
+    def part(self) -> None:
+        """Parts what comes from what was done: the next change is undone alone, and the next kill begins a new text.
+
+        Text, cursor, groups and what was undone stay. A change of nothing between leaves it so; an undo, a redo,
+        `truncate` and the begin or the end of a group take it back.
+        """
+        self._do(lib.py_part)
 
     def begin_group(self) -> None:
         """Begins an undo group: once it is closed, one undo takes back all its changes. Groups may be nested.

@@ -237,15 +237,12 @@ pub extern "C" fn lodvarn_kill_range(alloc: Global, s: &mut Handle, range: CRang
     of!(s, alloc, Held::Session(session) => kill_range(session, range, side))
 }
 
-/// `lodvarn_end_kills`.
+/// `lodvarn_part`.
 #[unsafe(no_mangle)]
-pub extern "C" fn lodvarn_end_kills(alloc: Global, s: &mut Handle) -> i32
-    ensures { Through a_session (λ old n new. (n ≡ Done) × ends_kills old new) s.old.value result s.new.value }
+pub extern "C" fn lodvarn_part(alloc: Global, s: &mut Handle) -> i32
+    ensures { Through a_session (asks Command.Part) s.old.value result s.new.value }
 {
-    of!(s, alloc, Held::Session(session) => {
-        end_kills(session);
-        Ok(Answer::Done)
-    })
+    of!(s, alloc, Held::Session(session) => ask(session, &Command::Part))
 }
 
 fn indent(session: &mut Session, movement: CMovement, amount: u8, indentation: u32) -> Outcome

@@ -4,6 +4,7 @@ pub mod RecordLemmas
 pub mod EntryLemmas
 pub mod LastLemmas
 pub mod JoinLemmas
+pub mod PartLemmas
 pub mod LeadLemmas
 pub mod ToldLemmas
 pub mod Counts

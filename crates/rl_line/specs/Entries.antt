@@ -19,7 +19,7 @@ added e fresh r = record { recorded = r.recorded ++ e ∷ []; pending = []; fres
 abbrev pub Joins : Event → Record → Record → Bool → Type 0
 Joins event old new true = new ≡ record_step old event
 Joins event old new false =
-    (new ≡ old) × (record_step old event ≡ record { recorded = old.recorded ++ entries_of event; pending = []; fresh = freshness_added (entries_of event) })
+    (new ≡ old) × (record_step old event ≡ record { recorded = old.recorded ++ entries_of event; pending = []; fresh = freshness_added old.fresh (entries_of event) })
 
 -- how many groups are open after the entries, if d are open before them
 abbrev pub deep : ℕ → List Entry → ℕ

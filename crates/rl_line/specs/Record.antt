@@ -1,5 +1,5 @@
 -- The record of the changes of a line.
-use Rattle.std.specs.Prelude.{◌≡◌, Bool, false, ℕ, ◌+◌, not, ◌==◌, ◌&&◌, ◌<◌, List, [], ◌∷◌, ◌++◌, length, map, take, reverse, encode_utf8, Option, Some, None, option_and_then, if◌then◌else◌}
+use Rattle.std.specs.Prelude.{◌≡◌, Bool, true, false, ℕ, ◌+◌, not, ◌==◌, ◌&&◌, ◌<◌, List, [], ◌∷◌, ◌++◌, length, map, take, reverse, encode_utf8, Option, Some, None, option_and_then, if◌then◌else◌}
 use Rattle.std.specs.Option.{option_map_or}
 use Rattle.std.specs.Str.{bytes_eq}
 use Rattle.std.specs.String.{string_bytes}
@@ -54,7 +54,7 @@ IsOfKind (Changed Deletion swap) = swap.new ≡ []
 IsOfKind _ = Unit {0}
 
 -- what was recorded, the oldest first; what was undone and waits to be redone, in the order in which it was made; and whether
--- the cursors of the last recorded change may still be told
+-- the cursors of the last recorded change may still be told, and the next change may join it
 pub record Record : Type 0 where
   pub recorded : List Entry
   pub pending : List Entry
@@ -96,15 +96,25 @@ joined (Delete i s _) (Changed Deletion last) =
 joined (Replace i s t) (Changed Replacement last) = if past last == i then Some (Changed Replacement (followed last s t)) else None
 joined _ _ = None
 
+-- a record is parted: the next change joins nothing
+abbrev pub is_parted : Freshness → Bool
+is_parted is.Parted = true
+is_parted _ = false
+
+-- the same in a record, in which nothing joins once it is parted
+abbrev pub joined_in : Freshness → Event → Entry → Option Entry
+joined_in is.Parted event e = None
+joined_in _ event e = joined event e
+
 -- an entry and an event that comes after it
-abbrev pub joined_or_added : Event → Entry → List Entry
-joined_or_added event e = option_map_or (λ joint. joint ∷ []) (joined event e) (e ∷ entries_of event)
+abbrev pub joined_or_added : Freshness → Event → Entry → List Entry
+joined_or_added fresh event e = option_map_or (λ joint. joint ∷ []) (joined_in fresh event e) (e ∷ entries_of event)
 
 -- the entries after an event, which joins the last one or is added
-abbrev pub entries_after : Event → List Entry → List Entry
-entries_after event [] = entries_of event
-entries_after event (e ∷ []) = joined_or_added event e
-entries_after event (e ∷ (d ∷ ds)) = e ∷ entries_after event (d ∷ ds)
+abbrev pub entries_after : Freshness → Event → List Entry → List Entry
+entries_after fresh event [] = entries_of event
+entries_after fresh event (e ∷ []) = joined_or_added fresh event e
+entries_after fresh event (e ∷ (d ∷ ds)) = e ∷ entries_after fresh event (d ∷ ds)
 
 -- the cursors of a change, if they were told
 abbrev pub cursors_of : Entry → Option (ℕ × ℕ)
@@ -116,23 +126,29 @@ abbrev pub freshness_joined : Option (ℕ × ℕ) → Freshness
 freshness_joined None = is.Stale
 freshness_joined (Some cursors) = is.Joined cursors.0
 
+-- no cursors may be told any more; a record that is parted stays so
+abbrev pub freshness_told : Freshness → Freshness
+freshness_told is.Parted = is.Parted
+freshness_told _ = is.Stale
+
 -- a change that was added may be told its cursors
-abbrev pub freshness_added : List Entry → Freshness
-freshness_added [] = is.Stale
-freshness_added (_ ∷ _) = is.Added
+abbrev pub freshness_added : Freshness → List Entry → Freshness
+freshness_added fresh [] = freshness_told fresh
+freshness_added fresh (_ ∷ _) = is.Added
 
 -- whether the cursors of the last entry may be told after an event of a text
-abbrev pub freshness_of : Event → List Entry → Freshness
-freshness_of event [] = freshness_added (entries_of event)
-freshness_of event (e ∷ []) = option_map_or (λ _. freshness_joined (cursors_of e)) (joined event e) (freshness_added (entries_of event))
-freshness_of event (e ∷ (d ∷ ds)) = freshness_of event (d ∷ ds)
+abbrev pub freshness_of : Freshness → Event → List Entry → Freshness
+freshness_of fresh event [] = freshness_added fresh (entries_of event)
+freshness_of fresh event (e ∷ []) =
+    option_map_or (λ _. freshness_joined (cursors_of e)) (joined_in fresh event e) (freshness_added fresh (entries_of event))
+freshness_of fresh event (e ∷ (d ∷ ds)) = freshness_of fresh event (d ∷ ds)
 
 -- the freshness after an event: the start and the stop of a kill leave it, and telling cursors ends it
 abbrev pub freshness_after : Event → Record → Freshness
 freshness_after Start r = r.fresh
 freshness_after Stop r = r.fresh
-freshness_after (Cursors _ _) r = is.Stale
-freshness_after event r = freshness_of event r.recorded
+freshness_after (Cursors _ _) r = freshness_told r.fresh
+freshness_after event r = freshness_of r.fresh event r.recorded
 
 -- the change with these cursors; a mark has none
 abbrev pub with_cursors : ℕ × ℕ → Entry → Entry
@@ -148,13 +164,14 @@ last_told cursors (e ∷ (d ∷ ds)) = e ∷ last_told cursors (d ∷ ds)
 -- the entries once cursors were told: a change that was joined keeps the one before it
 abbrev pub entries_told : Freshness → ℕ → ℕ → List Entry → List Entry
 entries_told is.Stale before after es = es
+entries_told is.Parted before after es = es
 entries_told is.Added before after es = last_told (before, after) es
 entries_told (is.Joined first) before after es = last_told (first, after) es
 
 -- the recorded entries after an event
 abbrev pub recorded_after : Event → Record → List Entry
 recorded_after (Cursors before after) r = entries_told r.fresh before after r.recorded
-recorded_after event r = entries_after event r.recorded
+recorded_after event r = entries_after r.fresh event r.recorded
 
 -- what waits to be redone after an event: all of it if a kill starts or stops or cursors are told, and
 -- else nothing
@@ -167,6 +184,10 @@ pending_after _ pending = []
 -- the record after an event
 unfoldable pub record_step : Record → Event → Record
 record_step r event = record { recorded = recorded_after event r; pending = pending_after event r.pending; fresh = freshness_after event r }
+
+-- the same record, in which the next change joins nothing
+abbrev pub parted : Record → Record
+parted r = record r { fresh = is.Parted }
 
 -- an event that adds an entry or joins one: what is put in or taken out is not an empty text
 abbrev pub IsRecorded : Event → Type 0

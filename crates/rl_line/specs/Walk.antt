@@ -2,9 +2,8 @@
 use Rattle.std.specs.Prelude.{◌≡◌, true, List, [], ◌∷◌, ℕ, Some}
 use Rattle.std.specs.Str.{IsUtf8}
 use Rattle.rl_base.specs.Event.{apply}
-use Rattle.rl_line.specs.declared.change.Freshness.TheVariants.{Stale}
 use Rattle.rl_line.specs.Undo.{cursor_stands}
-use Rattle.rl_line.specs.Record.{Entry, Record, event_of, inverse}
+use Rattle.rl_line.specs.Record.{Entry, Record, event_of, freshness_told, inverse}
 
 -- an entry leads from a text to another, and its cursors before and after it, if told, stand between two characters there
 pub record LeadsTo (e : Entry) (text now : List ℕ) : Type 0 where
@@ -24,4 +23,4 @@ pub record Walks (r : Record) (text : List ℕ) : Type 0 where
   pub back : Walk r.recorded start text
   pub end : List ℕ
   pub ahead : Walk r.pending text end
-  pub stale : r.fresh ≡ Stale
+  pub stale : freshness_told r.fresh ≡ r.fresh

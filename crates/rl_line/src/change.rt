@@ -7,7 +7,7 @@ ghost use Rattle.rl_base.specs.Event.{InsertChar, Delete, Replace, apply};
 ghost use Rattle.rl_base.specs.declared.listeners.Direction.TheVariants.{Forward};
 ghost use Rattle.rl_base.specs.declared.listeners.Refusal.TheVariants.{NoMemory};
 ghost use Rattle.rl_line.specs.Plan.{NeverRefuses, listener_after};
-ghost use Rattle.rl_line.specs.Record.{bytes_back, cursors_of, entry_of, event_of, freshness_joined, inverse, new_text, old_text, with_cursors};
+ghost use Rattle.rl_line.specs.Record.{bytes_back, cursors_of, entry_of, event_of, freshness_joined, freshness_told, inverse, is_parted, new_text, old_text, with_cursors};
 ghost use Rattle.rl_line.specs.Undo.{Reaches, count_over, cursor_after, cursor_told, cursor_stands, line_back, steps_ahead};
 ghost use Rattle.rl_line.specs.Units.{is_begin, is_change};
 ghost use Rattle.rl_line.specs.Change.{Outgrows, TakesIn, text_after, text_back, place, entry_to_undo, greatest_back_over, length_back, order, entries_to_undo};
@@ -40,11 +40,13 @@ pub(crate) struct Texts {
 /// The byte places of the cursor before a change and after it, if they were told.
 pub(crate) type Cursors = Option<(usize, usize)>;
 
-/// Whether the last change may still be told its cursors.
+/// Whether the last change may still be told its cursors, and the next change may join it.
 #[derive(Clone, Copy)]
 pub(crate) enum Freshness {
-    /// It may not.
+    /// It may not be told them.
     Stale,
+    /// Nor may the next change join it.
+    Parted,
     /// It was added.
     Added,
     /// It was joined and had its cursors: it keeps the cursor before it.
@@ -52,6 +54,28 @@ pub(crate) enum Freshness {
 }
 
 impl Freshness {
+    /// Whether the next change joins nothing.
+    #[inline(always)]
+    pub(crate) fn is_parted(self) -> bool
+        ensures { result ≡ is_parted self }
+    {
+        match self {
+            Freshness::Parted => true,
+            Freshness::Stale | Freshness::Added | Freshness::Joined(_) => false,
+        }
+    }
+
+    /// The freshness once no cursors may be told any more.
+    #[inline(always)]
+    pub(crate) fn told(self) -> Freshness
+        ensures { result ≡ freshness_told self }
+    {
+        match self {
+            Freshness::Parted => Freshness::Parted,
+            Freshness::Stale | Freshness::Added | Freshness::Joined(_) => Freshness::Stale,
+        }
+    }
+
     // The freshness of a joined change. It loses its cursors, but keeps the one before it if they were told.
     #[inline(always)]
     fn of_joined(cursors: &mut Cursors) -> Freshness

@@ -10,7 +10,7 @@ ghost use Rattle.rl_line.specs.declared.change.Freshness.TheVariants.{Stale};
 ghost use Rattle.rl_line.specs.Forgetting.{forgotten};
 ghost use Rattle.rl_line.specs.Change.{entries_to_undo};
 ghost use Rattle.rl_line.specs.Plan.{NeverRefuses};
-ghost use Rattle.rl_line.specs.Record.{IsOfKind, Record, entry_of, last_insert, record_step, replays_to};
+ghost use Rattle.rl_line.specs.Record.{IsOfKind, Record, entry_of, last_insert, parted, record_step, replays_to};
 ghost use Rattle.rl_line.specs.Undo.{CopiesBack, GoesOver, LineOutOfRoom, OutOfRoom, Redone, StandsStill, TriesAhead, TriesBack, Undone, line_ahead, line_back, line_over, listener_ahead, listener_back, listener_over, texts_ahead, texts_back, texts_over, unit_of};
 ghost use Rattle.rl_line.specs.Units.{BothMatched, IsMatched, adds_end, begun, ended, ended_one, has_change, is_change, last_of, level, redo_of, truncated, with_closed};
 
@@ -139,6 +139,15 @@ impl Changeset {
         let added = self.entries.close(count)?;
         self.level -= count;
         Ok(added)
+    }
+
+    /// Parts the changes that come from those before: the next change joins nothing, so that it is an entry of its own, also
+    /// if what is recorded meanwhile is empty. What was undone stays. Undoing, redoing, beginning or ending a group, and
+    /// `truncate` take it back.
+    pub fn part(&mut self)
+        ensures { self.new ≡ parted self.old }
+    {
+        self.entries.part();
     }
 
     /// Records that `c` was inserted at the byte place `idx`: an alphanumeric character joins the last entry, where

@@ -9,7 +9,7 @@ ghost use Rattle.rl_base.specs.Text.{HasText};
 ghost use Rattle.rl_base.specs.declared.listeners.Direction.TheVariants.{Forward};
 ghost use Rattle.rl_base.specs.declared.listeners.Refusal.TheVariants.{NoMemory};
 ghost use Rattle.rl_line.specs.declared.change.Freshness.TheVariants.{Added, Stale};
-ghost use Rattle.rl_line.specs.Record.{Changed, Insertion, IsOfKind, untold, entry_of, last_insert, record_step};
+ghost use Rattle.rl_line.specs.Record.{Changed, Insertion, IsOfKind, untold, entry_of, freshness_told, last_insert, parted, record_step};
 ghost use Rattle.rl_line.specs.Undo.{Tries, line_over};
 ghost use Rattle.rl_line.specs.Units.{adds_end, end_one, end_times, ends_in_begin, has_change, truncated, with_closed};
 ghost use Rattle.rl_line.specs.Entries.{Joins, added, cut_at, settled};
@@ -29,7 +29,7 @@ pub(crate) struct Entries {
     list: Vec<Change>,
     // How many of them are recorded.
     recorded: usize,
-    // Whether the last recorded change may still be told its cursors.
+    // Whether the last recorded change may still be told its cursors, and joined.
     fresh: Freshness,
 }
 
@@ -124,7 +124,7 @@ impl Entries {
         ensures err { IfErr result (λ r. (r ≡ NoMemory) × (self.new ≡ self.old) × (0 < length string.now)) }
     {
         if string.is_empty() {
-            self.settle(Freshness::Stale);
+            self.record_nothing();
             return Ok(());
         }
         let text = Inserted::of_str(self.allocator(), string)?;
@@ -139,7 +139,7 @@ impl Entries {
         ensures err { IfErr result (λ r. (r ≡ NoMemory) × (self.new ≡ self.old) × (0 < length string.now)) }
     {
         if string.is_empty() {
-            self.settle(Freshness::Stale);
+            self.record_nothing();
             return Ok(());
         }
         if self.join_deletion(idx, string)? {
@@ -173,7 +173,7 @@ impl Entries {
         ensures { self.new ≡ record_step self.old (Cursors before after) }
     {
         let first = match self.fresh {
-            Freshness::Stale => return,
+            Freshness::Stale | Freshness::Parted => return,
             Freshness::Added => before,
             Freshness::Joined(first) => first,
         };
@@ -192,6 +192,9 @@ impl Entries {
         if self.recorded == 0 {
             return Ok(false);
         }
+        if self.fresh.is_parted() {
+            return Ok(false);
+        }
         let alloc = self.allocator();
         let Some(fresh) = self.list[self.recorded - 1].join_char(alloc, idx, c)? else {
             return Ok(false);
@@ -206,6 +209,9 @@ impl Entries {
         ensures err { IfErr result (λ r. (r ≡ NoMemory) × (self.new ≡ self.old)) }
     {
         if self.recorded == 0 {
+            return Ok(false);
+        }
+        if self.fresh.is_parted() {
             return Ok(false);
         }
         let Some(fresh) = self.list[self.recorded - 1].join_deletion(idx, string)? else {
@@ -223,11 +229,21 @@ impl Entries {
         if self.recorded == 0 {
             return Ok(false);
         }
+        if self.fresh.is_parted() {
+            return Ok(false);
+        }
         let Some(fresh) = self.list[self.recorded - 1].join_replacement(idx, old, new)? else {
             return Ok(false);
         };
         self.settle(fresh);
         Ok(true)
+    }
+
+    /// Parts what comes from what is recorded: the next event that records a change joins nothing.
+    pub(crate) fn part(&mut self)
+        ensures { self.new ≡ parted self.old }
+    {
+        self.fresh = Freshness::Parted;
     }
 
     /// Adds an entry to the recorded ones. If it replaces one that was undone, there is room for it. Inlined, so that
@@ -261,6 +277,13 @@ impl Entries {
     {
         keep(&mut self.list, self.recorded);
         self.fresh = fresh;
+    }
+
+    // Drops what was undone, since an event came that records nothing.
+    fn record_nothing(&mut self)
+        ensures { self.new ≡ settled (freshness_told self.old.fresh) self.old }
+    {
+        self.settle(self.fresh.told());
     }
 
     /// Closes so many groups, the one that was opened last first. Answers whether an End is added.

@@ -7,7 +7,8 @@ ghost use Rattle.rl_base.specs.Event.{Event};
 ghost use Rattle.rl_line.specs.Forgetting.{fits, gone_within, kept_within};
 ghost use Rattle.rl_line.specs.Line.{Line};
 ghost use Rattle.rl_line.specs.Plan.{after};
-ghost use Rattle.rl_line.specs.Record.{Begin, Entry, End, Record, replay_entries, unwind};
+ghost use Rattle.rl_line.specs.Record.{Begin, Entry, End, IsRecorded, Record, entries_of, parted, record_step, replay_entries, unwind};
+ghost use Rattle.rl_line.specs.declared.change.Freshness.TheVariants.{Parted};
 ghost use Rattle.rl_line.specs.Undo.{Redone, Redos, StandAfter, StandBefore, Undone, line_ahead, line_back, steps_ahead, steps_back};
 ghost use Rattle.rl_line.specs.Units.{BothMatched, GroupAt, InGroup, IsMatched, adds_end, after_in_group, begun, ended, ended_one, group_of, has_change, in_group, kept_of, last_of, last_units, level, opens, redo_of};
 
@@ -78,6 +79,16 @@ pub fn group_is_closed_alone()
         → (ended_one (in_group events r)).recorded ≡ r.recorded }
     ensures level { (r : Record) (events : List Event) → IsMatched r.recorded
         → level (ended_one (in_group events r)).recorded ≡ level r.recorded }
+{}
+
+/// After a part an event that records a change adds an entry of its own, whatever was recorded before: an undo of one unit
+/// takes back that change alone. An event that records nothing leaves the record parted.
+pub fn part_begins_an_undo_of_its_own()
+    ensures adds { (r : Record) (event : Event) → (record_step (parted r) event).recorded ≡ r.recorded ++ entries_of event }
+    ensures undo { (r : Record) (event : Event) → IsRecorded event
+        → (last_of 1 (record_step (parted r) event).recorded ≡ entries_of event)
+        × (kept_of 1 (record_step (parted r) event).recorded ≡ r.recorded) }
+    ensures stays { (r : Record) (event : Event) → ¬ (IsRecorded event) → (record_step (parted r) event).fresh ≡ Parted }
 {}
 
 /// One redo for each unit that an undo took gives back the text, what was recorded and what was undone before, unless

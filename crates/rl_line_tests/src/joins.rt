@@ -48,6 +48,7 @@ fn neighbouring_changes_join(rt: HostRuntime) -> Result<(), Fail> {
     const LETTER: Call = Call::Insert('a', 1);
     const OTHER: Call = Call::Insert('ß', 1);
     const BACK: Call = Call::Back(1);
+    const NOTHING: Call = Call::Told(Event::Text(0, ""));
     // a text, the cursor, calls, and the text, the cursor and the entries after one undo
     const ROWS: &[(&str, usize, &[Call], &str, usize, usize)] = &[
         ("", 0, &[SPACE, LETTER, OTHER], "", 0, 0),
@@ -65,6 +66,10 @@ fn neighbouring_changes_join(rt: HostRuntime) -> Result<(), Fail> {
         ("abc", 1, &[Call::Ahead, BACK, Call::Ahead], "abc", 1, 0),
         ("a e\u{301}", 5, &[BACK, BACK, BACK], "a ", 2, 1),
         ("ab", 1, &[Call::Insert('c', 1), BACK], "acb", 2, 1),
+        // what a part stands between does not join, also if nothing goes in right after it
+        ("", 0, &[LETTER, Call::Part, LETTER], "a", 1, 1),
+        ("ab", 2, &[BACK, Call::Part, BACK, BACK], "a", 1, 1),
+        ("", 0, &[LETTER, Call::Part, NOTHING, LETTER], "a", 1, 1),
     ];
     for (text, pos, calls, before, cursor, entries) in ROWS {
         records(

@@ -64,6 +64,7 @@ pub(crate) enum Call {
     UnheardBack(RepeatCount),
     Limit,
     Told(Event),
+    Part,
     Begin,
     End,
     EndOne,
@@ -153,6 +154,10 @@ pub(crate) fn make(
         Call::UnheardBack(n) => truth(line.backspace(n, &mut NoListener)),
         Call::Limit => Ok(line.limit()),
         Call::Told(event) => tell(record, event).and(Ok(1)),
+        Call::Part => {
+            record.part();
+            Ok(1)
+        }
         Call::Begin => record.begin(),
         Call::End => truth(record.end()),
         Call::EndOne => truth(record.end_one()),

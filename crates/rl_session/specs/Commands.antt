@@ -21,14 +21,14 @@ use Rattle.rl_line.specs.Edits.{CanInsertStr, CanYankPop, insert_plan, insert_st
 use Rattle.rl_line.specs.Indents.{indent_plan}
 use Rattle.rl_line.specs.Deletions.{copied, delete_plan, kill_plan, kill_range_plan, is_by_characters, Told}
 use Rattle.rl_line.specs.LetterCase.{edit_word_plan}
-use Rattle.rl_line.specs.Record.{Record, replays_to}
+use Rattle.rl_line.specs.Record.{Record, parted, replays_to}
 use Rattle.rl_line.specs.Transpositions.{transpose_chars_plan, transpose_words_plan}
 use Rattle.rl_line.specs.Undo.{CopiesBack, Undone, Redone, steps_ahead, steps_back, texts_ahead, texts_back}
 use Rattle.rl_line.specs.Units.{adds_end, begun, ended, last_of, level, redo_of, truncated, ended_one}
 use Rattle.rl_session.specs.Options.{layout_of}
 use Rattle.rl_session.specs.Pair.{pair_step, pair_refused}
 use Rattle.rl_session.specs.declared.session.Command.{Command}
-use Rattle.rl_session.specs.declared.session.Command.TheVariants.{SetPos, Move, Insert, Paste, Yank, YankPop, Update, InsertStr, Replace, DeleteRange, Delete, Backspace, KillLine, KillBuffer, DiscardLine, DiscardBuffer, DeletePrevWord, DeleteWord, DeleteTo, TransposeChars, TransposeWords, EditWord, Kill, Copy, Indent, Begin, End, EndOne, Undo, Redo, Truncate, LinePlace, KillRange, Keep}
+use Rattle.rl_session.specs.declared.session.Command.TheVariants.{SetPos, Move, Insert, Paste, Yank, YankPop, Update, InsertStr, Replace, DeleteRange, Delete, Backspace, KillLine, KillBuffer, DiscardLine, DiscardBuffer, DeletePrevWord, DeleteWord, DeleteTo, TransposeChars, TransposeWords, EditWord, Kill, Copy, Indent, Begin, End, EndOne, Undo, Redo, Truncate, LinePlace, KillRange, Keep, Part}
 use Rattle.rl_session.specs.declared.session.Fault.{Fault}
 use Rattle.rl_session.specs.declared.session.Fault.TheVariants.{NoMemory, BadPlace, BadYankSize, NotReplaying}
 use Rattle.rl_session.specs.declared.session.Reply.{Reply}
@@ -137,6 +137,7 @@ pub data Effect : Type 1 where
   takes_back : ℕ → Bool → Effect
   puts_again : Bool → Effect
   keeps : List ℕ → Effect
+  parts : Effect
 
 abbrev pub Became : Effect → State → State → Type 0
 Became (by_steps course) old new = Came course old new
@@ -152,6 +153,7 @@ Became (takes_back n a) old new =
 Became (puts_again a) old new =
     Redone old.pair.changes new.pair.changes old.line new.line a × KeepsRing old new × WatchHears (steps_ahead old.line.cursor (redo_of old.pair.changes.pending)) old new
 Became (keeps text) old new = new ≡ with_ring (reset (killed text Append old.pair.ring)) old
+Became parts old new = new ≡ with_changes (parted old.pair.changes) old
 
 -- how a reply tells the answer of an edit
 pub data Telling : Type 0 → Type 1 where
@@ -256,6 +258,7 @@ effect old (Truncate len) says.Done = shortens len
 effect old (Undo n) (says.Answer a) = takes_back n a
 effect old Redo (says.Answer a) = puts_again a
 effect old (Keep t) says.Done = keeps (string_bytes t)
+effect old Part says.Done = parts
 effect old command reply = by_steps (course_of (asked old.line command) old command reply)
 
 -- from old, the command may have this reply and lead to new, the ring's resets aside

@@ -394,6 +394,7 @@ fn lone_command(alloc: Global, word: &str) -> Option<Command>
         "discline" => Some(Command::DiscardLine),
         "discbuf" => Some(Command::DiscardBuffer),
         "tchars" => Some(Command::TransposeChars),
+        "part" => Some(Command::Part),
         "begin" => Some(Command::Begin),
         "end" => Some(Command::End),
         "endone" => Some(Command::EndOne),

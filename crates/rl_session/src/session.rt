@@ -94,6 +94,8 @@ pub enum Command {
     Copy(Movement),
     /// Indents the lines of a movement by a number of spaces, or dedents them by at most that many bytes of blanks.
     Indent(Movement, u8, bool),
+    /// Parts the changes that come from those before: the next change joins nothing, and the next kill begins a text.
+    Part,
     /// Opens a group of changes.
     Begin,
     /// Closes all open groups.
@@ -314,7 +316,7 @@ impl Session {
 
     // Resets the ring, as before each command that does not go on from what it did last.
     #[inline(always)]
-    fn part(&mut self)
+    fn reset_ring(&mut self)
         ensures { self.new ≡ with_ring (reset self.old.pair.ring) self.old }
     {
         self.pair.ring.reset();
@@ -365,6 +367,7 @@ impl Session {
             Command::Keep(text) => self.keep(text.as_str()),
             Command::Copy(movement) => self.copy(movement),
             Command::Indent(movement, amount, dedent) => self.indent(movement, *amount, *dedent),
+            Command::Part => self.part(),
             Command::Begin => self.begin(),
             Command::End => self.end(),
             Command::EndOne => self.end_one(),

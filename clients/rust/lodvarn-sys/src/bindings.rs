@@ -233,9 +233,6 @@ extern "C" {
     ) -> ::std::os::raw::c_int;
 }
 extern "C" {
-    pub fn lodvarn_end_kills(s: *mut lodvarn) -> ::std::os::raw::c_int;
-}
-extern "C" {
     pub fn lodvarn_keep(
         s: *mut lodvarn,
         text: *const ::std::os::raw::c_char,
@@ -258,6 +255,9 @@ extern "C" {
         amount: u8,
         indentation: lodvarn_indentation,
     ) -> ::std::os::raw::c_int;
+}
+extern "C" {
+    pub fn lodvarn_part(s: *mut lodvarn) -> ::std::os::raw::c_int;
 }
 extern "C" {
     pub fn lodvarn_begin_group(s: *mut lodvarn) -> ::std::os::raw::c_int;

@@ -187,7 +187,7 @@ impl Handle<lodvarn> {
     }
 
     calls! {
-        fn end_kills(&mut self) = lodvarn_end_kills();
+        fn part(&mut self) = lodvarn_part();
         fn copy(&mut self, movement: Movement, out: &mut [u8], len: &mut usize)
             = lodvarn_copy(movement.passed(), out.as_mut_ptr().cast(), out.len(), len);
         fn watch(&mut self, reports: usize, text_bytes: usize)

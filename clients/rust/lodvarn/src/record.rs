@@ -84,6 +84,27 @@ impl Session {
         let session = self;
         Ok(Group { session, around })
     }
+
+    /// Parts what comes from what was done: the next change joins no other, so that it is undone alone, and the next kill
+    /// begins a new text of the ring. Text, cursor, groups and what was undone stay. A change of nothing between leaves it
+    /// so; an undo, a redo, [`truncate`](Session::truncate) and the begin or the end of a group take it back.
+    ///
+    /// ```
+    /// # use lodvarn::{Fault, Session};
+    /// # fn main() -> Result<(), Fault> {
+    /// let mut session = Session::builder().text("abc").open()?;
+    /// session.backspace(1)?;
+    /// session.part();
+    /// session.backspace(1)?;
+    /// session.undo(1)?;
+    /// assert_eq!(session.text(), "ab");
+    /// # Ok(())
+    /// # }
+    /// ```
+    pub fn part(&mut self) {
+        let answer = self.handle.part();
+        debug_assert!(answer >= 0);
+    }
 }
 
 methods! {

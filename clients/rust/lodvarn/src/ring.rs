@@ -75,12 +75,6 @@ methods! {
 }
 
 impl Session {
-    /// Ends a run of kills, and does nothing else: the next kill begins a new text of the ring.
-    pub fn end_kills(&mut self) {
-        let answer = self.handle.end_kills();
-        debug_assert!(answer >= 0);
-    }
-
     /// The text that a movement covers, or `None` if it covers nothing. The ring does not keep it: that is
     /// [`keep`](Session::keep). This is a command: a kill after it begins a new text of the ring.
     ///

@@ -1,7 +1,7 @@
 -- Groups: where an End stands its group stands before it, and a group without a change leaves no trace.
-use Rattle.rl_line.proofs.Common.{common_steps, ◌≡◌, ℕ, ◌+◌, suc, Bool, true, false, List, [], ◌∷◌, ◌++◌, length, drop, Option, Some, None, refl, sym, ap, subst, ◌∙◌, arith, append-nil, append_assoc, add-zero, or-true, or_assoc, IsSome, zero, not, ◌||◌, Event, Entry, Begin, End, Changed, Record, entries_after, entries_of, joined, UndoUnit, Open, Whole, close, units, together, opens, level, has_change, is_change, end_one, end_times, ends_in_begin, adds_end, begun, ended, marks, mark, IsMatched, GroupAt, InGroup, Hears, Begins, after_in_group}
+use Rattle.rl_line.proofs.Common.{common_steps, ◌≡◌, ℕ, ◌+◌, suc, Bool, true, false, List, [], ◌∷◌, ◌++◌, length, drop, Option, Some, None, refl, sym, ap, subst, ◌∙◌, arith, append-nil, append_assoc, add-zero, or-true, or_assoc, IsSome, zero, not, ◌||◌, Event, Freshness, Entry, Begin, End, Changed, Record, entries_after, entries_of, joined_in, UndoUnit, Open, Whole, close, units, together, opens, level, has_change, is_change, end_one, end_times, ends_in_begin, adds_end, begun, ended, marks, mark, IsMatched, GroupAt, InGroup, Hears, Begins, after_in_group}
 use Rattle.rl_line.specs.Record.{record_step}
-use Rattle.rl_line.proofs.Records.LastLemmas.{after-past, end_one-begin, ends-past, ends_in}
+use Rattle.rl_line.proofs.Records.LastLemmas.{after-past, end_one-begin, ends-past, ends_in, joined_in-joined}
 use Rattle.rl_line.proofs.Records.RecordLemmas.{joins, value_of}
 use Rattle.rl_line.proofs.Records.UnitLemmas.{AllGood, AllGood-left, together-append, Settles, flags_on, cut_good, cut_more-append, good_cuts, units-good, together-units, IsMatched-front, IsMatched-together}
 use Rattle.rl_line.proofs.Records.MatchLemmas.{marks-last, level-is, IsMatched-after, IsMatched-begin}
@@ -137,13 +137,13 @@ open_after es (suc n) =
     })
 
 -- what happens after a Begin happens to what stands after it
-entries_after-inside : (event : Event) (xs ys : List Entry) → entries_after event (xs ++ Begin ∷ ys) ≡ xs ++ Begin ∷ entries_after event ys
-entries_after-inside event xs [] = from (joined event Begin) refl
+entries_after-inside : (fresh : Freshness) (event : Event) (xs ys : List Entry) → entries_after fresh event (xs ++ Begin ∷ ys) ≡ xs ++ Begin ∷ entries_after fresh event ys
+entries_after-inside fresh event xs [] = from (joined_in fresh event Begin) refl
   where
-    from : (o : Option Entry) → joined event Begin ≡ o → entries_after event (xs ++ Begin ∷ []) ≡ xs ++ Begin ∷ entries_of event
-    from None h = (ends_in event (xs ++ Begin ∷ []) xs Begin None refl h).0 ∙ append_assoc xs (Begin ∷ []) (entries_of event)
-    from (Some joint) h = let was = (joins event Begin joint h).was in cc
-entries_after-inside event xs (y ∷ ys) = after-past event xs Begin (y ∷ ys)
+    from : (o : Option Entry) → joined_in fresh event Begin ≡ o → entries_after fresh event (xs ++ Begin ∷ []) ≡ xs ++ Begin ∷ entries_of event
+    from None h = (ends_in fresh event (xs ++ Begin ∷ []) xs Begin None refl h).0 ∙ append_assoc xs (Begin ∷ []) (entries_of event)
+    from (Some joint) h = let was = (joins event Begin joint (joined_in-joined fresh event Begin joint h)).was in cc
+entries_after-inside fresh event xs (y ∷ ys) = after-past fresh event xs Begin (y ∷ ys)
 
 -- what stands in the record after the Begin of an open group
 pub record InsideOf (front es : List Entry) : Type 0 where

@@ -1,10 +1,10 @@
 -- The last recorded entry, where an event joins it and where it does not.
-use Rattle.rl_line.proofs.Common.{common_steps, Bool, if◌then◌else◌, true, ◌==◌, Added, Change, Changed, Cursors, Delete, Deletion, Direction, Entry, Event, Forward, Freshness, InsertChar, InsertStr, Insertion, Joins, List, None, Record, Replace, Replacement, Some, Stale, Start, Stop, TakesIn, [], added, after, ap, append-nil, arith, cut_at, drop, drop-map, drop-set-lt, encode_utf8, entries_after, entries_told, entry_of, false, freshness_added, freshness_of, get_or, joined, last_told, length, map, map-append, map-set_same, nil_from_length, refl, set, settled, subst, sym, take, take-map, take_at_read, take_more_set, untold, with_cursors, ℕ, ◌++◌, ◌+◌, ◌-◌, ◌<◌, ◌∙◌, ◌∷◌, ◌≡◌, ◌≤◌}
+use Rattle.rl_line.proofs.Common.{common_steps, Bool, if◌then◌else◌, true, ◌==◌, Added, Change, Changed, Cursors, Delete, Deletion, Direction, Entry, Event, Forward, Freshness, InsertChar, InsertStr, Insertion, Joined, Joins, List, Parted, None, Option, Record, Replace, Replacement, Some, Stale, Start, Stop, TakesIn, [], added, after, ap, append-nil, arith, cut_at, drop, drop-map, drop-set-lt, encode_utf8, entries_after, entries_told, entry_of, false, cursors_of, freshness_added, freshness_joined, freshness_of, freshness_told, get_or, is_parted, joined, joined_in, last_told, option_map_or, length, map, map-append, map-set_same, nil_from_length, refl, set, settled, subst, sym, take, take-map, take_at_read, take_more_set, untold, with_cursors, ℕ, ◌++◌, ◌+◌, ◌-◌, ◌<◌, ◌∙◌, ◌∷◌, ◌≡◌, ◌≤◌}
 use Rattle.std.specs.Str.{chars}
 use Rattle.unicode_segmentation.specs.Segments.{cut, segments}
 use Rattle.rl_base.specs.Event.{apply}
 use Rattle.rl_line.specs.Record.{entries_of, record_step}
-use Rattle.rl_line.proofs.Records.LastLemmas.{IsApart, after-cases, ends_in, last_told-past}
+use Rattle.rl_line.proofs.Records.LastLemmas.{ends_in, joined_in-as, joins_nothing, last_told-past, parted-apart, told-none}
 
 -- the entry that stands last among the first n of a list, and the list with another in its place
 record LastOf (xs : List Change) (n k : ℕ) (x y : Change) : Type 0 where
@@ -39,7 +39,7 @@ same-at xs k x y is e = map-set_same entry_of xs k y x (e ∙ ap entry_of is)
 
 -- ---- a record after an event of a text
 abbrev heard : Event → Record → Record
-heard event r = record { recorded = entries_after event r.recorded; pending = []; fresh = freshness_of event r.recorded }
+heard event r = record { recorded = entries_after r.fresh event r.recorded; pending = []; fresh = freshness_of r.fresh event r.recorded }
 
 pub step-InsertChar : (r : Record) (i c : ℕ) → record_step r (InsertChar i c) ≡ heard (InsertChar i c) r
 unfolding record_step
@@ -57,27 +57,37 @@ pub step-Replace : (r : Record) (i : ℕ) (s t : List ℕ) → record_step r (Re
 unfolding record_step
 step-Replace r i s t = refl
 
-heard-is : (event : Event) (r : Record) (es : List Entry) (fresh : Freshness) → record_step r event ≡ heard event r → entries_after event r.recorded ≡ es → freshness_of event r.recorded ≡ fresh
+heard-is : (event : Event) (r : Record) (es : List Entry) (fresh : Freshness) → record_step r event ≡ heard event r → entries_after r.fresh event r.recorded ≡ es → freshness_of r.fresh event r.recorded ≡ fresh
     → record_step r event ≡ record { recorded = es; pending = []; fresh = fresh }
 heard-is event r es fresh step e f = grind arith
 
+-- in a record that is not parted what joins an entry is the same as alone
+joined-as : (event : Event) (r : Record) (es : List Entry) (n : ℕ) (fresh : Freshness) (e : Entry) (o : Option Entry) → cut_at n es fresh ≡ r → is_parted fresh ≡ false
+    → joined event e ≡ o → joined_in r.fresh event e ≡ o
+joined-as event r es n fresh e o v h j = subst (λ was. joined_in was event e ≡ o) (ap (λ (s : Record). s.fresh) v) (joined_in-as fresh event e h ∙ j)
+
 pub joins : (event : Event) (r : Record) (xs : List Change) (n : ℕ) (fresh told : Freshness) (x y : Change) → record_step r event ≡ heard event r → n ≤ length xs → cut_at n (map entry_of xs) fresh ≡ r
-    → 0 < n → x ≡ get_or xs (n - 1) x → TakesIn event (entry_of x) (entry_of y) (Some told) → settled told (cut_at n (map entry_of (set xs (n - 1) y)) fresh) ≡ record_step r event
-joins event r xs n fresh told x y step le v some is t =
+    → is_parted fresh ≡ false → 0 < n → x ≡ get_or xs (n - 1) x → TakesIn event (entry_of x) (entry_of y) (Some told) → settled told (cut_at n (map entry_of (set xs (n - 1) y)) fresh) ≡ record_step r event
+joins event r xs n fresh told x y step le v loose some is t =
     let l = LastOf-at xs n (n - 1) x y le some refl is in
     let was : r.recorded ≡ l.front ++ entry_of x ∷ [] = ap (λ (s : Record). s.recorded) (sym v) ∙ l.was in
-    let ends = ends_in event r.recorded l.front (entry_of x) (Some (entry_of y)) was t.0 in
+    let ends = ends_in r.fresh event r.recorded l.front (entry_of x) (Some (entry_of y)) was (joined-as event r (map entry_of xs) n fresh (entry_of x) (Some (entry_of y)) v loose t.0) in
     sym (heard-is event r (take n (map entry_of (set xs (n - 1) y))) told step (ends.0 ∙ sym l.now) (ends.1 ∙ sym t.1))
 
 pub joins-not : (event : Event) (r : Record) (xs : List Change) (n : ℕ) (fresh : Freshness) (x y : Change) → record_step r event ≡ heard event r → n ≤ length xs → cut_at n (map entry_of xs) fresh ≡ r
-    → 0 < n → x ≡ get_or xs (n - 1) x → TakesIn event (entry_of x) (entry_of y) None → Joins event r (cut_at n (map entry_of (set xs (n - 1) y)) fresh) false
-joins-not event r xs n fresh x y step le v some is t =
+    → is_parted fresh ≡ false → 0 < n → x ≡ get_or xs (n - 1) x → TakesIn event (entry_of x) (entry_of y) None → Joins event r (cut_at n (map entry_of (set xs (n - 1) y)) fresh) false
+joins-not event r xs n fresh x y step le v loose some is t =
     let l = LastOf-at xs n (n - 1) x y le some refl is in
-    let apart = ends_in event r.recorded l.front (entry_of x) None (ap (λ (s : Record). s.recorded) (sym v) ∙ l.was) t.0 in
+    let apart = ends_in r.fresh event r.recorded l.front (entry_of x) None (ap (λ (s : Record). s.recorded) (sym v) ∙ l.was) (joined-as event r (map entry_of xs) n fresh (entry_of x) None v loose t.0) in
     (ap (λ es. cut_at n es fresh) (same-at xs (n - 1) x y is t.1) ∙ v, heard-is event r _ _ step apart.0 apart.1)
 
 pub joins-nothing : (event : Event) (r : Record) (es : List Entry) (n : ℕ) (fresh : Freshness) → record_step r event ≡ heard event r → cut_at n es fresh ≡ r → n ≡ 0 → Joins event r r false
 joins-nothing event r es n fresh step v none = grind arith
+
+pub joins-none : (event : Event) (r : Record) (es : List Entry) (n : ℕ) (fresh : Freshness) → record_step r event ≡ heard event r → cut_at n es fresh ≡ r → is_parted fresh ≡ true → Joins event r r false
+joins-none event r es n fresh step v apart =
+    let p = parted-apart r.fresh event r.recorded (ap (λ (s : Record). is_parted s.fresh) (sym v) ∙ apart) in
+    (refl, heard-is event r _ _ step p.0 p.1)
 
 pub stays-err : (xs : List Change) (n : ℕ) (fresh : Freshness) (r : Record) (x y : Change) → cut_at n (map entry_of xs) fresh ≡ r → x ≡ get_or xs (n - 1) x → entry_of y ≡ entry_of x
     → cut_at n (map entry_of (set xs (n - 1) y)) fresh ≡ r
@@ -85,20 +95,23 @@ stays-err xs n fresh r x y v is e = ap (λ es. cut_at n es fresh) (same-at xs (n
 
 -- cursors that are told
 pub step-Cursors : (r : Record) (before after : ℕ)
-    → record_step r (Cursors before after) ≡ record { recorded = entries_told r.fresh before after r.recorded; pending = r.pending; fresh = Stale }
+    → record_step r (Cursors before after) ≡ record { recorded = entries_told r.fresh before after r.recorded; pending = r.pending; fresh = freshness_told r.fresh }
 unfolding record_step
 step-Cursors r before after = refl
 
-pub told-stale : (r : Record) (before after : ℕ) → r.fresh ≡ Stale → r ≡ record_step r (Cursors before after)
-told-stale r before after e = grind (arith, step-Cursors)
+pub told-stale : (r : Record) (before after : ℕ) → freshness_told r.fresh ≡ r.fresh → r ≡ record_step r (Cursors before after)
+told-stale r before after e =
+    let same : entries_told r.fresh before after r.recorded ≡ r.recorded = ap (λ f. entries_told f before after r.recorded) (sym e) ∙ told-none r.fresh before after r.recorded in
+    sym (step-Cursors r before after ∙ ap (λ es. record r { recorded = es; fresh = freshness_told r.fresh }) same ∙ ap (λ f. record r { fresh = f }) e)
 
-pub told-nothing : (r : Record) (es : List Entry) (n before after : ℕ) (fresh : Freshness) → cut_at n es fresh ≡ r → n ≡ 0 → cut_at n es Stale ≡ record_step r (Cursors before after)
-told-nothing r es n before after fresh v none = grind (arith, step-Cursors)
+pub told-nothing : (r : Record) (es : List Entry) (n before after : ℕ) (fresh : Freshness) → cut_at n es fresh ≡ r → n ≡ 0 → freshness_told fresh ≡ Stale
+    → cut_at n es Stale ≡ record_step r (Cursors before after)
+told-nothing r es n before after fresh v none told = grind (arith, step-Cursors)
 
 pub told-last : (r : Record) (xs : List Change) (n before after first : ℕ) (fresh : Freshness) (x y : Change) → n ≤ length xs → cut_at n (map entry_of xs) fresh ≡ r → 0 < n
-    → x ≡ get_or xs (n - 1) x → entry_of y ≡ with_cursors (first, after) (entry_of x) → ((es : List Entry) → last_told (first, after) es ≡ entries_told fresh before after es)
+    → x ≡ get_or xs (n - 1) x → entry_of y ≡ with_cursors (first, after) (entry_of x) → ((es : List Entry) → last_told (first, after) es ≡ entries_told fresh before after es) → freshness_told fresh ≡ Stale
     → cut_at n (map entry_of (set xs (n - 1) y)) Stale ≡ record_step r (Cursors before after)
-told-last r xs n before after first fresh x y le v some is e told = grind (arith, told-last-of, told-others, step-Cursors)
+told-last r xs n before after first fresh x y le v some is e told stale = grind (arith, told-last-of, told-others, step-Cursors)
 
 -- an entry that is added, and none
 pub added-entry : (xs now : List Change) (n k : ℕ) (e : Change) (fresh : Freshness) (told : Freshness) (r : Record) → n ≤ length xs → cut_at n (map entry_of xs) fresh ≡ r
@@ -106,22 +119,17 @@ pub added-entry : (xs now : List Change) (n k : ℕ) (e : Change) (fresh : Fresh
 added-entry xs now n k e fresh told r le v is at = grind (arith, common_steps, take-map)
 
 -- ---- events that join nothing
-joins_nothing : (event : Event) → ((e : Entry) → joined event e ≡ None) → (es : List Entry) → IsApart event es
-joins_nothing event none es =
-    after-cases event (λ xs ys fresh. (ys ≡ xs ++ entries_of event) × (fresh ≡ freshness_added (entries_of event))) (λ xs. (refl, refl))
-    (λ front e joint h. let no : None ≡ Some joint = sym (none e) ∙ h in cc) es
-
 pub record_step-Start : (r : Record) → record_step r Start ≡ r
 unfolding record_step entries_of
-record_step-Start r = ap (λ es. record r { recorded = es }) ((joins_nothing Start (λ e. refl) r.recorded).0 ∙ append-nil r.recorded)
+record_step-Start r = ap (λ es. record r { recorded = es }) ((joins_nothing r.fresh Start (λ e. refl) r.recorded).0 ∙ append-nil r.recorded)
 
 pub record_step-Stop : (r : Record) → record_step r Stop ≡ r
 unfolding record_step entries_of
-record_step-Stop r = ap (λ es. record r { recorded = es }) ((joins_nothing Stop (λ e. refl) r.recorded).0 ∙ append-nil r.recorded)
+record_step-Stop r = ap (λ es. record r { recorded = es }) ((joins_nothing r.fresh Stop (λ e. refl) r.recorded).0 ∙ append-nil r.recorded)
 
 -- what holds where an event of a text is recorded, where a record stays, and where its last change is told cursors, holds after any event
 pub step-cases : (r : Record) (P : Event → Record → Type 0)
-    → ((event : Event) → P event (record { recorded = entries_after event r.recorded; pending = []; fresh = freshness_of event r.recorded }))
+    → ((event : Event) → P event (record { recorded = entries_after r.fresh event r.recorded; pending = []; fresh = freshness_of r.fresh event r.recorded }))
     → ((event : Event) → ((text : List ℕ) → apply event text ≡ Some text) → P event r) → ((b a : ℕ) → P (Cursors b a) (record_step r (Cursors b a)))
     → (event : Event) → P event (record_step r event)
 unfolding apply record_step
@@ -130,17 +138,17 @@ step-cases r P changes stays told Stop = subst (P Stop) (sym (record_step-Stop r
 step-cases r P changes stays told (Cursors b a) = told b a
 step-cases r P changes stays told event = changes event
 
-pub after-InsertStr-nothing : (es : List Entry) (i : ℕ) (s : List ℕ) → length s ≡ 0 → entries_after (InsertStr i s) es ≡ es
+pub after-InsertStr-nothing : (was : Freshness) (es : List Entry) (i : ℕ) (s : List ℕ) → length s ≡ 0 → entries_after was (InsertStr i s) es ≡ es
 unfolding entries_of
-after-InsertStr-nothing es i s e =
-    ap (λ (t : List ℕ). entries_after (InsertStr i t) es) (nil_from_length s e) ∙ (joins_nothing (InsertStr i []) (λ e. refl) es).0 ∙ append-nil es
+after-InsertStr-nothing was es i s e =
+    ap (λ (t : List ℕ). entries_after was (InsertStr i t) es) (nil_from_length s e) ∙ (joins_nothing was (InsertStr i []) (λ e. refl) es).0 ∙ append-nil es
 
-pub fresh-InsertStr-nothing : (es : List Entry) (i : ℕ) (s : List ℕ) → length s ≡ 0 → freshness_of (InsertStr i s) es ≡ Stale
+pub fresh-InsertStr-nothing : (was : Freshness) (es : List Entry) (i : ℕ) (s : List ℕ) → length s ≡ 0 → freshness_of was (InsertStr i s) es ≡ freshness_told was
 unfolding entries_of
-fresh-InsertStr-nothing es i s e =
-    ap (λ (t : List ℕ). freshness_of (InsertStr i t) es) (nil_from_length s e) ∙ (joins_nothing (InsertStr i []) (λ e. refl) es).1
+fresh-InsertStr-nothing was es i s e =
+    ap (λ (t : List ℕ). freshness_of was (InsertStr i t) es) (nil_from_length s e) ∙ (joins_nothing was (InsertStr i []) (λ e. refl) es).1
 
-pub inserts-nothing : (r : Record) (i : ℕ) (s : List ℕ) → (length s == 0) ≡ true → settled Stale r ≡ record_step r (InsertStr i s)
+pub inserts-nothing : (r : Record) (i : ℕ) (s : List ℕ) → (length s == 0) ≡ true → settled (freshness_told r.fresh) r ≡ record_step r (InsertStr i s)
 inserts-nothing r i s e = grind (arith, step-InsertStr, after-InsertStr-nothing, fresh-InsertStr-nothing)
 
 text-Entry : (s : List ℕ) (e : Entry) → (length s == 0) ≡ false → (if length s == 0 then [] else e ∷ []) ≡ e ∷ []
@@ -149,27 +157,27 @@ text-Entry s e some = ap (λ (b : Bool). if b then [] else e ∷ []) some
 pub inserts : (r : Record) (i : ℕ) (s t : List ℕ) → (length s == 0) ≡ false → t ≡ s → added (Changed Insertion (untold i [] t)) Added r ≡ record_step r (InsertStr i s)
 unfolding entries_of
 inserts r i s t some e =
-    let none = joins_nothing (InsertStr i s) (λ e. refl) r.recorded in
+    let none = joins_nothing r.fresh (InsertStr i s) (λ e. refl) r.recorded in
     let one = text-Entry s (Changed Insertion (untold i [] s)) some in
     ap (λ u. added (Changed Insertion (untold i [] u)) Added r) e
-    ∙ sym (heard-is (InsertStr i s) r _ Added (step-InsertStr r i s) (none.0 ∙ ap (λ l. r.recorded ++ l) one) (none.1 ∙ ap freshness_added one))
+    ∙ sym (heard-is (InsertStr i s) r _ Added (step-InsertStr r i s) (none.0 ∙ ap (λ l. r.recorded ++ l) one) (none.1 ∙ ap (freshness_added r.fresh) one))
 
 joined-nothing : (i : ℕ) (side : Direction) (e : Entry) → joined (Delete i [] side) e ≡ None
 unfolding segments cut chars
 joined-nothing i side (Changed Deletion c) = refl
 joined-nothing i side _ = refl
 
-pub after-Delete-nothing : (es : List Entry) (i : ℕ) (s : List ℕ) (side : Direction) → length s ≡ 0 → entries_after (Delete i s side) es ≡ es
+pub after-Delete-nothing : (was : Freshness) (es : List Entry) (i : ℕ) (s : List ℕ) (side : Direction) → length s ≡ 0 → entries_after was (Delete i s side) es ≡ es
 unfolding entries_of
-after-Delete-nothing es i s side e =
-    ap (λ (t : List ℕ). entries_after (Delete i t side) es) (nil_from_length s e) ∙ (joins_nothing (Delete i [] side) (joined-nothing i side) es).0 ∙ append-nil es
+after-Delete-nothing was es i s side e =
+    ap (λ (t : List ℕ). entries_after was (Delete i t side) es) (nil_from_length s e) ∙ (joins_nothing was (Delete i [] side) (joined-nothing i side) es).0 ∙ append-nil es
 
-pub fresh-Delete-nothing : (es : List Entry) (i : ℕ) (s : List ℕ) (side : Direction) → length s ≡ 0 → freshness_of (Delete i s side) es ≡ Stale
+pub fresh-Delete-nothing : (was : Freshness) (es : List Entry) (i : ℕ) (s : List ℕ) (side : Direction) → length s ≡ 0 → freshness_of was (Delete i s side) es ≡ freshness_told was
 unfolding entries_of
-fresh-Delete-nothing es i s side e =
-    ap (λ (t : List ℕ). freshness_of (Delete i t side) es) (nil_from_length s e) ∙ (joins_nothing (Delete i [] side) (joined-nothing i side) es).1
+fresh-Delete-nothing was es i s side e =
+    ap (λ (t : List ℕ). freshness_of was (Delete i t side) es) (nil_from_length s e) ∙ (joins_nothing was (Delete i [] side) (joined-nothing i side) es).1
 
-pub deletes-nothing : (r : Record) (i : ℕ) (s : List ℕ) (side : Direction) → (length s == 0) ≡ true → settled Stale r ≡ record_step r (Delete i s side)
+pub deletes-nothing : (r : Record) (i : ℕ) (s : List ℕ) (side : Direction) → (length s == 0) ≡ true → settled (freshness_told r.fresh) r ≡ record_step r (Delete i s side)
 deletes-nothing r i s side e = grind (arith, step-Delete, after-Delete-nothing, fresh-Delete-nothing)
 
 -- an event that did not join adds its entry
@@ -188,12 +196,22 @@ unfolding entries_of
 adds-Replace r now i s t a b e f j = grind arith
 
 -- ---- the side from which a text is taken is not recorded
-same-side : (i : ℕ) (s : List ℕ) (side : Direction) (es : List Entry)
-    → (entries_after (Delete i s Forward) es ≡ entries_after (Delete i s side) es) × (freshness_of (Delete i s Forward) es ≡ freshness_of (Delete i s side) es)
+same-joined : (was : Freshness) (i : ℕ) (s : List ℕ) (side : Direction) (e : Entry) → joined_in was (Delete i s Forward) e ≡ joined_in was (Delete i s side) e
+same-joined Parted i s side e = refl
+same-joined Stale i s side e = refl
+same-joined Added i s side e = refl
+same-joined (Joined p) i s side e = refl
+
+same-side : (was : Freshness) (i : ℕ) (s : List ℕ) (side : Direction) (es : List Entry)
+    → (entries_after was (Delete i s Forward) es ≡ entries_after was (Delete i s side) es) × (freshness_of was (Delete i s Forward) es ≡ freshness_of was (Delete i s side) es)
 unfolding entries_of
-same-side i s side [] = (refl, refl)
-same-side i s side (e ∷ []) = (refl, refl)
-same-side i s side (e ∷ (d ∷ ds)) = let rest = same-side i s side (d ∷ ds) in (ap (λ es. e ∷ es) rest.0, rest.1)
+same-side was i s side [] = (refl, refl)
+same-side was i s side (e ∷ []) =
+    let same = same-joined was i s side e in (
+      ap (λ o. option_map_or (λ joint. joint ∷ []) o (e ∷ entries_of (Delete i s side))) same,
+      ap (λ o. option_map_or (λ _. freshness_joined (cursors_of e)) o (freshness_added was (entries_of (Delete i s side)))) same,
+    )
+same-side was i s side (e ∷ (d ∷ ds)) = let rest = same-side was i s side (d ∷ ds) in (ap (λ es. e ∷ es) rest.0, rest.1)
 
 pub record_step-side : (i : ℕ) (s : List ℕ) (side : Direction) (r : Record) → record_step r (Delete i s Forward) ≡ record_step r (Delete i s side)
 unfolding record_step

@@ -1,5 +1,5 @@
 -- The last entry of a list: what an event, the end of a group and cursors that are told make of it. All before it stays.
-use Rattle.rl_line.proofs.Common.{take_at_read, map-append, reverse-append, zero, reverse, suc, ◌+◌, ◌<◌, length, map, take, drop, get_or, drop-cons, add-one, ◌≡◌, ℕ, ◌⊎◌, inl, inr, false, List, [], ◌∷◌, ◌++◌, append-nil, append_assoc, Option, Some, None, refl, sym, ap, subst, ◌∙◌, option_map_or, Event, Freshness, Entry, Begin, End, cursors_of, entries_after, entries_of, entries_told, freshness_added, freshness_joined, freshness_of, joined, last_told, end_one, end_times, ends_in_begin}
+use Rattle.rl_line.proofs.Common.{take_at_read, map-append, reverse-append, zero, reverse, suc, ◌+◌, ◌<◌, length, map, take, drop, get_or, drop-cons, add-one, ◌≡◌, ℕ, ◌⊎◌, inl, inr, true, false, List, [], ◌∷◌, ◌++◌, append-nil, append_assoc, Option, Some, None, refl, sym, ap, subst, ◌∙◌, option_map_or, Event, Freshness, Entry, Begin, End, cursors_of, entries_after, entries_of, entries_told, freshness_added, freshness_joined, freshness_of, freshness_told, is_parted, joined, joined_in, last_told, end_one, end_times, ends_in_begin}
 use Rattle.rl_line.specs.declared.change.Freshness.TheVariants as is
 
 -- what holds of no elements, and of any that end with one, holds of all lists
@@ -34,49 +34,89 @@ skips f skip (x ∷ []) y ys = skip x y ys
 skips f skip (x ∷ (z ∷ zs)) y ys = skip x z (zs ++ y ∷ ys) ∙ skips f skip (z ∷ zs) y ys
 
 -- ---- an event
-pub after-past : (event : Event) (xs : List Entry) (y : Entry) (ys : List Entry) → entries_after event (xs ++ y ∷ ys) ≡ xs ++ entries_after event (y ∷ ys)
-after-past event = passes (entries_after event) (λ e d ds. refl)
+pub after-past : (fresh : Freshness) (event : Event) (xs : List Entry) (y : Entry) (ys : List Entry)
+    → entries_after fresh event (xs ++ y ∷ ys) ≡ xs ++ entries_after fresh event (y ∷ ys)
+after-past fresh event = passes (entries_after fresh event) (λ e d ds. refl)
 
-pub fresh-past : (event : Event) (xs : List Entry) (y : Entry) (ys : List Entry) → freshness_of event (xs ++ y ∷ ys) ≡ freshness_of event (y ∷ ys)
-fresh-past event = skips (freshness_of event) (λ e d ds. refl)
+pub fresh-past : (fresh : Freshness) (event : Event) (xs : List Entry) (y : Entry) (ys : List Entry)
+    → freshness_of fresh event (xs ++ y ∷ ys) ≡ freshness_of fresh event (y ∷ ys)
+fresh-past fresh event = skips (freshness_of fresh event) (λ e d ds. refl)
+
+-- what joins in a record joins, and what joins nothing does not join there
+pub joined_in-joined : (fresh : Freshness) (event : Event) (e joint : Entry) → joined_in fresh event e ≡ Some joint → joined event e ≡ Some joint
+joined_in-joined is.Parted event e joint h = cc
+joined_in-joined is.Stale event e joint h = h
+joined_in-joined is.Added event e joint h = h
+joined_in-joined (is.Joined p) event e joint h = h
+
+pub joined_in-none : (fresh : Freshness) (event : Event) (e : Entry) → joined event e ≡ None → joined_in fresh event e ≡ None
+joined_in-none is.Parted event e h = refl
+joined_in-none is.Stale event e h = h
+joined_in-none is.Added event e h = h
+joined_in-none (is.Joined p) event e h = h
+
+-- where a record is not parted, what joins is the same as alone, and where it is, nothing joins
+pub joined_in-as : (fresh : Freshness) (event : Event) (e : Entry) → is_parted fresh ≡ false → joined_in fresh event e ≡ joined event e
+joined_in-as is.Parted event e h = cc
+joined_in-as is.Stale event e h = refl
+joined_in-as is.Added event e h = refl
+joined_in-as (is.Joined p) event e h = refl
 
 -- what holds where an event adds its entries, and where it joins the last entry, holds after any event
-pub after-cases : (event : Event) (P : List Entry → List Entry → Freshness → Type 0)
-    → ((es : List Entry) → P es (es ++ entries_of event) (freshness_added (entries_of event)))
+pub after-cases : (was : Freshness) (event : Event) (P : List Entry → List Entry → Freshness → Type 0)
+    → ((es : List Entry) → P es (es ++ entries_of event) (freshness_added was (entries_of event)))
     → ((front : List Entry) (e joint : Entry) → joined event e ≡ Some joint → P (front ++ e ∷ []) (front ++ joint ∷ []) (freshness_joined (cursors_of e)))
-    → (es : List Entry) → P es (entries_after event es) (freshness_of event es)
-after-cases event P adds joins [] = adds []
-after-cases event P adds joins (e ∷ []) = from (joined event e) refl
+    → (es : List Entry) → P es (entries_after was event es) (freshness_of was event es)
+after-cases was event P adds joins [] = adds []
+after-cases was event P adds joins (e ∷ []) = from (joined_in was event e) refl
   where
-    from : (o : Option Entry) → joined event e ≡ o
-        → P (e ∷ []) (option_map_or (λ joint. joint ∷ []) o (e ∷ entries_of event)) (option_map_or (λ _. freshness_joined (cursors_of e)) o (freshness_added (entries_of event)))
+    from : (o : Option Entry) → joined_in was event e ≡ o
+        → P (e ∷ []) (option_map_or (λ joint. joint ∷ []) o (e ∷ entries_of event)) (option_map_or (λ _. freshness_joined (cursors_of e)) o (freshness_added was (entries_of event)))
     from None h = adds (e ∷ [])
-    from (Some joint) h = joins [] e joint h
-after-cases event P adds joins (e ∷ (d ∷ ds)) =
-    after-cases event (λ xs ys fresh. P (e ∷ xs) (e ∷ ys) fresh) (λ es. adds (e ∷ es)) (λ front l joint h. joins (e ∷ front) l joint h) (d ∷ ds)
+    from (Some joint) h = joins [] e joint (joined_in-joined was event e joint h)
+after-cases was event P adds joins (e ∷ (d ∷ ds)) =
+    after-cases was event (λ xs ys fresh. P (e ∷ xs) (e ∷ ys) fresh) (λ es. adds (e ∷ es)) (λ front l joint h. joins (e ∷ front) l joint h) (d ∷ ds)
 
 -- an event joins no entry
-abbrev pub IsApart : Event → List Entry → Type 0
-IsApart event es = (entries_after event es ≡ es ++ entries_of event) × (freshness_of event es ≡ freshness_added (entries_of event))
+abbrev pub IsApart : Freshness → Event → List Entry → Type 0
+IsApart was event es = (entries_after was event es ≡ es ++ entries_of event) × (freshness_of was event es ≡ freshness_added was (entries_of event))
 
 -- an event after entries that end with e, where o is the one entry for both, if there is one
-abbrev pub EndsIn : Event → List Entry → List Entry → Entry → Option Entry → Type 0
-EndsIn event es front e None = IsApart event es
-EndsIn event es front e (Some joint) = (entries_after event es ≡ front ++ joint ∷ []) × (freshness_of event es ≡ freshness_joined (cursors_of e))
+abbrev pub EndsIn : Freshness → Event → List Entry → List Entry → Entry → Option Entry → Type 0
+EndsIn was event es front e None = IsApart was event es
+EndsIn was event es front e (Some joint) = (entries_after was event es ≡ front ++ joint ∷ []) × (freshness_of was event es ≡ freshness_joined (cursors_of e))
 
-pub ends_in : (event : Event) (es front : List Entry) (e : Entry) (o : Option Entry) → es ≡ front ++ e ∷ [] → joined event e ≡ o → EndsIn event es front e o
-ends_in event es front e o is h =
-    subst (λ (l : List Entry). EndsIn event l front e o) (sym is) (by_join o (ap made h) (ap told h))
+pub ends_in : (was : Freshness) (event : Event) (es front : List Entry) (e : Entry) (o : Option Entry) → es ≡ front ++ e ∷ [] → joined_in was event e ≡ o → EndsIn was event es front e o
+ends_in was event es front e o is h =
+    subst (λ (l : List Entry). EndsIn was event l front e o) (sym is) (by_join o (ap made h) (ap told h))
   where
     made : Option Entry → List Entry
     made k = option_map_or (λ joint. joint ∷ []) k (e ∷ entries_of event)
 
     told : Option Entry → Freshness
-    told k = option_map_or (λ _. freshness_joined (cursors_of e)) k (freshness_added (entries_of event))
+    told k = option_map_or (λ _. freshness_joined (cursors_of e)) k (freshness_added was (entries_of event))
 
-    by_join : (k : Option Entry) → entries_after event (e ∷ []) ≡ made k → freshness_of event (e ∷ []) ≡ told k → EndsIn event (front ++ e ∷ []) front e k
-    by_join None m t = (after-past event front e [] ∙ ap (λ es. front ++ es) m ∙ sym (append_assoc front (e ∷ []) (entries_of event)), fresh-past event front e [] ∙ t)
-    by_join (Some joint) m t = (after-past event front e [] ∙ ap (λ es. front ++ es) m, fresh-past event front e [] ∙ t)
+    by_join : (k : Option Entry) → entries_after was event (e ∷ []) ≡ made k → freshness_of was event (e ∷ []) ≡ told k → EndsIn was event (front ++ e ∷ []) front e k
+    by_join None m t = (after-past was event front e [] ∙ ap (λ es. front ++ es) m ∙ sym (append_assoc front (e ∷ []) (entries_of event)), fresh-past was event front e [] ∙ t)
+    by_join (Some joint) m t = (after-past was event front e [] ∙ ap (λ es. front ++ es) m, fresh-past was event front e [] ∙ t)
+
+-- after a part no event joins
+pub alone-parted : (event : Event) (es : List Entry) → IsApart is.Parted event es
+alone-parted event [] = (refl, refl)
+alone-parted event (e ∷ []) = (refl, refl)
+alone-parted event (e ∷ (d ∷ ds)) = let rest = alone-parted event (d ∷ ds) in (ap (λ l. e ∷ l) rest.0, rest.1)
+
+pub parted-apart : (was : Freshness) (event : Event) (es : List Entry) → is_parted was ≡ true → IsApart was event es
+parted-apart is.Parted event es h = alone-parted event es
+parted-apart is.Stale event es h = cc
+parted-apart is.Added event es h = cc
+parted-apart (is.Joined p) event es h = cc
+
+-- an event that joins nothing
+pub joins_nothing : (was : Freshness) (event : Event) → ((e : Entry) → joined event e ≡ None) → (es : List Entry) → IsApart was event es
+joins_nothing was event none es =
+    after-cases was event (λ xs ys fresh. (ys ≡ xs ++ entries_of event) × (fresh ≡ freshness_added was (entries_of event))) (λ xs. (refl, refl))
+    (λ front e joint h. let no : None ≡ Some joint = sym (none e) ∙ h in cc) es
 
 -- ---- cursors that are told
 pub last_told-past : (cursors : ℕ × ℕ) (xs : List Entry) (y : Entry) (ys : List Entry) → last_told cursors (xs ++ y ∷ ys) ≡ xs ++ last_told cursors (y ∷ ys)
@@ -84,12 +124,26 @@ last_told-past cursors = passes (last_told cursors) (λ e d ds. refl)
 
 pub told-past : (fresh : Freshness) (b a : ℕ) (xs : List Entry) (y : Entry) (ys : List Entry) → entries_told fresh b a (xs ++ y ∷ ys) ≡ xs ++ entries_told fresh b a (y ∷ ys)
 told-past is.Stale b a xs y ys = refl
+told-past is.Parted b a xs y ys = refl
 told-past is.Added b a xs y ys = last_told-past (b, a) xs y ys
 told-past (is.Joined p) b a xs y ys = last_told-past (p, a) xs y ys
 
-pub told-added : (es ys : List Entry) (b a : ℕ) → entries_told (freshness_added ys) b a (es ++ ys) ≡ es ++ entries_told (freshness_added ys) b a ys
-told-added es [] b a = refl
-told-added es (y ∷ ys) b a = told-past is.Added b a es y ys
+-- where none may be told, none are
+pub told-none : (fresh : Freshness) (b a : ℕ) (es : List Entry) → entries_told (freshness_told fresh) b a es ≡ es
+told-none is.Stale b a es = refl
+told-none is.Parted b a es = refl
+told-none is.Added b a es = refl
+told-none (is.Joined p) b a es = refl
+
+pub told-twice : (fresh : Freshness) → freshness_told (freshness_told fresh) ≡ freshness_told fresh
+told-twice is.Stale = refl
+told-twice is.Parted = refl
+told-twice is.Added = refl
+told-twice (is.Joined p) = refl
+
+pub told-added : (was : Freshness) (es ys : List Entry) (b a : ℕ) → entries_told (freshness_added was ys) b a (es ++ ys) ≡ es ++ entries_told (freshness_added was ys) b a ys
+told-added was es [] b a = told-none was b a (es ++ []) ∙ ap (λ ks. es ++ ks) (sym (told-none was b a []))
+told-added was es (y ∷ ys) b a = told-past is.Added b a es y ys
 
 -- ---- the end of a group
 pub end_one-past : (xs : List Entry) (y : Entry) (ys : List Entry) → end_one (xs ++ y ∷ ys) ≡ xs ++ end_one (y ∷ ys)

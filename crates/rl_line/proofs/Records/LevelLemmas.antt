@@ -1,5 +1,5 @@
 -- The level: how many groups are open after each call, counted over the entries that it moves or drops alone.
-use Rattle.rl_line.proofs.Common.{common_steps, Ahead, AtLevel, Back, Begin, Bool, BothMatched, Change, Changed, End, Entry, Event, IsMatched, List, Reaches, Record, Some, Way, [], ap, arith, begun, count_over, deep, drop, entries_after, entries_of, entry_of, false, get_or, inl, inr, is_change, joined, kept_of, last_of, length, length-map, length-take, level, map, map-append, mark, marks, max, moved, opens, recorded_after, redo_of, refl, subst, suc, sym, take, take-append-drop, touched, true, truncated, unit_of, units, with_closed, ℕ, ◌++◌, ◌+◌, ◌-◌, ◌<◌, ◌^◌, ◌∙◌, ◌∷◌, ◌≡◌, ◌≤◌, take_all}
+use Rattle.rl_line.proofs.Common.{common_steps, Ahead, AtLevel, Back, Begin, Bool, BothMatched, Change, Changed, End, Entry, Event, Freshness, IsMatched, List, Reaches, Record, Some, Way, [], ap, arith, begun, count_over, deep, drop, entries_after, entries_of, entry_of, false, get_or, inl, inr, is_change, joined, kept_of, last_of, length, length-map, length-take, level, map, map-append, mark, marks, max, moved, opens, recorded_after, redo_of, refl, subst, suc, sym, take, take-append-drop, touched, true, truncated, unit_of, units, with_closed, ℕ, ◌++◌, ◌+◌, ◌-◌, ◌<◌, ◌^◌, ◌∙◌, ◌∷◌, ◌≡◌, ◌≤◌, take_all}
 use Rattle.rl_line.specs.Record.{record_step}
 use Rattle.rl_line.proofs.Records.CountLemmas.{level-counted}
 use Rattle.rl_line.proofs.Records.EntryLemmas.{deep-append, deep-next}
@@ -18,9 +18,9 @@ deep-joined : (event : Event) (e joint : Entry) (d : ℕ) → joined event e ≡
 deep-joined event e joint d h = let b = joins event e joint h in subst (λ k. deep d (k ∷ []) ≡ deep d (e ∷ [])) b.is (ap (λ k. deep d (k ∷ [])) (sym b.was))
 
 -- no event is a mark
-deep-after : (event : Event) (es : List Entry) (d : ℕ) → deep d (entries_after event es) ≡ deep d es
-deep-after event es d =
-    after-cases event (λ xs ys _. deep d ys ≡ deep d xs) (λ xs. deep-append d xs (entries_of event) ∙ deep-entries_of event (deep d xs))
+deep-after : (was : Freshness) (event : Event) (es : List Entry) (d : ℕ) → deep d (entries_after was event es) ≡ deep d es
+deep-after was event es d =
+    after-cases was event (λ xs ys _. deep d ys ≡ deep d xs) (λ xs. deep-append d xs (entries_of event) ∙ deep-entries_of event (deep d xs))
     (λ front e joint h. deep-append d front (joint ∷ []) ∙ deep-joined event e joint (deep d front) h ∙ sym (deep-append d front (e ∷ []))) es
 
 pub AtLevel-step : (event : Event) (n : ℕ) (r : Record) → AtLevel n r → AtLevel n (record_step r event)

@@ -1,5 +1,5 @@
 -- Every operation keeps the marks matched, and a change in each closed group.
-use Rattle.rl_line.proofs.Common.{◌≡◌, ℕ, ◌+◌, ◌-◌, ◌≤◌, suc, arith, Bool, true, false, List, [], ◌∷◌, ◌++◌, length, take, drop, reverse, Some, refl, sym, ap, subst, ◌∙◌, inl, inr, append-nil, drop_all, take-append-drop, option_and_then, IsSome, zero, max, Event, Start, Stop, Cursors, Entry, Begin, End, Changed, Record, entries_of, entries_after, pending_after, UndoUnit, Open, Whole, units, opens, level, last_of, kept_of, redo_from, redo_of, end_one, ends_in_begin, is_begin, end_times, begun, undone, redone, truncated, with_closed, touched, mark, marks, IsMatched, BothMatched}
+use Rattle.rl_line.proofs.Common.{◌≡◌, ℕ, ◌+◌, ◌-◌, ◌≤◌, suc, arith, Bool, true, false, List, [], ◌∷◌, ◌++◌, length, take, drop, reverse, Some, refl, sym, ap, subst, ◌∙◌, inl, inr, append-nil, drop_all, take-append-drop, option_and_then, IsSome, zero, max, Event, Freshness, Start, Stop, Cursors, Entry, Begin, End, Changed, Record, entries_of, entries_after, pending_after, UndoUnit, Open, Whole, units, opens, level, last_of, kept_of, redo_from, redo_of, end_one, ends_in_begin, is_begin, end_times, begun, undone, redone, truncated, with_closed, touched, mark, marks, IsMatched, BothMatched}
 use Rattle.rl_base.proofs.Texts.SwapLemmas.{some_is}
 use Rattle.rl_line.specs.Record.{record_step}
 use Rattle.rl_line.proofs.Records.LastLemmas.{after-cases, by_last, end_one-cases, ends-past}
@@ -14,14 +14,14 @@ entries_of-marks event fs = elim (none_or_one event) [ inl none ↦ rw none refl
 marks-past : (xs ys : List Entry) (fs : List Bool) → IsSome (marks xs fs) → ((gs : List Bool) → IsSome (marks ys gs)) → IsSome (marks (xs ++ ys) fs)
 marks-past xs ys fs h all = let s = value_of (marks xs fs) h in subst IsSome (sym (marks-append xs ys fs ∙ ap (option_and_then (marks ys)) s.1)) (all s.0)
 
-marks-after : (event : Event) (es : List Entry) (fs : List Bool) → IsSome (marks es fs) → IsSome (marks (entries_after event es) fs)
-marks-after event es fs h =
-    after-cases event (λ xs ys _. IsSome (marks xs fs) → IsSome (marks ys fs)) (λ xs k. marks-past xs (entries_of event) fs k (entries_of-marks event))
+marks-after : (was : Freshness) (event : Event) (es : List Entry) (fs : List Bool) → IsSome (marks es fs) → IsSome (marks (entries_after was event es) fs)
+marks-after was event es fs h =
+    after-cases was event (λ xs ys _. IsSome (marks xs fs) → IsSome (marks ys fs)) (λ xs k. marks-past xs (entries_of event) fs k (entries_of-marks event))
     (λ front e joint j k. marks-past front (joint ∷ []) fs (IsSome-through (marks (e ∷ [])) (marks front fs) (subst IsSome (marks-append front (e ∷ []) fs) k))
     (λ gs. subst (λ d. IsSome (marks (d ∷ []) gs)) (joins event e joint j).is refl)) es h
 
-pub IsMatched-after : (event : Event) (es : List Entry) → IsMatched es → IsMatched (entries_after event es)
-IsMatched-after event es h = marks-after event es [] h
+pub IsMatched-after : (was : Freshness) (event : Event) (es : List Entry) → IsMatched es → IsMatched (entries_after was event es)
+IsMatched-after was event es h = marks-after was event es [] h
 
 pending-matched : (event : Event) (es : List Entry) → IsMatched es → IsMatched (pending_after event es)
 pending-matched Start es h = h
@@ -31,7 +31,7 @@ pending-matched _ es h = refl
 
 pub BothMatched-step : (r : Record) (event : Event) → BothMatched r → BothMatched (record_step r event)
 unfolding record_step
-BothMatched-step r event b = record { recorded = recorded-cases IsMatched event r (IsMatched-after event r.recorded b.recorded) (λ es p m. subst IsSome (sym (last_told-marks p es [])) m); pending = pending-matched event r.pending b.pending }
+BothMatched-step r event b = record { recorded = recorded-cases IsMatched event r (IsMatched-after r.fresh event r.recorded b.recorded) (λ es p m. subst IsSome (sym (last_told-marks p es [])) m); pending = pending-matched event r.pending b.pending }
 
 -- a Begin may be added anywhere
 pub IsMatched-begin : (es : List Entry) → IsMatched es → IsMatched (es ++ Begin ∷ [])

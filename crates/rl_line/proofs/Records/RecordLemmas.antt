@@ -1,5 +1,5 @@
 -- The entries of a record lead from text to text and back.
-use Rattle.rl_line.proofs.Common.{◌≡◌, ℕ, Bool, true, false, List, [], ◌∷◌, ◌++◌, length, Option, Some, None, refl, sym, ap, subst, ◌∙◌, ◌+◌, ◌⊎◌, inl, inr, eqb-true, map-append, option_and_then, encode_utf8, IsSome, ◌==◌, ◌&&◌, cond, not, IsUtf8, Direction, Event, InsertChar, InsertStr, Delete, Replace, replay, is_alphanumeric, is_word_cluster, Kind, Insertion, Deletion, Replacement, Swap, Entry, Changed, Record, entries_after, joined, event_of, inverse, replay_entries, unwind, swapped, followed, opposite, past, untold, events_ahead}
+use Rattle.rl_line.proofs.Common.{◌≡◌, ℕ, Bool, true, false, List, [], ◌∷◌, ◌++◌, length, Option, Some, None, refl, sym, ap, subst, ◌∙◌, ◌+◌, ◌⊎◌, inl, inr, eqb-true, map-append, option_and_then, encode_utf8, IsSome, ◌==◌, ◌&&◌, cond, not, IsUtf8, Direction, Event, Freshness, InsertChar, InsertStr, Delete, Replace, replay, is_alphanumeric, is_word_cluster, Kind, Insertion, Deletion, Replacement, Swap, Entry, Changed, Record, entries_after, joined, event_of, inverse, replay_entries, unwind, swapped, followed, opposite, past, untold, events_ahead}
 use Rattle.rl_base.proofs.Texts.TextLemmas.{and_right}
 use Rattle.rl_base.specs.Event.{apply}
 use Rattle.rl_base.proofs.Texts.SwapLemmas.{Swaps, Swaps-back, Swaps-nothing, Swaps-after, Swaps-before, Swaps-InsertStr, Swaps-InsertChar, Swaps-Delete, Swaps-Replace, apply-Replace-Swaps, apply-IsUtf8}
@@ -195,10 +195,10 @@ redone-joined (Replace i s t) (Changed Replacement l) joint x y z h u p q =
 redone-joined event e joint x y z h u p q = cc
 
 -- the text from which entries came stays, whatever event came
-pub entries_after-unwind : (event : Event) (es : List Entry) (text now start : List ℕ) → IsUtf8 text → apply event text ≡ Some now → unwind es text ≡ Some start
-    → unwind (entries_after event es) now ≡ Some start
-entries_after-unwind event es text now start u h k =
-    after-cases event (λ xs ys _. unwind xs text ≡ Some start → unwind ys now ≡ Some start)
+pub entries_after-unwind : (was : Freshness) (event : Event) (es : List Entry) (text now start : List ℕ) → IsUtf8 text → apply event text ≡ Some now → unwind es text ≡ Some start
+    → unwind (entries_after was event es) now ≡ Some start
+entries_after-unwind was event es text now start u h k =
+    after-cases was event (λ xs ys _. unwind xs text ≡ Some start → unwind ys now ≡ Some start)
     (λ xs j. unwind-append xs (entries_of event) now ∙ ap (option_and_then (unwind xs)) (entries_of-undo event text now u h) ∙ j) joins es k
   where
     joins : (front : List Entry) (e joint : Entry) → joined event e ≡ Some joint → unwind (front ++ e ∷ []) text ≡ Some start → unwind (front ++ joint ∷ []) now ≡ Some start
@@ -212,4 +212,4 @@ pub record_step-unwind : (r : Record) (event : Event) (text now start : List ℕ
     → unwind (record_step r event).recorded now ≡ Some start
 unfolding record_step
 record_step-unwind r event text now start u h k =
-    recorded-cases (λ es. unwind es now ≡ Some start) event r (entries_after-unwind event r.recorded text now start u h k) (λ es p e. last_told-unwind p es now ∙ e)
+    recorded-cases (λ es. unwind es now ≡ Some start) event r (entries_after-unwind r.fresh event r.recorded text now start u h k) (λ es p e. last_told-unwind p es now ∙ e)

@@ -1,32 +1,31 @@
 -- Entries of which the last is told its cursors: they change nothing but where a cursor goes.
-use Rattle.rl_line.proofs.Common.{◌≡◌, ℕ, Bool, List, [], ◌∷◌, ◌++◌, Option, Some, None, refl, ap, subst, option_and_then, Event, Cursors, Freshness, Entry, Begin, End, Changed, Record, entries_after, entries_told, event_of, inverse, last_told, recorded_after, unwind, with_cursors, mark, marks, deep}
+use Rattle.rl_line.proofs.Common.{◌≡◌, ℕ, Bool, List, [], ◌∷◌, ◌++◌, Option, Some, None, refl, ap, subst, ◌∙◌, append-nil, option_and_then, Event, Cursors, Freshness, Entry, Begin, End, Changed, Record, entries_after, entries_told, event_of, inverse, last_told, recorded_after, unwind, with_cursors, mark, marks, deep}
 use Rattle.rl_base.specs.Event.{apply}
 use Rattle.rl_line.specs.declared.change.Freshness.TheVariants as is
 use Rattle.rl_line.specs.Record.{entries_of}
-use Rattle.rl_line.proofs.Records.LastLemmas.{last_told-past}
+use Rattle.rl_line.proofs.Records.LastLemmas.{joins_nothing, last_told-past}
 
 pub apply-Cursors : (before after : ℕ) (text : List ℕ) → apply (Cursors before after) text ≡ Some text
 unfolding apply
 apply-Cursors before after text = refl
 
 -- cursors add no entry
-nothing_added : (before after : ℕ) (es : List Entry) → entries_after (Cursors before after) es ≡ es
+nothing_added : (was : Freshness) (before after : ℕ) (es : List Entry) → entries_after was (Cursors before after) es ≡ es
 unfolding entries_of
-nothing_added before after [] = refl
-nothing_added before after (e ∷ []) = refl
-nothing_added before after (e ∷ (d ∷ ds)) = ap (λ es. e ∷ es) (nothing_added before after (d ∷ ds))
+nothing_added was before after es = (joins_nothing was (Cursors before after) (λ e. refl) es).0 ∙ append-nil es
 
 pub told-cases : (P : List Entry → Type 0) (fresh : Freshness) (before after : ℕ) (es : List Entry) → P es → ((cursors : ℕ × ℕ) → P (last_told cursors es))
     → P (entries_told fresh before after es)
 told-cases P is.Stale before after es h told = h
+told-cases P is.Parted before after es h told = h
 told-cases P is.Added before after es h told = told (before, after)
 told-cases P (is.Joined first) before after es h told = told (first, after)
 
 -- what holds of entries after an event, and stays where a last entry is told its cursors, holds of what is recorded after any event
-pub recorded-cases : (P : List Entry → Type 0) (event : Event) (r : Record) → P (entries_after event r.recorded)
+pub recorded-cases : (P : List Entry → Type 0) (event : Event) (r : Record) → P (entries_after r.fresh event r.recorded)
     → ((es : List Entry) (cursors : ℕ × ℕ) → P es → P (last_told cursors es)) → P (recorded_after event r)
 recorded-cases P (Cursors before after) r h told =
-    let k = subst P (nothing_added before after r.recorded) h in told-cases P r.fresh before after r.recorded k (λ cursors. told r.recorded cursors k)
+    let k = subst P (nothing_added r.fresh before after r.recorded) h in told-cases P r.fresh before after r.recorded k (λ cursors. told r.recorded cursors k)
 recorded-cases P _ r h told = h
 
 -- ---- what an entry makes of a text, and takes back

@@ -263,6 +263,10 @@ last_of-change n (Changed k c) es few is =
     ap (λ us. together (take (max n 1) us)) (cut_more-append [] es (e ∷ [])) ∙ ap (λ j. together (take j (Whole (e ∷ []) ∷ units es))) single
 last_of-change n other es few is = cc
 
+pub kept_of-change : (e : Entry) (es : List Entry) → is_change e ≡ true → kept_of 1 (es ++ e ∷ []) ≡ es
+kept_of-change (Changed k c) es is = ap (λ us. together (drop 1 us)) (cut_more-append [] es (Changed k c ∷ [])) ∙ together-units es
+kept_of-change other es is = cc
+
 pub redo_of-change : (e : Entry) (es : List Entry) → is_change e ≡ true → IsMatched (e ∷ es) → redo_of (e ∷ es) ≡ e ∷ []
 redo_of-change (Changed k c) es is m =
     let e = Changed k c in

@@ -1,11 +1,11 @@
 -- Entries that lead from a text to another, with their cursors: what keeps that, and where a line goes over them.
-use Rattle.rl_line.proofs.Common.{◌≡◌, ℕ, ◌⊎◌, inl, inr, Bool, true, List, [], ◌∷◌, ◌++◌, length, take, drop, take-append-drop, Option, Some, None, refl, sym, ap, subst, ◌∙◌, same_Some, option_map_or, cond, IsSome, option_and_then, IsCharBoundary, IsUtf8, Refusal, Event, Cursors, is_boundary, text_after, text_back, Line, stepped, Step, Plan, after, listener_after, listener_after_step, Taken, Done, Halted, Kind, Swap, Entry, Begin, End, Changed, Record, cursors_of, entries_after, entries_of, entries_told, event_of, freshness_added, freshness_joined, freshness_of, inverse, joined, replay_entries, replays_to, unwind, with_cursors, cursor_after, cursor_told, line_ahead, line_back, Redone, Undone, cursor_stands, begun, end_one, kept_of, last_of, redo_of, truncated, with_closed, LeadsTo, Walk, Walks}
+use Rattle.rl_line.proofs.Common.{◌≡◌, ℕ, ◌⊎◌, inl, inr, Bool, true, List, [], ◌∷◌, ◌++◌, length, take, drop, take-append-drop, Option, Some, None, refl, sym, ap, subst, ◌∙◌, same_Some, option_map_or, cond, IsSome, option_and_then, IsCharBoundary, IsUtf8, Refusal, Event, Cursors, is_boundary, text_after, text_back, Line, stepped, Step, Plan, after, listener_after, listener_after_step, Taken, Done, Halted, Freshness, Kind, Swap, Entry, Begin, End, Changed, Record, cursors_of, entries_after, entries_of, entries_told, event_of, freshness_added, freshness_joined, freshness_of, inverse, joined, replay_entries, replays_to, unwind, with_cursors, cursor_after, cursor_told, line_ahead, line_back, Redone, Undone, cursor_stands, begun, end_one, kept_of, last_of, redo_of, truncated, with_closed, LeadsTo, Walk, Walks}
 use Rattle.rl_base.specs.Event.{apply}
 use Rattle.rl_base.proofs.Texts.SwapLemmas.{apply-IsUtf8}
 use Rattle.rl_base.proofs.Texts.TextLemmas.{is_boundary-means, is_boundary-true}
 use Rattle.rl_line.specs.Record.{record_step}
 use Rattle.rl_line.proofs.Records.JoinLemmas.{step-cases}
-use Rattle.rl_line.proofs.Records.LastLemmas.{after-cases, end_times-keeps, told-added, told-past}
+use Rattle.rl_line.proofs.Records.LastLemmas.{after-cases, end_times-keeps, told-added, told-none, told-past, told-twice}
 use Rattle.rl_line.proofs.Records.MarkLemmas.{unwind-truncated}
 use Rattle.rl_line.proofs.Records.MatchLemmas.{redo-front}
 use Rattle.rl_line.proofs.Plans.PlanLemmas.{first_step}
@@ -62,16 +62,17 @@ told (Changed k c) x y p makes b a = record { makes = makes; before = is_boundar
 told mark x y p makes b a = record { makes = makes; before = refl; after = refl }
 
 -- an event whose entry is added
-added : (event : Event) (x y : List ℕ) (b a : ℕ) → IsUtf8 x → apply event x ≡ Some y → IsCharBoundary x b → IsCharBoundary y a
-    → Walk (entries_told (freshness_added (entries_of event)) b a (entries_of event)) x y
-added event x y b a u h before after = from (entries_of event) (entries_of-undo event x y u h) (none_or_one event)
+added : (was : Freshness) (event : Event) (x y : List ℕ) (b a : ℕ) → IsUtf8 x → apply event x ≡ Some y → IsCharBoundary x b → IsCharBoundary y a
+    → Walk (entries_told (freshness_added was (entries_of event)) b a (entries_of event)) x y
+added was event x y b a u h before after = from (entries_of event) (entries_of-undo event x y u h) (none_or_one event)
   where
-    from : (es : List Entry) → unwind es y ≡ Some x → (es ≡ []) ⊎ ((k : Kind) × (c : Swap) × (es ≡ Changed k c ∷ [])) → Walk (entries_told (freshness_added es) b a es) x y
+    from : (es : List Entry) → unwind es y ≡ Some x → (es ≡ []) ⊎ ((k : Kind) × (c : Swap) × (es ≡ Changed k c ∷ [])) → Walk (entries_told (freshness_added was es) b a es) x y
     from es back (inl none) =
-        subst (λ ks. Walk (entries_told (freshness_added ks) b a ks) x y) (sym none) (same_Some _ _ (sym (ap (λ ks. unwind ks y) (sym none) ∙ back)))
+        subst (λ ks. Walk (entries_told (freshness_added was ks) b a ks) x y) (sym none)
+        (subst (λ ks. Walk ks x y) (sym (told-none was b a [])) (same_Some _ _ (sym (ap (λ ks. unwind ks y) (sym none) ∙ back))))
     from es back (inr (k, c, one)) =
         let makes = undoes-inverse (Changed k c) x y (apply-IsUtf8 event x y u h) (ap (λ ks. unwind ks y) (sym one) ∙ back) in
-        subst (λ ks. Walk (entries_told (freshness_added ks) b a ks) x y) (sym one) (y, told (Changed k c) x y (b, a) makes before after, refl)
+        subst (λ ks. Walk (entries_told (freshness_added was ks) b a ks) x y) (sym one) (y, told (Changed k c) x y (b, a) makes before after, refl)
 
 -- the one entry that stands for two was told no cursors
 joint-untold : (event : Event) (e joint : Entry) → joined event e ≡ Some joint → cursors_of joint ≡ None
@@ -96,12 +97,12 @@ merged e joint x y z b a makes none lead after = from (cursors_of e) refl
     from (Some p) c = (z, told joint x z (p.0, a) makes (before-stands e x p c lead.before) after, refl)
 
 -- an event of a text, and the cursors after it
-walked : (event : Event) (es : List Entry) (x text now : List ℕ) (b a : ℕ) → IsUtf8 x → Walk es x text → apply event text ≡ Some now → IsCharBoundary text b → IsCharBoundary now a
-    → Walk (entries_told (freshness_of event es) b a (entries_after event es)) x now
-walked event es x text now b a u w h before after =
-    after-cases event (λ xs ys fresh. Walk xs x text → Walk (entries_told fresh b a ys) x now)
-    (λ xs v. subst (λ l. Walk l x now) (sym (told-added xs (entries_of event) b a))
-    (Walk-append xs (entries_told (freshness_added (entries_of event)) b a (entries_of event)) x text now v (added event text now b a (Walk-IsUtf8 xs x text u v) h before after)))
+walked : (was : Freshness) (event : Event) (es : List Entry) (x text now : List ℕ) (b a : ℕ) → IsUtf8 x → Walk es x text → apply event text ≡ Some now → IsCharBoundary text b → IsCharBoundary now a
+    → Walk (entries_told (freshness_of was event es) b a (entries_after was event es)) x now
+walked was event es x text now b a u w h before after =
+    after-cases was event (λ xs ys fresh. Walk xs x text → Walk (entries_told fresh b a ys) x now)
+    (λ xs v. subst (λ l. Walk l x now) (sym (told-added was xs (entries_of event) b a))
+    (Walk-append xs (entries_told (freshness_added was (entries_of event)) b a (entries_of event)) x text now v (added was event text now b a (Walk-IsUtf8 xs x text u v) h before after)))
     joins es w
   where
     joins : (front : List Entry) (e joint : Entry) → joined event e ≡ Some joint → Walk (front ++ e ∷ []) x text → Walk (entries_told (freshness_joined (cursors_of e)) b a (front ++ joint ∷ [])) x now
@@ -119,10 +120,10 @@ unfolding record_step
 Walks-told r text b a w = record {
   start = w.start;
   is_text = w.is_text;
-  back = subst (λ f. Walk (entries_told f b a r.recorded) w.start text) (sym w.stale) w.back;
+  back = subst (λ es. Walk es w.start text) (sym (ap (λ f. entries_told f b a r.recorded) (sym w.stale) ∙ told-none r.fresh b a r.recorded)) w.back;
   end = w.end;
   ahead = w.ahead;
-  stale = refl;
+  stale = told-twice r.fresh;
 }
 
 -- a step that a line took, and its record heard
@@ -132,7 +133,7 @@ unfolding apply record_step
 Walks-step event b a r text now w =
     step-cases r (λ event k. apply event text ≡ Some now → IsCharBoundary text b → IsCharBoundary now a → Walks (record_step k (Cursors b a)) now)
     (λ event h before after.
-    record { start = w.start; is_text = w.is_text; back = walked event r.recorded w.start text now b a w.is_text w.back h before after; end = now; ahead = refl; stale = refl })
+    record { start = w.start; is_text = w.is_text; back = walked r.fresh event r.recorded w.start text now b a w.is_text w.back h before after; end = now; ahead = refl; stale = told-twice (freshness_of r.fresh event r.recorded) })
     (λ event stays h before after. still r (sym (stays text) ∙ h) w)
     (λ b' a' h before after. still (record_step r (Cursors b' a')) h (Walks-told r text b' a' w)) event
   where

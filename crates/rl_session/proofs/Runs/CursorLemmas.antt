@@ -4,12 +4,12 @@ use Rattle.rl_base.specs.Event.{Delete}
 use Rattle.rl_base.proofs.Texts.SwapLemmas.{apply-IsUtf8}
 use Rattle.rl_line.specs.declared.change.Freshness.TheVariants as is
 use Rattle.rl_line.specs.Plan.{Step, after}
-use Rattle.rl_line.specs.Record.{joined, record_step}
+use Rattle.rl_line.specs.Record.{joined, joined_in, record_step}
 use Rattle.rl_line.proofs.Records.JoinLemmas.{fresh-Delete-nothing}
 use Rattle.rl_line.proofs.Plans.PlanLemmas.{first_step}
 use Rattle.rl_line.proofs.Records.RecordLemmas.{char-joined, deletion-joined, entries_of-undo, joins, none_or_one, redone-joined, replacement-joined, undoes-inverse}
 use Rattle.rl_line.proofs.Records.ToldLemmas.{same-event, told-cases}
-use Rattle.rl_line.proofs.Records.LastLemmas.{IsApart, after-cases, ends_in, told-added, told-past}
+use Rattle.rl_line.proofs.Records.LastLemmas.{IsApart, after-cases, ends_in, joined_in-joined, told-added, told-none, told-past}
 
 -- an event of a text, which is the last one where it is a replacement
 abbrev pub IsLone : Event → List Step → Type 0
@@ -38,11 +38,11 @@ pub record AddedAlone (e : Entry) (text now : List ℕ) (before after : ℕ) : T
 
 -- ---- what a step makes of the entries
 -- the entries after an event of a text and the cursors after it
-abbrev pub next : Event → List Entry → ℕ → ℕ → List Entry
-next event es b a = entries_told (freshness_of event es) b a (entries_after event es)
+abbrev pub next : Freshness → Event → List Entry → ℕ → ℕ → List Entry
+next was event es b a = entries_told (freshness_of was event es) b a (entries_after was event es)
 
 pub recorded-next : (b : ℕ) (event : Event) (a : ℕ) (ss : List Step) (r : Record) → IsLone event ss
-    → (listener_after_step record_step b (event, a) r).recorded ≡ next event r.recorded b a
+    → (listener_after_step record_step b (event, a) r).recorded ≡ next r.fresh event r.recorded b a
 unfolding record_step
 recorded-next b Start a ss r h = absurd h
 recorded-next b Stop a ss r h = absurd h
@@ -50,40 +50,42 @@ recorded-next b (Cursors b' a') a ss r h = absurd h
 recorded-next b _ a ss r h = refl
 
 -- what becomes of the entries, where the event joins the last one and where it joins none
-next-joined : (event : Event) (front : List Entry) (l j : Entry) (b a : ℕ) → joined event l ≡ Some j
-    → next event (front ++ l ∷ []) b a ≡ front ++ entries_told (freshness_joined (cursors_of l)) b a (j ∷ [])
-next-joined event front l j b a h =
-    let ends = ends_in event (front ++ l ∷ []) front l (Some j) refl h in
+next-joined : (was : Freshness) (event : Event) (front : List Entry) (l j : Entry) (b a : ℕ) → joined_in was event l ≡ Some j
+    → next was event (front ++ l ∷ []) b a ≡ front ++ entries_told (freshness_joined (cursors_of l)) b a (j ∷ [])
+next-joined was event front l j b a h =
+    let ends = ends_in was event (front ++ l ∷ []) front l (Some j) refl h in
     let fresh = freshness_joined (cursors_of l) in
-    ap (λ f. entries_told f b a (entries_after event (front ++ l ∷ []))) ends.1 ∙ ap (entries_told fresh b a) ends.0 ∙ told-past fresh b a front j []
+    ap (λ f. entries_told f b a (entries_after was event (front ++ l ∷ []))) ends.1 ∙ ap (entries_told fresh b a) ends.0 ∙ told-past fresh b a front j []
 
-next-apart : (event : Event) (es : List Entry) (b a : ℕ) → IsApart event es → next event es b a ≡ es ++ entries_told (freshness_added (entries_of event)) b a (entries_of event)
-next-apart event es b a apart =
-    ap (λ f. entries_told f b a (entries_after event es)) apart.1 ∙ ap (entries_told (freshness_added (entries_of event)) b a) apart.0 ∙ told-added es (entries_of event) b a
+next-apart : (was : Freshness) (event : Event) (es : List Entry) (b a : ℕ) → IsApart was event es
+    → next was event es b a ≡ es ++ entries_told (freshness_added was (entries_of event)) b a (entries_of event)
+next-apart was event es b a apart =
+    ap (λ f. entries_told f b a (entries_after was event es)) apart.1 ∙ ap (entries_told (freshness_added was (entries_of event)) b a) apart.0
+    ∙ told-added was es (entries_of event) b a
 
--- the last entry that an event joined
-record JoinsOne (event : Event) (es : List Entry) (b a : ℕ) : Type 0 where
+-- the last entry that an event joined, and what was made of the entries
+record JoinsOne (event : Event) (es made : List Entry) (b a : ℕ) : Type 0 where
   pub front : List Entry
   pub last : Entry
   pub joint : Entry
   pub split : es ≡ front ++ last ∷ []
   pub joins : joined event last ≡ Some joint
-  pub makes : next event es b a ≡ front ++ entries_told (freshness_joined (cursors_of last)) b a (joint ∷ [])
+  pub makes : made ≡ front ++ entries_told (freshness_joined (cursors_of last)) b a (joint ∷ [])
 
-next-cases : (event : Event) (es : List Entry) (b a : ℕ)
-    → (next event es b a ≡ es ++ entries_told (freshness_added (entries_of event)) b a (entries_of event)) ⊎ JoinsOne event es b a
-next-cases event es b a =
-    after-cases event
-    (λ xs ys fresh. (entries_told fresh b a ys ≡ xs ++ entries_told (freshness_added (entries_of event)) b a (entries_of event)) ⊎ JoinsOne event xs b a)
-    (λ xs. inl (told-added xs (entries_of event) b a))
-    (λ front l j h. inr (record { front = front; last = l; joint = j; split = refl; joins = h; makes = next-joined event front l j b a h })) es
+next-cases : (was : Freshness) (event : Event) (es : List Entry) (b a : ℕ)
+    → (next was event es b a ≡ es ++ entries_told (freshness_added was (entries_of event)) b a (entries_of event)) ⊎ JoinsOne event es (next was event es b a) b a
+next-cases was event es b a =
+    after-cases was event
+    (λ xs ys fresh. (entries_told fresh b a ys ≡ xs ++ entries_told (freshness_added was (entries_of event)) b a (entries_of event)) ⊎ JoinsOne event xs (entries_told fresh b a ys) b a)
+    (λ xs. inl (told-added was xs (entries_of event) b a))
+    (λ front l j h. inr (record { front = front; last = l; joint = j; split = refl; joins = h; makes = told-past (freshness_joined (cursors_of l)) b a front j [] })) es
 
 -- the entries that an event adds, told their cursors
-told-none : (es : List Entry) (b a : ℕ) → es ≡ [] → entries_told (freshness_added es) b a es ≡ []
-told-none es b a h = ap (λ (ks : List Entry). entries_told (freshness_added ks) b a ks) h
+told-no_entry : (was : Freshness) (es : List Entry) (b a : ℕ) → es ≡ [] → entries_told (freshness_added was es) b a es ≡ []
+told-no_entry was es b a h = ap (λ (ks : List Entry). entries_told (freshness_added was ks) b a ks) h ∙ told-none was b a []
 
-told-one : (es : List Entry) (k : Entry) (b a : ℕ) → es ≡ k ∷ [] → entries_told (freshness_added es) b a es ≡ with_cursors (b, a) k ∷ []
-told-one es k b a h = ap (λ (ks : List Entry). entries_told (freshness_added ks) b a ks) h
+told-one : (was : Freshness) (es : List Entry) (k : Entry) (b a : ℕ) → es ≡ k ∷ [] → entries_told (freshness_added was es) b a es ≡ with_cursors (b, a) k ∷ []
+told-one was es k b a h = ap (λ (ks : List Entry). entries_told (freshness_added was ks) b a ks) h
 
 -- ---- entries grow
 -- the length of what an entry puts in and takes out
@@ -126,8 +128,8 @@ Grows-last_told p (e ∷ (d ∷ ds)) = (omega arith, Grows-last_told p (d ∷ ds
 cut-some : (i : ℕ) (s : List ℕ) (side : Direction) (c : Swap) (j : Entry) → joined (Delete i s side) (Changed Deletion c) ≡ Some j → 0 < length s
 cut-some i [] side c j h =
     let last = Changed Deletion (record c { cursors = Some (0, 0) }) in
-    let stale = fresh-Delete-nothing (last ∷ []) i [] side refl in
-    let told : is.Joined 0 ≡ is.Stale = ap (λ o. option_map_or (λ _. freshness_joined (Some (0, 0))) o (freshness_added (entries_of (Delete i [] side)))) (sym h) ∙ stale in
+    let stale = fresh-Delete-nothing is.Stale (last ∷ []) i [] side refl in
+    let told : is.Joined 0 ≡ is.Stale = ap (λ o. option_map_or (λ _. freshness_joined (Some (0, 0))) o (freshness_added is.Stale (entries_of (Delete i [] side)))) (sym h) ∙ stale in
     cc
 cut-some i (x ∷ s) side c j h = omega arith
 
@@ -146,10 +148,10 @@ heavier (Replace i s t) (Changed Replacement l) j ss h lone =
     inr (subst (λ k. weight (Changed Replacement l) ≤ weight k) (replacement-joined i s t l j h).1 (omega (arith, length-append l.old s, length-append l.new t)), lone)
 heavier event e j ss h lone = cc
 
-Grows-after : (event : Event) (es : List Entry) (ss : List Step) → IsLone event ss → Grows es (entries_after event es)
-Grows-after event [] ss lone = tt
-Grows-after event (e ∷ []) ss lone = grind (arith, heavier)
-Grows-after event (e ∷ (d ∷ ds)) ss lone = grind (arith, (Grows-after event (d ∷ ds) ss lone))
+Grows-after : (was : Freshness) (event : Event) (es : List Entry) (ss : List Step) → IsLone event ss → Grows es (entries_after was event es)
+Grows-after was event [] ss lone = tt
+Grows-after was event (e ∷ []) ss lone = grind (arith, heavier, joined_in-joined)
+Grows-after was event (e ∷ (d ∷ ds)) ss lone = grind (arith, (Grows-after was event (d ∷ ds) ss lone))
 
 Grows-told : (fresh : Freshness) (b a : ℕ) (es : List Entry) → Grows es (entries_told fresh b a es)
 Grows-told fresh b a es = told-cases (λ ks. Grows es ks) fresh b a es (Grows-same es) (λ p. Grows-last_told p es)
@@ -160,9 +162,9 @@ Grows-listener_after b [] r q = Grows-same r.recorded
 Grows-listener_after b (s ∷ ss) r q =
     let k = listener_after_step record_step b s r in
     let es = r.recorded in
-    let after = entries_after s.0 es in
-    let told = Grows-told (freshness_of s.0 es) b s.1 after in
-    let first : Grows es (next s.0 es b s.1) = Grows-on es after (next s.0 es b s.1) (Grows-after s.0 es ss q.1) told in
+    let after = entries_after r.fresh s.0 es in
+    let told = Grows-told (freshness_of r.fresh s.0 es) b s.1 after in
+    let first : Grows es (next r.fresh s.0 es b s.1) = Grows-on es after (next r.fresh s.0 es b s.1) (Grows-after r.fresh s.0 es ss q.1) told in
     Grows-on es k.recorded (listener_after record_step s.1 ss k).recorded (subst (Grows es) (sym (recorded-next b s.0 s.1 ss r q.1)) first) (Grows-listener_after s.1 ss k q.2)
 
 -- ---- one entry is there, and stays the only one
@@ -184,15 +186,15 @@ added-makes event x y k u h one =
     undoes-inverse k x y (apply-IsUtf8 event x y u h) (ap (λ ks. unwind ks y) (sym one) ∙ entries_of-undo event x y u h)
 
 -- what an event makes of a last entry that was added: one again, or two
-record StaysOne (event : Event) (x now : List ℕ) (base : List Entry) (k : Entry) (first b a : ℕ) : Type 0 where
+record StaysOne (was : Freshness) (event : Event) (x now : List ℕ) (base : List Entry) (k : Entry) (first b a : ℕ) : Type 0 where
   pub entry : Entry
-  pub is : next event (base ++ k ∷ []) b a ≡ base ++ entry ∷ []
+  pub is : next was event (base ++ k ∷ []) b a ≡ base ++ entry ∷ []
   pub alone : AddedAlone entry x now first a
 
-one-more : (event : Event) (x text now : List ℕ) (base : List Entry) (k : Entry) (first b a : ℕ) → IsUtf8 x
+one-more : (was : Freshness) (event : Event) (x text now : List ℕ) (base : List Entry) (k : Entry) (first b a : ℕ) → IsUtf8 x
     → AddedAlone k x text first b → apply event text ≡ Some now → (entries_of event ≡ [] → a ≡ b)
-    → StaysOne event x now base k first b a ⊎ ((d : Entry) × (next event (base ++ k ∷ []) b a ≡ (base ++ k ∷ []) ++ d ∷ []))
-one-more event x text now base k first b a u alone h quiet = from (joined event k) refl
+    → StaysOne was event x now base k first b a ⊎ ((d : Entry) × (next was event (base ++ k ∷ []) b a ≡ (base ++ k ∷ []) ++ d ∷ []))
+one-more was event x text now base k first b a u alone h quiet = from (joined_in was event k) refl
   where
     v : IsUtf8 text
     v = apply-IsUtf8 (event_of k) x text u alone.makes
@@ -200,26 +202,26 @@ one-more event x text now base k first b a u alone h quiet = from (joined event 
     es : List Entry
     es = base ++ k ∷ []
 
-    from : (o : Option Entry) → joined event k ≡ o → StaysOne event x now base k first b a ⊎ ((d : Entry) × (next event es b a ≡ es ++ d ∷ []))
+    from : (o : Option Entry) → joined_in was event k ≡ o → StaysOne was event x now base k first b a ⊎ ((d : Entry) × (next was event es b a ≡ es ++ d ∷ []))
     from None j =
-        let apart = next-apart event es b a (ends_in event es base k None refl j) in
+        let apart = next-apart was event es b a (ends_in was event es base k None refl j) in
         elim (none_or_one event) [
           | inl none ↦ inl (record {
             entry = k;
-            is = apart ∙ ap (λ ks. es ++ ks) (told-none (entries_of event) b a none) ∙ append-nil es;
+            is = apart ∙ ap (λ ks. es ++ ks) (told-no_entry was (entries_of event) b a none) ∙ append-nil es;
             alone = record {
               cursors = alone.cursors ∙ ap (λ n. Some (first, n)) (sym (quiet none));
               makes = alone.makes ∙ ap (λ t. Some t) (sym (text-same event text now v h none));
             };
           })
-          | inr (kind, swap, one) ↦ inr (with_cursors (b, a) (Changed kind swap), apart ∙ ap (λ ks. es ++ ks) (told-one (entries_of event) (Changed kind swap) b a one))
+          | inr (kind, swap, one) ↦ inr (with_cursors (b, a) (Changed kind swap), apart ∙ ap (λ ks. es ++ ks) (told-one was (entries_of event) (Changed kind swap) b a one))
         ]
     from (Some joint) j = inl (record {
       entry = with_cursors (first, a) joint;
-      is = next-joined event base k joint b a j ∙ ap (λ o. base ++ entries_told (freshness_joined o) b a (joint ∷ [])) alone.cursors;
+      is = next-joined was event base k joint b a j ∙ ap (λ o. base ++ entries_told (freshness_joined o) b a (joint ∷ [])) alone.cursors;
       alone = record {
-        cursors = joint-cursors event k joint (first, a) j;
-        makes = ap (λ q. apply q x) (same-event (first, a) joint) ∙ redone-joined event k joint x text now j u alone.makes h;
+        cursors = joint-cursors event k joint (first, a) (joined_in-joined was event k joint j);
+        makes = ap (λ q. apply q x) (same-event (first, a) joint) ∙ redone-joined event k joint x text now (joined_in-joined was event k joint j) u alone.makes h;
       };
     })
 
@@ -241,8 +243,8 @@ after-added (s ∷ ss) r x first line new base k e u h q is alone end =
     let b = first_step s ss line new h in
     let c = line.cursor in
     let now = listener_after_step record_step c s r in
-    let made : now.recorded ≡ next s.0 (base ++ k ∷ []) c s.1 = recorded-next c s.0 s.1 ss r q.1 ∙ ap (λ es. next s.0 es c s.1) is in
-    elim (one-more s.0 x line.text b.text base k first c s.1 u alone b.makes q.0) [
+    let made : now.recorded ≡ next r.fresh s.0 (base ++ k ∷ []) c s.1 = recorded-next c s.0 s.1 ss r q.1 ∙ ap (λ es. next r.fresh s.0 es c s.1) is in
+    elim (one-more r.fresh s.0 x line.text b.text base k first c s.1 u alone b.makes q.0) [
       | inl t ↦ after-added ss now x first (stepped line b.text s.1) new base t.entry e u b.rest q.2 (made ∙ t.is) t.alone end
       | inr t ↦
           let more = Grows-length now.recorded (listener_after record_step s.1 ss now).recorded (Grows-listener_after s.1 ss now q.2) in
@@ -254,6 +256,7 @@ after-added (s ∷ ss) r x first line new base k e u h q is alone end =
 -- ---- no entry is there yet
 told-weight : (fresh : Freshness) (b a : ℕ) (j : Entry) → (y : Entry) × (entries_told fresh b a (j ∷ []) ≡ y ∷ []) × (weight y ≡ weight j)
 told-weight is.Stale b a j = (j, refl, refl)
+told-weight is.Parted b a j = (j, refl, refl)
 told-weight is.Added b a j = (with_cursors (b, a) j, refl, same-weight (b, a) j)
 told-weight (is.Joined p) b a j = (with_cursors (p, a) j, refl, same-weight (p, a) j)
 
@@ -262,7 +265,7 @@ Grows-at [] y l e g = g.0
 Grows-at (x ∷ xs) y l e g = Grows-at xs y l e g.1
 
 -- where the first event of steps joins the last entry, they add none
-joined-adds-none : (s : Step) (ss : List Step) (b : ℕ) (r : Record) (e : Entry) → Quiet b (s ∷ ss) → JoinsOne s.0 r.recorded b s.1
+joined-adds-none : (s : Step) (ss : List Step) (b : ℕ) (r : Record) (e : Entry) → Quiet b (s ∷ ss) → JoinsOne s.0 r.recorded (next r.fresh s.0 r.recorded b s.1) b s.1
     → (listener_after record_step b (s ∷ ss) r).recorded ≡ r.recorded ++ e ∷ [] → ⊥
 joined-adds-none s ss b r e q j end = elim (heavier s.0 j.last j.joint ss j.joins q.1) [ inl more ↦ by_weight more | inr p ↦ by_length p.1 ]
   where
@@ -303,18 +306,18 @@ added-alone (s ∷ ss) r old new e u h q end =
     let now = listener_after_step record_step c s r in
     let line = stepped old b.text s.1 in
     let is = recorded-next c s.0 s.1 ss r q.1 in
-    elim (next-cases s.0 es c s.1) [
+    elim (next-cases r.fresh s.0 es c s.1) [
       | inr j ↦ absurd (joined-adds-none s ss c r e q j end)
       | inl apart ↦ elim (none_or_one s.0) [
         | inl none ↦
-            let kept : now.recorded ≡ es = is ∙ apart ∙ ap (λ ks. es ++ ks) (told-none (entries_of s.0) c s.1 none) ∙ append-nil es in
+            let kept : now.recorded ≡ es = is ∙ apart ∙ ap (λ ks. es ++ ks) (told-no_entry r.fresh (entries_of s.0) c s.1 none) ∙ append-nil es in
             let text : b.text ≡ old.text = text-same s.0 old.text b.text u b.makes none in
             let rest = added-alone ss now line new e (apply-IsUtf8 s.0 old.text b.text u b.makes) b.rest q.2 (end ∙ ap (λ ks. ks ++ e ∷ []) (sym kept)) in
             subst (λ t. AddedAlone e t new.text c (ends_at s.1 ss)) text (subst (λ n. AddedAlone e b.text new.text n (ends_at s.1 ss)) (q.0 none) rest)
         | inr (kind, swap, one) ↦
             let k = Changed kind swap in
             let p : ℕ × ℕ = (c, s.1) in
-            let grown : now.recorded ≡ es ++ with_cursors p k ∷ [] = is ∙ apart ∙ ap (λ ks. es ++ ks) (told-one (entries_of s.0) k c s.1 one) in
+            let grown : now.recorded ≡ es ++ with_cursors p k ∷ [] = is ∙ apart ∙ ap (λ ks. es ++ ks) (told-one r.fresh (entries_of s.0) k c s.1 one) in
             let makes : apply (event_of (with_cursors p k)) old.text ≡ Some b.text =
             ap (λ v. apply v old.text) (same-event p k) ∙ added-makes s.0 old.text b.text k u b.makes one in
             after-added ss now old.text c line new es (with_cursors p k) e u b.rest q.2 grown (record { cursors = added-cursors s.0 k p one; makes = makes }) end

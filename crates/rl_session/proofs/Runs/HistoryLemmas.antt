@@ -6,7 +6,8 @@ use Rattle.rl_line.proofs.Records.RecordLemmas.{replay-IsUtf8}
 use Rattle.rl_line.proofs.Records.RedoLemmas.{redos-give-back}
 use Rattle.rl_line.proofs.Records.UndoLemmas.{line_ahead-replay, line_back-unwind}
 use Rattle.rl_line.proofs.Records.UnitLemmas.{kept-last}
-use Rattle.rl_session.specs.Commands.{keeps}
+use Rattle.rl_session.specs.Commands.{keeps, parts}
+use Rattle.rl_line.specs.Record.{parted}
 use Rattle.rl_session.specs.State.{Begins}
 use Rattle.rl_base.specs.KillRing.{killed}
 use Rattle.rl_session.specs.declared.session.Reply.TheVariants as says
@@ -53,6 +54,8 @@ Holds-Became start held (shortens len) old new d h =
     let same = sym (agree-same (unwind r.recorded old.line.text) (unwind (take len r.recorded) old.line.text) d.0) in
     History-changes start held new (with_changes (truncated len r) old) (History-truncated len start held old.line.text r h same) d.1
 Holds-Became start held (keeps text) old new d h = History-changes start held new (with_ring (reset (killed text Append old.pair.ring)) old) h d
+Holds-Became start held parts old new d h =
+    History-changes start held new (with_changes (parted old.pair.changes) old) (record { is_text = h.is_text; leads = h.leads; placed = h.placed; matched = record { recorded = h.matched.recorded; pending = h.matched.pending } }) d
 Holds-Became start held (takes_back n a) old new d h = History-TookBack _ start held _ old new a h d.0
 Holds-Became start held (puts_again a) old new d h = History-PutAgain start held _ old new a h d.0
 

@@ -1,5 +1,5 @@
 -- A record is placed among the texts that were held, whatever it hears.
-use Rattle.rl_session.proofs.Common.{◌≡◌, ◌≤◌, ℕ, List, [], ◌∷◌, ◌++◌, length, length-append, take, drop, map, reverse, Some, refl, sym, ap, subst, ◌∙◌, inl, inr, append-nil, append_assoc, arith, same_Some, take-append-drop, reverse-append, reverse-reverse, map-append, option_and_then, IsSome, IsUtf8, Event, Cursors, replay, Line, stepped, listener_after, listener_after_step, Entry, Begin, End, Changed, Record, entries_of, entries_after, replay_entries, unwind, event_of, entries_told, last_told, freshness_of, level, last_of, kept_of, redo_of, end_one, end_times, begun, undone, redone, truncated, with_closed, kept_within, HoldsOn, gone, StandsAfter, WasHeld, PlacedBack, Placed, History, Holds, State, texts_of_steps}
+use Rattle.rl_session.proofs.Common.{◌≡◌, ◌≤◌, ℕ, List, [], ◌∷◌, ◌++◌, length, length-append, take, drop, map, reverse, Some, refl, sym, ap, subst, ◌∙◌, inl, inr, append-nil, append_assoc, arith, same_Some, take-append-drop, reverse-append, reverse-reverse, map-append, option_and_then, IsSome, IsUtf8, Event, Freshness, Cursors, replay, Line, stepped, listener_after, listener_after_step, Entry, Begin, End, Changed, Record, entries_of, entries_after, replay_entries, unwind, event_of, entries_told, last_told, freshness_of, level, last_of, kept_of, redo_of, end_one, end_times, begun, undone, redone, truncated, with_closed, kept_within, HoldsOn, gone, StandsAfter, WasHeld, PlacedBack, Placed, History, Holds, State, texts_of_steps}
 use Rattle.rl_base.specs.Event.{apply}
 use Rattle.rl_base.proofs.Texts.SwapLemmas.{apply-IsUtf8}
 use Rattle.rl_line.specs.Plan.{Step, after}
@@ -97,15 +97,15 @@ Placed-end_one es start held p =
     ]
 
 -- ---- an event
-after-leads : (event : Event) (es : List Entry) (start x y : List ℕ) → IsUtf8 start → replay_entries es start ≡ Some x → apply event x ≡ Some y
-    → replay_entries (entries_after event es) start ≡ Some y
-after-leads event es start x y u h k = search (rules, replay-IsUtf8, replay-unwind, apply-IsUtf8, entries_after-unwind, unwind-replay)
+after-leads : (was : Freshness) (event : Event) (es : List Entry) (start x y : List ℕ) → IsUtf8 start → replay_entries es start ≡ Some x → apply event x ≡ Some y
+    → replay_entries (entries_after was event es) start ≡ Some y
+after-leads was event es start x y u h k = search (rules, replay-IsUtf8, replay-unwind, apply-IsUtf8, entries_after-unwind, unwind-replay)
 
 -- the entries after an event are placed among the texts held before and the one after it
-Placed-after : (event : Event) (es : List Entry) (start y : List ℕ) (held : List (List ℕ)) → Placed start es held
-    → replay_entries (entries_after event es) start ≡ Some y → Placed start (entries_after event es) (held ++ (y ∷ []))
-Placed-after event es start y held =
-    after-cases event (λ xs ys _. Placed start xs held → replay_entries ys start ≡ Some y → Placed start ys (held ++ (y ∷ []))) adds
+Placed-after : (was : Freshness) (event : Event) (es : List Entry) (start y : List ℕ) (held : List (List ℕ)) → Placed start es held
+    → replay_entries (entries_after was event es) start ≡ Some y → Placed start (entries_after was event es) (held ++ (y ∷ []))
+Placed-after was event es start y held =
+    after-cases was event (λ xs ys _. Placed start xs held → replay_entries ys start ≡ Some y → Placed start ys (held ++ (y ∷ []))) adds
     (λ front e joint h p leads. Placed-add start front joint held y (Placed-front start front (e ∷ []) held p) leads) es
   where
     adds : (xs : List Entry) → Placed start xs held → replay_entries (xs ++ entries_of event) start ≡ Some y → Placed start (xs ++ entries_of event) (held ++ (y ∷ []))
@@ -130,7 +130,7 @@ alone start es held p = subst (λ l. Placed start l held) (sym (append-nil es)) 
 
 -- an event that drops what was undone
 History-change : (event : Event) (start : List ℕ) (held : List (List ℕ)) (text next : List ℕ) (r : Record) → History start held text r → apply event text ≡ Some next
-    → History start (held ++ (next ∷ [])) next (record { recorded = entries_after event r.recorded; pending = []; fresh = freshness_of event r.recorded })
+    → History start (held ++ (next ∷ [])) next (record { recorded = entries_after r.fresh event r.recorded; pending = []; fresh = freshness_of r.fresh event r.recorded })
 History-change event start held text next r h k = search (rules, after-leads, alone, Placed-after, recorded-placed, IsMatched-after)
 
 -- entries that make the same of a text are placed alike

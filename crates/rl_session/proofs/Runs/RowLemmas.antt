@@ -7,7 +7,7 @@ use Rattle.rl_line.proofs.Records.ForgettingLemmas.{fitting-stay}
 use Rattle.rl_line.proofs.Records.MarkLemmas.{Kept-begun, Kept-closed, Kept-Redone, Kept-truncated}
 use Rattle.rl_line.proofs.Records.OriginLemmas.{Kept, Kept-Taken, Kept-Undone}
 use Rattle.rl_line.proofs.Records.RecordLemmas.{unwind-replay, replay-unwind, replay-IsUtf8, value_of}
-use Rattle.rl_session.specs.Commands.{stops, lent, Step, keeps}
+use Rattle.rl_session.specs.Commands.{stops, lent, Step, keeps, parts}
 use Rattle.rl_session.proofs.Sessions.CommandLemmas.{Changes, EffectChanges, effect-changes}
 use Rattle.rl_session.proofs.Sessions.CourseLemmas.{Heard, Heard-Came}
 use Rattle.rl_session.proofs.Sessions.IdleLemmas.{ring-Done, ring-Halted}
@@ -31,6 +31,7 @@ Kept-Became (puts_ends a) old new u d = subst (KeepsOrigin old) (sym d.1) (Kept-
 Kept-Became (puts_end a) old new u d = subst (KeepsOrigin old) (sym d.1) (Kept-closed (min 1 (level old.pair.changes.recorded)) old.pair.changes old.line u)
 Kept-Became (shortens len) old new u d = subst (KeepsOrigin old) (sym d.1) (Kept-truncated len old.pair.changes old.line u d.0)
 Kept-Became (keeps text) old new u d = subst (KeepsOrigin old) (sym d) (record { origin_is = λ start e. e; utf8 = u })
+Kept-Became parts old new u d = subst (KeepsOrigin old) (sym d) (record { origin_is = λ start e. e; utf8 = u })
 Kept-Became (takes_back n a) old new u d = Kept-Undone _ old.pair.changes new.pair.changes old.line new.line a u d.0
 Kept-Became (puts_again a) old new u d = Kept-Redone old.pair.changes new.pair.changes old.line new.line a u d.0
 
@@ -88,6 +89,7 @@ Became-lasting (by_steps course) old new c d = Came-lasting course old new c d
 Became-lasting (puts_ends a) old new c d = ap lasting d.1
 Became-lasting (keeps text) old new c d =
     ap lasting d ∙ ap (λ n. (old.options, n)) (killed_as-size old.pair.ring.size old.pair.ring.last text Append old.pair.ring)
+Became-lasting parts old new c d = ap lasting d
 Became-lasting _ old new c d = ap lasting d.1
 
 Step-lasting : (old new : State) (command : Command) (reply : Reply) → Step old command reply new → lasting new ≡ lasting old

@@ -6,8 +6,9 @@ use Rattle.rl_line.proofs.Records.LastLemmas.{end_one-begin, end_one-cases, end_
 use Rattle.rl_line.proofs.Records.EndLemmas.{closed_alone, closed_group, level-group}
 use Rattle.rl_line.proofs.Records.MatchLemmas.{Lower-end_one, Lower-end_times}
 use Rattle.rl_line.proofs.Records.UndoLemmas.{line_back-unwind}
-use Rattle.rl_session.specs.Commands.{keeps}
+use Rattle.rl_session.specs.Commands.{keeps, parts}
 use Rattle.rl_base.specs.KillRing.{killed}
+use Rattle.rl_line.specs.Record.{parted}
 use Rattle.rl_session.specs.declared.session.Command.TheVariants as asks
 use Rattle.rl_session.specs.declared.session.Reply.TheVariants as says
 use Rattle.rl_session.proofs.Runs.RowLemmas.{Leads-split}
@@ -56,6 +57,7 @@ StaysOpen below now (by_steps _) = Unit {0}
 StaysOpen below now (puts_begin _) = Unit {0}
 StaysOpen below now (puts_end _) = below < now
 StaysOpen below now (keeps _) = Unit {0}
+StaysOpen below now parts = Unit {0}
 StaysOpen below now _ = ⊥
 
 stays_open : (below now : ℕ) (old : State) (command : Command) (reply : Reply) → MayStandInGroup below now command reply → StaysOpen below now (effect old command reply)
@@ -91,6 +93,7 @@ Inside-Became front (puts_end a) old new i d k =
     let up = subst (λ (s : State). level front < level s.pair.changes.recorded) d.1 i in
     Inside-same front (with_changes (ended_one old.pair.changes) old) new (Inside-ended_one front old.pair.changes k up) d.1
 Inside-Became front (keeps text) old new i d k = Inside-same front (with_ring (reset (killed text Append old.pair.ring)) old) new k d
+Inside-Became front parts old new i d k = Inside-same front (with_changes (parted old.pair.changes) old) new (record { inner = k.inner; is = k.is; matched = k.matched }) d
 Inside-Became front _ old new i d k = absurd i
 
 Inside-row : (front : List Entry) (row : Row) → MayStandInGroup (level front) (level row.after.pair.changes.recorded) row.command row.reply → Inside front row.before.pair.changes → Inside front row.after.pair.changes

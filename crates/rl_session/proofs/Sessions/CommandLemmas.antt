@@ -1,5 +1,5 @@
 -- What is known of each command by itself: that its steps change the text, and what it did if it added one entry to the record.
-use Rattle.rl_session.proofs.Common.{eqb-false, Stop, Cursors, ℕ, List, Option, Some, None, ◌≡◌, ◌+◌, ◌≤◌, Bool, true, false, [], ◌∷◌, ◌++◌, length, length-append, IfSome, refl, sym, ap, subst, ◌∙◌, arith, rules, string_bytes, yank_pop, Line, Plan, Takes, single, listener_after, listener_after_step, Done, unless_empty, text_in, Asked, edit, other, asked, Course, when, edits, lends, pops, tells, Effect, by_steps, Telling, answers, inserts, hands_out, is_done, course_of, edit_course, effect, lent_plan, popped_plan, other_course, told_as, Came, Does, Edited, popped, State, Command, BadPlace, Reply, eqb-true, option_map, ◌==◌, Range, IsCharBoundary, IsUtf8, Event, InsertChar, InsertStr, Replace, Start, Direction, Forward, Movement, WordAction, is_by_characters, kill_plan, kill_range_plan, removal, side_of, respell, respelled, word_ahead, Entry, Record, entries_after, entries_of, entries_told, IsEdit, WasRefused, pair_step}
+use Rattle.rl_session.proofs.Common.{eqb-false, Stop, Cursors, ℕ, List, Option, Some, None, ◌≡◌, ◌+◌, ◌≤◌, Bool, true, false, [], ◌∷◌, ◌++◌, length, length-append, IfSome, refl, sym, ap, subst, ◌∙◌, arith, rules, string_bytes, yank_pop, Line, Plan, Takes, single, listener_after, listener_after_step, Done, unless_empty, text_in, Asked, edit, other, asked, Course, when, edits, lends, pops, tells, Effect, by_steps, Telling, answers, inserts, hands_out, is_done, course_of, edit_course, effect, lent_plan, popped_plan, other_course, told_as, Came, Does, Edited, popped, State, Command, BadPlace, Reply, eqb-true, option_map, ◌==◌, Range, IsCharBoundary, IsUtf8, Event, InsertChar, InsertStr, Replace, Start, Direction, Forward, Freshness, Movement, WordAction, is_by_characters, kill_plan, kill_range_plan, removal, side_of, respell, respelled, word_ahead, Entry, Record, entries_after, entries_of, entries_told, IsEdit, WasRefused, pair_step}
 use Rattle.rl_base.specs.KillRing.{yank}
 use Rattle.rl_line.specs.Plan.{Step as PlanStep}
 use Rattle.rl_line.specs.Ranges.{killed}
@@ -10,6 +10,7 @@ use Rattle.rl_session.proofs.Sessions.IdleLemmas.{NoneStarts-edit_word, NoneStar
 use Rattle.rl_base.specs.Event.{Delete}
 use Rattle.rl_line.specs.Record.{record_step}
 use Rattle.rl_line.proofs.Records.JoinLemmas.{after-Delete-nothing, after-InsertStr-nothing, fresh-Delete-nothing, fresh-InsertStr-nothing}
+use Rattle.rl_line.proofs.Records.LastLemmas.{told-none}
 use Rattle.rl_line.proofs.Plans.LetterCaseLemmas.{respelled-none}
 use Rattle.rl_session.proofs.Runs.CursorLemmas.{AddedAlone, IsLone, Quiet, added-alone, ends_at, next, recorded-next}
 use Rattle.rl_session.proofs.Sessions.PairLemmas.{Done-changes}
@@ -82,15 +83,16 @@ effect-changes old (asks.Truncate len) says.Done = tt
 effect-changes old (asks.Undo n) (says.Answer a) = tt
 effect-changes old asks.Redo (says.Answer a) = tt
 effect-changes old (asks.Keep t) says.Done = tt
+effect-changes old asks.Part says.Done = tt
 effect-changes old command reply = course-changes (asked old.line command) old command reply (asks-changes old.line command)
 
 -- ---- an event of an empty text
-next-nothing : (event : Event) (es : List Entry) (b a : ℕ) → IsLone event [] → entries_of event ≡ [] → next event es b a ≡ es
-next-nothing (InsertChar i c) es b a lone none = absurd (never-char i c none)
-next-nothing (InsertStr i s) es b a lone none = grind (arith, empty-inserted, fresh-InsertStr-nothing, after-InsertStr-nothing)
-next-nothing (Delete i s side) es b a lone none = grind (arith, empty-deleted, fresh-Delete-nothing, after-Delete-nothing)
-next-nothing (Replace i s t) es b a lone none = absurd (never-replaced i s t none)
-next-nothing _ es b a lone none = absurd lone
+next-nothing : (was : Freshness) (event : Event) (es : List Entry) (b a : ℕ) → IsLone event [] → entries_of event ≡ [] → next was event es b a ≡ es
+next-nothing was (InsertChar i c) es b a lone none = absurd (never-char i c none)
+next-nothing was (InsertStr i s) es b a lone none = grind (arith, empty-inserted, fresh-InsertStr-nothing, after-InsertStr-nothing, told-none)
+next-nothing was (Delete i s side) es b a lone none = grind (arith, empty-deleted, fresh-Delete-nothing, after-Delete-nothing, told-none)
+next-nothing was (Replace i s t) es b a lone none = absurd (never-replaced i s t none)
+next-nothing was _ es b a lone none = absurd lone
 
 one_longer : (es ks : List Entry) (e : Entry) → ks ≡ es → ks ≡ es ++ e ∷ [] → ⊥
 one_longer es ks e same more = let n = ap length (sym same ∙ more) in let m = length-append es (e ∷ []) in omega (arith, n, m)
@@ -130,11 +132,11 @@ respelled-quietly line r e action (Some word) u adds = from (length made == 0) r
         let after = word.start + length made in
         let mid = listener_after_step record_step c (gone, c) r in
         let first : mid.recorded ≡ r.recorded =
-        recorded-next c gone c [] r tt ∙ ap (λ f. entries_told f c c (entries_after gone r.recorded)) (fresh-Delete-nothing r.recorded word.start (text_in line word) Forward none)
-        ∙ after-Delete-nothing r.recorded word.start (text_in line word) Forward none in
+        recorded-next c gone c [] r tt ∙ ap (λ f. entries_told f c c (entries_after r.fresh gone r.recorded)) (fresh-Delete-nothing r.fresh r.recorded word.start (text_in line word) Forward none)
+        ∙ told-none r.fresh c c _ ∙ after-Delete-nothing r.fresh r.recorded word.start (text_in line word) Forward none in
         let second : (listener_after_step record_step c (come, after) mid).recorded ≡ mid.recorded =
-        recorded-next c come after [] mid tt ∙ ap (λ f. entries_told f c after (entries_after come mid.recorded)) (fresh-InsertStr-nothing mid.recorded word.start made empty)
-        ∙ after-InsertStr-nothing mid.recorded word.start made empty in
+        recorded-next c come after [] mid tt ∙ ap (λ f. entries_told f c after (entries_after mid.fresh come mid.recorded)) (fresh-InsertStr-nothing mid.fresh mid.recorded word.start made empty)
+        ∙ told-none mid.fresh c after _ ∙ after-InsertStr-nothing mid.fresh mid.recorded word.start made empty in
         absurd (one_longer r.recorded _ e (second ∙ first) adds)
     from false h = record {
       quiet = (λ none. refl, tt, (λ none. absurd (eqb-false (length made) 0 h (empty-inserted word.start made none)), tt, tt));

@@ -10,7 +10,7 @@ use rl_base::{Direction, Movement, RepeatCount, WordAction};
 // What a command does once the ring was reset. The last call tells the proof what holds after every command.
 macro_rules! anew {
     ($session:ident, $does:expr) => {{
-        $session.part();
+        $session.reset_ring();
         let reply = $does;
         $session.ends();
         reply
@@ -191,6 +191,14 @@ impl Session {
         ensures { Step self.old (Command.Indent movement.now amount dedent) result self.new }
     {
         anew!(self, self.do_indent(movement, amount, dedent))
+    }
+
+    /// Parts the changes that come from those before: the next change joins nothing, so that it is undone alone, and the next
+    /// kill begins a text. Text, cursor, groups and what was undone stay.
+    pub fn part(&mut self) -> Reply
+        ensures { Step self.old Command.Part result self.new }
+    {
+        anew!(self, self.do_part())
     }
 
     /// Opens a group of changes. Says how many entries the record had. `NoMemory` leaves the record as it was.

@@ -34,6 +34,14 @@ impl Session {
     }
 
     #[tactic(auto, using(crate::proofs::Sessions::SessionLemmas::resting))]
+    pub(super) fn do_part(&mut self) -> Reply
+        ensures { Does self.old Command.Part result self.new }
+    {
+        self.pair.changes.part();
+        Reply::Done
+    }
+
+    #[tactic(auto, using(crate::proofs::Sessions::SessionLemmas::resting))]
     pub(super) fn do_begin(&mut self) -> Reply
         ensures { Does self.old Command.Begin result self.new }
     {

@@ -272,12 +272,16 @@ fn told(s: &mut Session, name: &str, rest: &mut Words) -> Result<String, Fault> 
             assert_eq!(s.delete(n), Ok(goes.is_some()));
             Ok(handed(goes.as_deref()))
         }
+        "part" => {
+            s.part();
+            Ok("ok".to_string())
+        }
         "begin" => {
             let mark = s.entries();
             s.begin_group().map(|()| format!("mark:{mark}"))
         }
         "where" => {
-            s.end_kills();
+            s.set_pos(s.pos())?;
             let at = s.find_cursor();
             Ok(format!("at:{}:{}", at.line, at.column))
         }

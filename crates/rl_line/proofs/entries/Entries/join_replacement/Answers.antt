@@ -1,11 +1,16 @@
-use Rattle.rl_line.proofs.Common.{arith, err_from_is_err_and, Replace, TakesIn, entry_of, subst, ◌∙◌}
-use Rattle.rl_line.proofs.Records.JoinLemmas.{joins, joins-not, joins-nothing, stays-err, step-Replace}
+use Rattle.rl_line.proofs.Common.{arith, err_from_is_err_and, Replace, TakesIn, entry_of, subst, sym, ◌∙◌}
+use Rattle.rl_line.proofs.Records.JoinLemmas.{joins, joins-not, joins-none, joins-nothing, stays-err, step-Replace}
 use Rattle.rl_line.proofs.entries.Entries.join_replacement.Goals as goal
 
 pub returns-then-self-eq0-clause-ok : goal.returns-then-self-eq0-clause-ok
 returns-then-self-eq0-clause-ok c =
     joins-nothing (Replace c.args.idx c.args.old.now c.args.new.now) c.args.self.now _ c.self.inside.recorded c.self.inside.fresh
     (step-Replace c.args.self.now c.args.idx c.args.old.now c.args.new.now) c.self.view_is c.if-self-eq0.true
+
+pub returns-then-is_parted-clause-ok : goal.returns-then-is_parted-clause-ok
+returns-then-is_parted-clause-ok c =
+    joins-none (Replace c.args.idx c.args.old.now c.args.new.now) c.args.self.now _ c.self.inside.recorded c.self.inside.fresh
+    (step-Replace c.args.self.now c.args.idx c.args.old.now c.args.new.now) c.self.view_is (sym c.is_parted.ensures ∙ c.if-is_parted.true)
 
 pub returns-in_err-fresh-clause-err : goal.returns-in_err-fresh-clause-err
 returns-in_err-fresh-clause-err c =
@@ -16,12 +21,12 @@ returns-in_err-fresh-clause-err c =
 pub returns-in_default-clause-ok : goal.returns-in_default-clause-ok
 returns-in_default-clause-ok c =
     joins-not (Replace c.args.idx c.args.old.now c.args.new.now) c.args.self.now c.self.inside.list.items c.self.inside.recorded c.self.inside.fresh c.index_mut.result.now c.join_replacement.new.self
-    (step-Replace c.args.self.now c.args.idx c.args.old.now c.args.new.now) c.self.invariant c.self.view_is (omega (arith, c.if-self-eq0.false)) c.index_mut.ensures.value
+    (step-Replace c.args.self.now c.args.idx c.args.old.now c.args.new.now) c.self.invariant c.self.view_is (sym c.is_parted.ensures ∙ c.if-is_parted.false) (omega (arith, c.if-self-eq0.false)) c.index_mut.ensures.value
     (subst (TakesIn (Replace c.args.idx c.args.old.now c.args.new.now) (entry_of c.index_mut.result.now) (entry_of c.join_replacement.new.self)) c.in_default.is c.in_ok-fresh.ensures.ok)
 
 pub returns-clause-ok : goal.returns-clause-ok
 returns-clause-ok c =
     c.settle.ensures
     ∙ joins (Replace c.args.idx c.args.old.now c.args.new.now) c.args.self.now c.self.inside.list.items c.self.inside.recorded c.self.inside.fresh c.in-Some.fresh c.index_mut.result.now c.join_replacement.new.self
-    (step-Replace c.args.self.now c.args.idx c.args.old.now c.args.new.now) c.self.invariant c.self.view_is (omega (arith, c.if-self-eq0.false)) c.index_mut.ensures.value
+    (step-Replace c.args.self.now c.args.idx c.args.old.now c.args.new.now) c.self.invariant c.self.view_is (sym c.is_parted.ensures ∙ c.if-is_parted.false) (omega (arith, c.if-self-eq0.false)) c.index_mut.ensures.value
     (subst (TakesIn (Replace c.args.idx c.args.old.now c.args.new.now) (entry_of c.index_mut.result.now) (entry_of c.join_replacement.new.self)) c.in-Some.is c.in_ok-fresh.ensures.ok)
