@@ -7,7 +7,7 @@ use std::ops::Range;
 methods! {
     /// Deletes what a movement covers. If `WholeLine`, `BeginningOfLine` or `EndOfLine` finds nothing in the line, that is
     /// a newline. The ring keeps it, except by `BackwardChar` and `ForwardChar`. Consecutive kills become one text of
-    /// the ring. False if there is nothing.
+    /// the ring. A new text goes after the newest, so only a full ring loses one, its oldest. False if there is nothing.
     ///
     /// # Errors
     ///
@@ -79,6 +79,12 @@ impl Session {
     /// Ends a run of kills, and does nothing else: the next kill begins a new text of the ring.
     pub fn end_kills(&mut self) {
         let answer = self.handle.end_kills();
+        debug_assert!(answer >= 0);
+    }
+
+    /// Drops all texts of the ring, and frees them. The next kill begins a new text, and a yank finds nothing.
+    pub fn clear_ring(&mut self) {
+        let answer = self.handle.clear_ring();
         debug_assert!(answer >= 0);
     }
 

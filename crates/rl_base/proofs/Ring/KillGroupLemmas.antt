@@ -250,29 +250,32 @@ ring-empty rule ds =
     let r = done_by 0 rule ds in
     slice_get_past r.slots r.index (omega (arith, held.ring.within, held.size_is))
 
--- a ring keeps its size
-pub killed_as-size : (size : ℕ) (last : Action) (text : List ℕ) (mode : Mode) (r : Ring) → (killed_as size last text mode r).size ≡ r.size
-killed_as-size zero last text mode r = refl
-killed_as-size (suc n) Kill text mode r = refl
-killed_as-size (suc n) (Yank m) text mode r = refl
-killed_as-size (suc n) Other text mode r = refl
+-- what a ring keeps: its size and its rule
+abbrev pub lasts : Ring → ℕ × NewKill
+lasts r = (r.size, r.rule)
 
-pub ring_step-size : (r : Ring) (event : Event) → (ring_step r event).size ≡ r.size
-ring_step-size r (Delete i text side) = by r.killing
+pub killed_as-lasts : (size : ℕ) (last : Action) (text : List ℕ) (mode : Mode) (r : Ring) → lasts (killed_as size last text mode r) ≡ lasts r
+killed_as-lasts zero last text mode r = refl
+killed_as-lasts (suc n) Kill text mode r = refl
+killed_as-lasts (suc n) (Yank m) text mode r = refl
+killed_as-lasts (suc n) Other text mode r = refl
+
+pub ring_step-lasts : (r : Ring) (event : Event) → lasts (ring_step r event) ≡ lasts r
+ring_step-lasts r (Delete i text side) = by r.killing
   where
-    by : (b : Bool) → (after_deletion b text side r).size ≡ r.size
+    by : (b : Bool) → lasts (after_deletion b text side r) ≡ lasts r
     by false = refl
-    by true = killed_as-size r.size r.last text (side_mode side) r
-ring_step-size r Start = refl
-ring_step-size r Stop = refl
-ring_step-size r (InsertChar i c) = refl
-ring_step-size r (InsertStr i s) = refl
-ring_step-size r (Replace i s t) = refl
-ring_step-size r (Cursors b a) = refl
+    by true = killed_as-lasts r.size r.last text (side_mode side) r
+ring_step-lasts r Start = refl
+ring_step-lasts r Stop = refl
+ring_step-lasts r (InsertChar i c) = refl
+ring_step-lasts r (InsertStr i s) = refl
+ring_step-lasts r (Replace i s t) = refl
+ring_step-lasts r (Cursors b a) = refl
 
-pub lent-size : (o : Option (List ℕ)) (r : Ring) → (lent o r).size ≡ r.size
-lent-size None r = refl
-lent-size (Some s) r = refl
+pub lent-lasts : (o : Option (List ℕ)) (r : Ring) → lasts (lent o r) ≡ lasts r
+lent-lasts None r = refl
+lent-lasts (Some s) r = refl
 
 -- kills after no kill are one group
 pub kills-group : (ks : List Doing) (text : List ℕ) (gs : List (List ℕ)) (b : Bool) → AllKills ks
