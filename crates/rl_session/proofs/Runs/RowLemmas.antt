@@ -103,7 +103,6 @@ Step-size old new command reply s = ap (λ (p : Options × (ℕ × NewKill)). p.
 pub Step-rule : (old new : State) (command : Command) (reply : Reply) → Step old command reply new → new.pair.ring.rule ≡ old.pair.ring.rule
 Step-rule old new command reply s = ap (λ (p : Options × (ℕ × NewKill)). p.1.1) (Step-lasting old new command reply s)
 
-
 -- with no bound among the options nothing is forgotten
 pub within_bound-none : (s : State) → s.options.bound ≡ no_bound → within_bound s ≡ s
 within_bound-none s none = grind (arith, fitting-stay)
