@@ -392,8 +392,9 @@ int lodvarn_change_case(lodvarn *s, enum lodvarn_case to);
  * cursor to its end. A kill that removes nothing does not end such a run. Any other command does, so that the next kill
  * begins a new text: also a motion, lodvarn_copy, lodvarn_keep, lodvarn_yank, lodvarn_undo, a begin or end of a group,
  * a kill by clusters, and a command that had nothing to do. These do not: lodvarn_kill_range, lodvarn_set_options, the
- * calls that tell what changed, the reads, and a call that returns NOT_UTF8, NO_SUCH_NUMBER or TOO_SMALL. Returns
- * NOTHING if there is nothing. Errors: NO_MEMORY. */
+ * calls that tell what changed, the reads, and a call that returns NOT_UTF8, NO_SUCH_NUMBER or TOO_SMALL. A new text
+ * goes after the newest, also after a lodvarn_yank_pop, so only a full ring loses one, its oldest. Returns NOTHING if
+ * there is nothing. Errors: NO_MEMORY. */
 int lodvarn_kill(lodvarn *s, lodvarn_movement movement);
 
 /* Kills what stands in a range, wherever the cursor is. The cursor goes to its start. Returns NOTHING if it is empty,
@@ -403,6 +404,10 @@ int lodvarn_kill_range(lodvarn *s, lodvarn_range range, enum lodvarn_direction d
 /* Puts a text into the ring, as a kill of its own, whatever was done before: the next lodvarn_yank gives it, and a kill
  * after this begins another text. Text, cursor and record stay. A ring of size 0 keeps nothing. Errors: NO_MEMORY. */
 int lodvarn_keep(lodvarn *s, const char *text, size_t len);
+
+/* Drops all texts of the ring, and frees them; the bytes are not overwritten. The next kill begins a new text, and
+ * lodvarn_yank_pop finds nothing. No command: all else stays. */
+int lodvarn_clear_ring(lodvarn *s);
 
 /* Copies what a movement covers to out, a buffer of cap bytes, and sets *len to its length. A command: it ends a run of
  * kills. Returns NOTHING if there is nothing. Errors: TOO_SMALL with the length that is needed in *len. */

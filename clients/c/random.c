@@ -118,6 +118,17 @@ static void add_yank_pop(struct typed *t) {
     add(length(t) + older.len <= options.limit ? "yankpop" : "where");
 }
 
+/* How far the current text of the ring is from the newest. A script puts a new kill after the current one and a session
+ * after the newest, so where these differ no line kills or keeps a text. */
+static size_t popped;
+
+/* Follows the line, or replaces it by one that starts over. */
+static void see_ring(struct typed *t) {
+    if (line[0] == 'k' && popped) { line[0] = 0; add("text "); add_text(); }
+    if (!strcmp(line, "yankpop") && lodvarn_last_was_yank(t->s)) popped = (popped + 1) % lodvarn_ring_count(t->s);
+    if (!strncmp(line, "text ", 5)) popped = 0;
+}
+
 /* Any other line. */
 static void add_other(struct typed *t) {
     static const char *const plain[] = {"tchars", "begin", "begin", "end", "endone", "endone", "part", "redo",
@@ -160,6 +171,7 @@ int main(int argc, char **argv) {
     typed_begin(&t);
     for (long i = 0; i < lines; i++) {
         make_line(&t);
+        see_ring(&t);
         fprintf(script, "%s\n", line);
         typed_line(&t, line, answers);
         if (typed_reads_agree(&t)) continue;

@@ -325,6 +325,7 @@ static int frugal_step(unsigned which) {
     CALL(-!(lodvarn_can_undo(s) && !lodvarn_can_redo(s) && !lodvarn_level(s) && !lodvarn_last_was_yank(s)));
     CALL(-!(lodvarn_ring_count(s) && lodvarn_count_reports(s) && lodvarn_version() && lodvarn_answer_name(0)));
     CALL(lodvarn_ring_text(s, 0, &view));
+    CALL(lodvarn_clear_ring(s));
     CALL(lodvarn_find_line(s, 1, &covered));
     CALL(lodvarn_find_cursor(s, &position));
     CALL(lodvarn_line_at(s, 1, &n));

@@ -317,8 +317,8 @@ static void a_yank_is_popped(void) {
     DOES(NOTHING, lodvarn_yank_pop(s), "|abxyz#xyz#c");
     lodvarn_keep(s, "", 0);
     lodvarn_keep(s, "c", 1);
-    DOES(DONE, lodvarn_yank(s, 1), "c|abxyz#c##xyz");
-    DOES(DONE, lodvarn_yank_pop(s), "|abxyz##xyz#c");
+    DOES(DONE, lodvarn_yank(s, 1), "c|abxyz#c##c#xyz");
+    DOES(DONE, lodvarn_yank_pop(s), "|abxyz##c#xyz#c");
     open_at("|ab", 64);
     lodvarn_keep(s, "xy", 2);
     lodvarn_keep(s, "c", 1);
@@ -344,6 +344,17 @@ static void the_ring_has_what_was_killed_and_kept(void) {
     DOES(DONE, lodvarn_keep(s, "né", 3), "|#né#one #two");
     DOES(DONE, lodvarn_keep(s, NULL, 0), "|##né#one #two");
     SEE(lodvarn_entries(s) == 2 && lodvarn_yank_pop(s) == LODVARN_NOTHING);
+    DOES(DONE, lodvarn_clear_ring(s), "|");
+    SEE(lodvarn_yank(s, 1) == LODVARN_NOTHING && lodvarn_yank_pop(s) == LODVARN_NOTHING && lodvarn_entries(s) == 2);
+    open_at("one two|", 64);
+    lodvarn_kill(s, WORD_BACK);
+    DOES(DONE, lodvarn_clear_ring(s), "one |");
+    DOES(DONE, lodvarn_kill(s, WORD_BACK), "|#one ");
+    open_at("|", 64);
+    for (const char *c = "abcd"; *c; c++) lodvarn_keep(s, c, 1);
+    DOES(DONE_AT_END, lodvarn_yank(s, 1), "d|#d#c#b#a");
+    SEE(lodvarn_yank_pop(s) == LODVARN_DONE_AT_END && lodvarn_yank_pop(s) == LODVARN_DONE_AT_END);
+    DOES(DONE, lodvarn_kill(s, WORD_BACK), "|#b#d#c#b#a");
 }
 
 static void groups_are_closed(void) {

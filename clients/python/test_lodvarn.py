@@ -193,6 +193,16 @@ class Values(Scripts):
         session.begin_group()
         self.assertEqual((session.entries, session.level), (1, 1))
 
+    def test_a_kill_goes_after_the_newest(self):
+        session = Session()
+        for text in "abcd":
+            session.keep(text)
+        self.assertTrue(session.yank() and session.yank_pop() and session.yank_pop())
+        session.keep("e")
+        self.assertEqual(session.ring, list("edcba"))
+        session.clear_ring()
+        self.assertEqual((session.ring, session.yank(), session.text), ([], False, "b"))
+
     def test_scripts(self):
         class Long(bytes):
             """Bytes that say to be more than they are."""

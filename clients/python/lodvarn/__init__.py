@@ -619,6 +619,10 @@ class Session:
         """Puts a text into the ring, as a kill by itself would: a yank gives it, and a kill after it begins another."""
         self._do(lib.py_keep, *_sent(text))
 
+    def clear_ring(self) -> None:
+        """Drops all texts of the ring, and frees them. The next kill begins a new one, and a yank finds nothing."""
+        self._do(lib.py_clear_ring)
+
     def copy(self, movement: Movement) -> Optional[str]:
         """Returns the text that a movement covers, or None if it covers nothing. A command: it ends a run of kills."""
         covered = self.covers(movement)

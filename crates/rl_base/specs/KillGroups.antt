@@ -3,13 +3,15 @@ use Rattle.std.specs.Prelude.{ℕ, ⊤, Bool, true, false, List, [], ◌∷◌}
 use Rattle.rl_base.specs.declared.kill_ring.Mode.{Mode}
 use Rattle.rl_base.specs.declared.listeners.Direction.{Direction}
 use Rattle.rl_base.specs.Event.{Event, InsertChar, InsertStr, Delete, Replace, Start, Stop, Cursors}
-use Rattle.rl_base.specs.KillRing.{Ring, joined, side_mode, killed, reset, yanked, ring_step}
+use Rattle.rl_base.specs.KillRing.{Ring, joined, side_mode, killed, reset, yanked, yank_popped, cleared, ring_step}
 
--- what is done with a ring, except yank_pop
+-- what is done with a ring
 pub data Doing : Type 0 where
   Kills : (text : List ℕ) (mode : Mode) → Doing
   Resets : Doing
   Yanks : Doing
+  Pops : Doing
+  Clears : Doing
   Hears : (event : Event) → Doing
 
 -- the ring after one of these
@@ -17,6 +19,8 @@ abbrev pub ring_do : Doing → Ring → Ring
 ring_do (Kills text mode) r = killed text mode r
 ring_do Resets r = reset r
 ring_do Yanks r = yanked r
+ring_do Pops r = yank_popped r
+ring_do Clears r = cleared r
 ring_do (Hears event) r = ring_step r event
 
 -- the ring after all of them, in order
@@ -24,7 +28,7 @@ abbrev pub ring_done : List Doing → Ring → Ring
 ring_done [] r = r
 ring_done (d ∷ ds) r = ring_done ds (ring_do d r)
 
--- every group there was, the newest first; whether the next kill still belongs to the newest; and whether a kill is on
+-- every group there was since the ring was cleared last, the newest first; whether the next kill still belongs to the newest; and whether a kill is on
 pub record Groups : Type 0 where
   pub groups : List (List ℕ)
   pub growing : Bool
@@ -59,11 +63,13 @@ group_step g (InsertStr _ _) = g
 group_step g (Replace _ _ _) = g
 group_step g (Cursors _ _) = g
 
--- the groups after one doing: a reset or a yank closes the newest
+-- the groups after one doing: a reset or a yank closes the newest, and a yank_pop finds it closed
 abbrev pub group_do : Doing → Groups → Groups
 group_do (Kills text mode) g = with_kill text mode g
 group_do Resets g = record g { growing = false }
 group_do Yanks g = record g { growing = false }
+group_do Pops g = g
+group_do Clears g = record g { groups = []; growing = false }
 group_do (Hears event) g = group_step g event
 
 -- the groups after all doings, in order
@@ -75,12 +81,24 @@ group_done (d ∷ ds) g = group_done ds (group_do d g)
 abbrev pub groups_of : List Doing → List (List ℕ)
 groups_of ds = (group_done ds no_groups).groups
 
+-- no yank_pop
+abbrev pub NoPops : List Doing → Type 0
+NoPops [] = ⊤
+NoPops (Pops ∷ ds) = ⊥
+NoPops (Kills text mode ∷ ds) = NoPops ds
+NoPops (Resets ∷ ds) = NoPops ds
+NoPops (Yanks ∷ ds) = NoPops ds
+NoPops (Clears ∷ ds) = NoPops ds
+NoPops (Hears event ∷ ds) = NoPops ds
+
 -- kills and nothing else
 abbrev pub AllKills : List Doing → Type 0
 AllKills [] = ⊤
 AllKills (Kills text mode ∷ ds) = AllKills ds
 AllKills (Resets ∷ ds) = ⊥
 AllKills (Yanks ∷ ds) = ⊥
+AllKills (Pops ∷ ds) = ⊥
+AllKills (Clears ∷ ds) = ⊥
 AllKills (Hears event ∷ ds) = ⊥
 
 -- the texts of kills, joined to a first one

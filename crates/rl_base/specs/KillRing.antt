@@ -4,28 +4,38 @@ use Rattle.rl_base.specs.declared.kill_ring.Action.{Action}
 use Rattle.rl_base.specs.declared.kill_ring.Action.TheVariants.{Kill, Yank, Other}
 use Rattle.rl_base.specs.declared.kill_ring.Mode.{Mode}
 use Rattle.rl_base.specs.declared.kill_ring.Mode.TheVariants.{Append, Prepend}
+use Rattle.rl_base.specs.declared.kill_ring.NewKill.{NewKill}
+use Rattle.rl_base.specs.declared.kill_ring.NewKill.TheVariants.{AfterCurrent, AfterNewest}
 use Rattle.rl_base.specs.declared.listeners.Direction.{Direction}
 use Rattle.rl_base.specs.declared.listeners.Direction.TheVariants.{Forward, Backward}
 use Rattle.rl_base.specs.declared.listeners.Refusal.{Refusal}
 use Rattle.rl_base.specs.declared.listeners.Refusal.TheVariants.{NoMemory}
 use Rattle.rl_base.specs.Event.{Event, InsertChar, InsertStr, Delete, Replace, Start, Stop, Cursors}
 
--- the most slots there may be, the slots, the index of the current one, what was done last, and whether a kill is on
+-- the most slots there may be, the rule of new kills, the slots, the indices of the current one and of the one that was begun
+-- last, what was done last, and whether a kill is on
 pub record Ring : Type 0 where
   pub size : ℕ
+  pub rule : NewKill
   pub slots : List (List ℕ)
   pub index : ℕ
+  pub newest : ℕ
   pub last : Action
   pub killing : Bool
 
--- no more slots than the size, and the index is that of a slot, or 0 if there is none
+-- no more slots than the size, and both indices are those of slots, or 0 if there is none
 pub record IsRing (r : Ring) : Type 0 where
   pub within : length r.slots ≤ r.size
   pub at_slot : r.index < max 1 (length r.slots)
+  pub newest_at_slot : r.newest < max 1 (length r.slots)
 
--- a ring without slots
+-- a ring without slots, whose new kills go after the current text
 abbrev pub new_ring : ℕ → Ring
-new_ring size = record { size = size; slots = []; index = 0; last = Other; killing = false }
+new_ring size = record { size = size; rule = AfterCurrent; slots = []; index = 0; newest = 0; last = Other; killing = false }
+
+-- the ring with a rule of new kills
+abbrev pub ruled : NewKill → Ring → Ring
+ruled rule r = record r { rule = rule }
 
 -- a text joined to an old one, at its end or at its front
 abbrev pub joined : Mode → List ℕ → List ℕ → List ℕ
@@ -51,18 +61,27 @@ abbrev pub raised : ℕ → List (List ℕ) → ℕ
 raised index [] = index
 raised index (s ∷ ss) = index + 1
 
--- where the next new slot goes: right after the current one, and from the last place of the ring back to 0
+-- the index right after another, and from the last place of the ring back to 0
 abbrev pub next_index : ℕ → ℕ → List (List ℕ) → ℕ
 next_index size index slots = if index + 1 == size then 0 else raised index slots
+
+-- after which slot a new one goes: the current one, or the newest
+abbrev pub goes_after : NewKill → ℕ → ℕ → ℕ
+goes_after AfterCurrent index newest = index
+goes_after AfterNewest index newest = newest
+
+-- where the next new slot goes
+abbrev pub new_index : Ring → ℕ
+new_index r = next_index r.size (goes_after r.rule r.index r.newest) r.slots
 
 -- a text joined to the current slot
 abbrev pub in_current : Mode → List ℕ → Ring → Ring
 in_current mode text r = record r { slots = join_at r.index mode text r.slots; last = Kill }
 
--- a text in a slot of its own, which becomes the current one
+-- a text in a slot of its own, which becomes the current one and the newest
 abbrev pub in_new_slot : List ℕ → Ring → Ring
 in_new_slot text r =
-    record r { slots = put_at (next_index r.size r.index r.slots) text r.slots; index = next_index r.size r.index r.slots; last = Kill }
+    record r { slots = put_at (new_index r) text r.slots; index = new_index r; newest = new_index r; last = Kill }
 
 -- a kill, by the ring's size and what was done last
 abbrev pub killed_as : ℕ → Action → List ℕ → Mode → Ring → Ring
@@ -82,6 +101,10 @@ Enlarges text mode r = (0 < r.size) × ((0 < length text) ⊎ (length r.slots < 
 -- the ring after something else was done
 abbrev pub reset : Ring → Ring
 reset r = record r { last = Other }
+
+-- the ring without its texts
+abbrev pub cleared : Ring → Ring
+cleared r = record r { slots = []; index = 0; newest = 0; last = Other }
 
 -- what a yank answers: the current slot
 abbrev pub yank : Ring → Option (List ℕ)
@@ -137,13 +160,13 @@ yank_popped r = popped_ring (yank_size r) r
 abbrev pub back_from : ℕ → List (List ℕ) → List (List ℕ)
 back_from i slots = reverse (take (i + 1) slots) ++ reverse (drop (i + 1) slots)
 
--- the slots of a ring, from the current one back
+-- the slots of a ring, from the newest back
 abbrev pub newest_first : Ring → List (List ℕ)
-newest_first r = back_from r.index r.slots
+newest_first r = back_from r.newest r.slots
 
 -- the text that stands so many before the current one, round the ring, if there are as many
 abbrev pub text_back : ℕ → Ring → Option (List ℕ)
-text_back back r = slice_get (newest_first r) back
+text_back back r = slice_get (back_from r.index r.slots) back
 
 -- the end at which a text from a side of the cursor is joined
 abbrev pub side_mode : Direction → Mode

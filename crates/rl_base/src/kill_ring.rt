@@ -1,13 +1,15 @@
 //! The ring of killed texts, from which they are yanked back.
-ghost use Rattle.std.specs.Prelude.{◌≡◌, ◌+◌, ◌<◌, ◌≤◌, Some, None, max, length, slice_get, option_map, MatchOption, IfErr, OnOk, ℕ, List, ◌∷◌, ◌++◌, false, take};
+ghost use Rattle.std.specs.Prelude.{◌≡◌, ◌+◌, ◌<◌, ◌≤◌, Some, None, max, length, slice_get, option_map, MatchOption, IfErr, OnOk, ℕ, List, ◌∷◌, ◌++◌, false, true, take};
 ghost use Rattle.std.specs.String.{string_bytes};
 ghost use Rattle.std.specs.Borrow.{sem};
 ghost use Rattle.rl_base.specs.declared.listeners.Refusal.TheVariants.{NoMemory};
 ghost use Rattle.rl_base.specs.Gathered.{IsPackedAt, texts};
-ghost use Rattle.rl_base.specs.KillRing.{Enlarges, IsRing, PutTakesMemory, Ring, back_from, index_before, join_at, joined, killed, new_ring, newest_first, next_index, put_at, reset, text_back, yank, yank_pop, yank_popped, yank_size, yanked};
+ghost use Rattle.rl_base.specs.KillRing.{Enlarges, IsRing, PutTakesMemory, Ring, back_from, cleared, index_before, join_at, joined, killed, new_index, new_ring, newest_first, next_index, put_at, reset, ruled, text_back, yank, yank_pop, yank_popped, yank_size, yanked};
 ghost use Rattle.rl_base.specs.RingLends.{EndsAs};
 ghost use Rattle.rl_base.specs.declared.kill_ring.Mode.{Mode};
-ghost use Rattle.rl_base.specs.KillGroups.{Doing, Kills, ring_done, group_done, no_groups, groups_of, AllKills, all_joined};
+ghost use Rattle.rl_base.specs.declared.kill_ring.NewKill.{NewKill};
+ghost use Rattle.rl_base.specs.declared.kill_ring.NewKill.TheVariants.{AfterCurrent};
+ghost use Rattle.rl_base.specs.KillGroups.{Doing, Kills, ring_done, group_done, no_groups, groups_of, AllKills, NoPops, all_joined};
 
 use crate::gathered::Gathered;
 use crate::listeners::{DeleteListener, Direction, Refusal};
@@ -21,6 +23,15 @@ pub enum Mode {
     Append,
     /// At its front.
     Prepend,
+}
+
+/// Where a new kill, one that joins no other, puts its text.
+#[derive(Clone, Copy, Debug, PartialEq, Eq)]
+pub enum NewKill {
+    /// Right after the current text. After a `yank_pop` it may replace a newer text though the ring has room.
+    AfterCurrent,
+    /// Right after the newest text (GNU readline, Emacs). Only a full ring loses a text, its oldest.
+    AfterNewest,
 }
 
 // What was done last. A yank keeps the length in bytes of the text that it lent.
@@ -39,9 +50,12 @@ enum Action {
 #[derive(Drop)]
 pub struct KillRing {
     size: usize,
+    rule: NewKill,
     slots: Vec<Gathered>,
     // Where the current text stands.
     index: usize,
+    // Where the text stands that was begun last.
+    newest: usize,
     last: Action,
     killing: bool,
 }
@@ -52,28 +66,37 @@ impl Model for KillRing {
 
     ghost Value = { Ring };
 
-    ghost view = { λ r. record { size = r.size; slots = texts r.slots.items; index = r.index; last = r.last; killing = r.killing } };
+    ghost view = { λ r. record { size = r.size; rule = r.rule; slots = texts r.slots.items; index = r.index; newest = r.newest; last = r.last; killing = r.killing } };
 
-    ghost invariant = { λ r. IsRing (record { size = r.size; slots = texts r.slots.items; index = r.index; last = r.last; killing = r.killing }) };
+    ghost invariant = { λ r. IsRing (record { size = r.size; rule = r.rule; slots = texts r.slots.items; index = r.index; newest = r.newest; last = r.last; killing = r.killing }) };
 }
 
 impl KillRing {
-    /// An empty ring that holds up to `size` texts. It takes no memory.
+    /// An empty ring that holds up to `size` texts, by the rule `NewKill::AfterCurrent`. It takes no memory.
     pub fn new(alloc: Global, size: usize) -> Self
         ensures { result ≡ new_ring size }
     {
         KillRing {
             size,
+            rule: NewKill::AfterCurrent,
             slots: Vec::new(alloc),
             index: 0,
+            newest: 0,
             last: Action::Other,
             killing: false,
         }
     }
 
+    /// Sets where a new kill puts its text. The texts stay.
+    pub fn set_new_kill(&mut self, rule: NewKill)
+        ensures { self.new ≡ ruled rule self.old }
+    {
+        self.rule = rule;
+    }
+
     /// Puts a killed text into the ring (GNU readline: kill-line and its like). Right after another kill it is joined
-    /// to that kill's text, at the side that `dir` says. Else it goes right after the current text, replaces one that
-    /// stands there, and becomes the current one. Refused only if memory is out, and then it changes nothing. Never
+    /// to that kill's text, at the side that `dir` says. Else it goes right after the current text, or after the newest
+    /// if `set_new_kill` chose so, replaces one that stands there, and becomes the current one. Refused only if memory is out, and then it changes nothing. Never
     /// refused if the ring would not grow: at size 0, which keeps no text, and an empty text that needs no new slot.
     #[tactic(auto, using(crate::proofs::Ring::RingLemmas::written))]
     pub fn kill(&mut self, text: &str, dir: Mode) -> Result<(), Refusal>
@@ -88,11 +111,22 @@ impl KillRing {
             join(&mut self.slots, self.index, text, dir)?;
             return Ok(());
         }
-        let index = next_index(self.size, self.index, &self.slots);
+        let index = self.new_index();
         put(&mut self.slots, index, text)?;
         self.index = index;
+        self.newest = index;
         self.last = Action::Kill;
         Ok(())
+    }
+
+    // The index of the next new slot.
+    fn new_index(&self) -> usize
+        ensures { result ≡ new_index self.now }
+    {
+        match self.rule {
+            NewKill::AfterCurrent => next_index(self.size, self.index, &self.slots),
+            NewKill::AfterNewest => next_index(self.size, self.newest, &self.slots),
+        }
     }
 
     /// Says that something other than a kill or a yank was done, so that the next kill begins a new text. The
@@ -101,6 +135,16 @@ impl KillRing {
         ensures { self.new ≡ reset self.old }
     {
         self.last = Action::Other;
+    }
+
+    /// Drops all texts, and frees them. Size and rule stay, and the next kill begins a new text.
+    pub fn clear(&mut self)
+        ensures { self.new ≡ cleared self.old }
+    {
+        self.slots.clear();
+        self.index = 0;
+        self.newest = 0;
+        self.reset();
     }
 
     /// The current text, `None` if there is none (GNU readline: yank): the one that was killed last, or that
@@ -197,7 +241,7 @@ impl DeleteListener for KillRing {
     fn cursors(&mut self, _before: usize, _after: usize) {}
 }
 
-// The index of the next new slot.
+// The index after another, round a ring of a size.
 fn next_index(size: usize, index: usize, slots: &[Gathered]) -> usize
     requires { index < max 1 (length slots.now) }
     ensures { result ≡ next_index size index (texts slots.now) }
@@ -295,14 +339,21 @@ fn text_at(slots: &[Gathered], index: usize) -> Option<&String>
     }
 }
 
-/// Whatever is done with a new ring except `yank_pop`, and if no kill is refused, it holds the latest groups of
-/// consecutive kills, as many as it has room for, and a yank gives the newest. Consecutive kills are one group:
-/// their texts, joined.
+/// Whatever is done with a new ring, and if no kill is refused, it holds the latest groups of consecutive kills since it
+/// was cleared, as many as it has room for. If new kills go after the current text, that is so until the first
+/// `yank_pop`; if they go after the newest, always. A yank gives the newest, right after a kill and as long as there was
+/// no `yank_pop`. Consecutive kills are one group: their texts, joined.
 #[tactic(auto, using(crate::proofs::Ring::KillGroupLemmas::grouping))]
 pub fn ring_holds_groups()
-    ensures last { (size : ℕ) (doings : List Doing) → 0 < size → newest_first (ring_done doings (new_ring size)) ≡ take size (groups_of doings) }
-    ensures newest { (size : ℕ) (doings : List Doing) → 0 < size → yank (ring_done doings (new_ring size)) ≡ slice_get (groups_of doings) 0 }
-    ensures none { (doings : List Doing) → yank (ring_done doings (new_ring 0)) ≡ None }
+    ensures last { (size : ℕ) (rule : NewKill) (doings : List Doing) → 0 < size → (rule ≡ AfterCurrent → NoPops doings)
+        → newest_first (ring_done doings (ruled rule (new_ring size))) ≡ take size (groups_of doings) }
+    ensures current { (size : ℕ) (rule : NewKill) (doings : List Doing) → NoPops doings
+        → (ring_done doings (ruled rule (new_ring size))).index ≡ (ring_done doings (ruled rule (new_ring size))).newest }
+    ensures newest { (size : ℕ) (rule : NewKill) (doings : List Doing) → 0 < size → NoPops doings
+        → yank (ring_done doings (ruled rule (new_ring size))) ≡ slice_get (groups_of doings) 0 }
+    ensures killed { (size : ℕ) (rule : NewKill) (doings : List Doing) → 0 < size → (rule ≡ AfterCurrent → NoPops doings)
+        → (group_done doings no_groups).growing ≡ true → yank (ring_done doings (ruled rule (new_ring size))) ≡ slice_get (groups_of doings) 0 }
+    ensures none { (rule : NewKill) (doings : List Doing) → yank (ring_done doings (ruled rule (new_ring 0))) ≡ None }
     ensures groups { (doings kills : List Doing) (text : List ℕ) (mode : Mode) → (group_done doings no_groups).growing ≡ false → AllKills kills
         → groups_of (doings ++ (Kills text mode ∷ kills)) ≡ all_joined text kills ∷ groups_of doings }
 {}

@@ -6,7 +6,7 @@ ghost use Rattle.rl_base.specs.declared.listeners.Direction.TheVariants.{Forward
 ghost use Rattle.rl_base.specs.Sameness.{IsCopying, IsSameness};
 ghost use Rattle.rl_base.specs.RefuseAt.{event_of};
 
-use crate::kill_ring::Mode;
+use crate::kill_ring::{Mode, NewKill};
 use crate::layout::{GraphemeClusterMode, Position};
 use crate::listeners::{Direction, Refusal};
 use crate::motion::{Anchor, At, CharSearch, Movement, Word, WordAction};
@@ -27,6 +27,7 @@ pub fn equal_values_are_the_same()
     ensures directions { IsSameness ⟦<Direction as PartialEq>⟧.eq }
     ensures refusals { IsSameness ⟦<Refusal as PartialEq>⟧.eq }
     ensures modes { IsSameness ⟦<Mode as PartialEq>⟧.eq }
+    ensures new_kills { IsSameness ⟦<NewKill as PartialEq>⟧.eq }
     ensures widths { IsSameness ⟦<GraphemeClusterMode as PartialEq>⟧.eq }
     ensures positions { IsSameness ⟦<Position as PartialEq>⟧.eq }
     ensures splices { IsSameness ⟦<Splice as PartialEq>⟧.eq }
@@ -47,6 +48,7 @@ pub fn clones_are_the_value()
     ensures directions { IsCopying ⟦<Direction as Clone>⟧.is_clone ⟦<Direction as Clone>⟧.is_infallible }
     ensures refusals { IsCopying ⟦<Refusal as Clone>⟧.is_clone ⟦<Refusal as Clone>⟧.is_infallible }
     ensures modes { IsCopying ⟦<Mode as Clone>⟧.is_clone ⟦<Mode as Clone>⟧.is_infallible }
+    ensures new_kills { IsCopying ⟦<NewKill as Clone>⟧.is_clone ⟦<NewKill as Clone>⟧.is_infallible }
     ensures widths { IsCopying ⟦<GraphemeClusterMode as Clone>⟧.is_clone ⟦<GraphemeClusterMode as Clone>⟧.is_infallible }
     ensures positions { IsCopying ⟦<Position as Clone>⟧.is_clone ⟦<Position as Clone>⟧.is_infallible }
     ensures splices { IsCopying ⟦<Splice as Clone>⟧.is_clone ⟦<Splice as Clone>⟧.is_infallible }

@@ -16,7 +16,7 @@ pub mod testing;
 pub mod watch;
 
 pub use gathered::Gathered;
-pub use kill_ring::{KillRing, Mode};
+pub use kill_ring::{KillRing, Mode, NewKill};
 pub use layout::{GraphemeClusterMode, Layout, Position, Unit};
 pub use listeners::{ChangeListener, DeleteListener, Direction, NoListener, Refusal};
 pub use motion::{Anchor, At, CharSearch, Movement, RepeatCount, Word, WordAction};

@@ -1,9 +1,11 @@
 -- What opening a session, a line, a record and a ring does, choosing a session's options, and beginning anew in it.
 use Rattle.std.specs.Prelude.{◌≡◌, ◌⊎◌, ℕ, Bool, List, length, max, Option, Some}
+use Rattle.rl_base.specs.KillRing.{cleared, new_ring, ruled}
+use Rattle.rl_base.specs.declared.kill_ring.NewKill.TheVariants.{AfterNewest}
 use Rattle.rl_base.specs.declared.layout.GraphemeClusterMode.{GraphemeClusterMode}
 use Rattle.rl_line.specs.Line.{NeedsRoom}
 use Rattle.rl_session.specs.Forgetting.{bounded_by, within_bound}
-use Rattle.rl_session.specs.State.{State, fresh, limited, prompted, restarted, with_mode}
+use Rattle.rl_session.specs.State.{State, fresh, limited, prompted, restarted, with_mode, with_ring}
 use Rattle.rl_ffi.specs.Calls.{Effect, leaves, of_named, of_text, only_where}
 use Rattle.rl_ffi.specs.Listeners.{fresh_listeners}
 use Rattle.rl_ffi.specs.Numbers.{mode_number, mode_of}
@@ -21,10 +23,14 @@ Opens fresh old n new = ((n ≡ Done) × (new ≡ Some fresh)) ⊎ ((n ≡ NoMem
 abbrev pub chosen : GraphemeClusterMode → COptions → State → State
 chosen mode o s = within_bound (bounded_by (record { entries = o.max_entries; bytes = o.max_bytes }) (limited o.limit (prompted o.prompt (with_mode mode s))))
 
--- a session on a text, with the cursor at its end, and its options
+-- a new session on a text, with the cursor at its end, whose new kills go after the newest
+abbrev pub begun : GraphemeClusterMode → COptions → List ℕ → State
+begun mode o text = with_ring (ruled AfterNewest (new_ring o.ring_size)) (fresh text (length text) o.limit o.ring_size mode)
+
+-- the same with its options
 abbrev pub OpensSession : COptions → List ℕ → Effect (Option Held)
 OpensSession o text =
-    of_named (mode_of o.mode) (λ mode. of_text text (Opens (holds.Session (chosen mode o (fresh text (length text) o.limit o.ring_size mode)))))
+    of_named (mode_of o.mode) (λ mode. of_text text (Opens (holds.Session (chosen mode o (begun mode o text)))))
 
 -- a line of a text, with the cursor at its end, which makes reports, of which none waits
 abbrev pub fresh_line : List ℕ → ℕ → Bool → LineAndListeners
@@ -51,6 +57,10 @@ options_shape size s =
       max_entries = s.options.bound.entries;
       max_bytes = s.options.bound.bytes;
     }
+
+-- the texts of the ring go
+abbrev pub without_killed : State → State
+without_killed s = with_ring (cleared s.pair.ring) s
 
 -- a session begins anew, or memory is out, which only a text needs that needs more room
 abbrev pub restarts : List ℕ → Effect State

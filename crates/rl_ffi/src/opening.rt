@@ -5,9 +5,9 @@ ghost use Rattle.std.specs.Str.{IsCharBoundary};
 ghost use Rattle.rl_base.specs.KillRing.{new_ring};
 ghost use Rattle.rl_session.specs.State.{State, no_changes};
 ghost use Rattle.rl_ffi.specs.Answers.{merged, number};
-ghost use Rattle.rl_ffi.specs.Calls.{Tells, Through};
+ghost use Rattle.rl_ffi.specs.Calls.{Tells, Through, becomes};
 ghost use Rattle.rl_ffi.specs.Held.{a_session};
-ghost use Rattle.rl_ffi.specs.Opening.{Opens, OpensLine, OpensSession, chosen, options_shape, restarts, sets_options};
+ghost use Rattle.rl_ffi.specs.Opening.{Opens, OpensLine, OpensSession, chosen, options_shape, restarts, sets_options, without_killed};
 ghost use Rattle.rl_ffi.specs.declared.answers.Answer.{Answer};
 ghost use Rattle.rl_ffi.specs.declared.answers.Answer.TheVariants.{Done};
 ghost use Rattle.rl_ffi.specs.declared.held.Held.{Held};
@@ -19,7 +19,7 @@ use crate::listeners::Listeners;
 use crate::numbers::{mode_number, mode_of};
 use crate::shapes::COptions;
 use crate::texts::text_of;
-use rl_base::{GraphemeClusterMode, KillRing, NoListener, Refusal};
+use rl_base::{GraphemeClusterMode, KillRing, NewKill, NoListener, Refusal};
 use rl_line::{Changeset, LineBuffer};
 use rl_session::{Bound, Session};
 use std::alloc::Global;
@@ -66,6 +66,7 @@ fn open_session(alloc: Global, handle: &mut Handle, options: &COptions, text: &[
     );
     match opened {
         Ok(mut session) => {
+            session.set_new_kill(NewKill::AfterNewest);
             choose(&mut session, mode, options);
             open(alloc, handle, Held::Session(session))
         }
@@ -215,6 +216,17 @@ fn restart(session: &mut Session, text: &[u8]) -> Outcome
         // The end of a text is a boundary of it.
         Err(_) => Err(Answer::NoMemory),
     }
+}
+
+/// `lodvarn_clear_ring`.
+#[unsafe(no_mangle)]
+pub extern "C" fn lodvarn_clear_ring(alloc: Global, s: &mut Handle) -> i32
+    ensures { Through a_session (becomes without_killed) s.old.value result s.new.value }
+{
+    of!(s, alloc, Held::Session(session) => {
+        session.clear_ring();
+        Ok(Answer::Done)
+    })
 }
 
 /// `lodvarn_restart`.

@@ -1,6 +1,6 @@
 //! The ring, with answers that were worked out by hand, and what no clause says: that a call comes back with an
 //! answer.
-use rl_base::{DeleteListener, Direction, KillRing, Mode};
+use rl_base::{DeleteListener, Direction, KillRing, Mode, NewKill};
 use std::alloc::Global;
 use std::process::Abort;
 use std::test::Fail;
@@ -11,6 +11,8 @@ enum Call {
     Kill(&'static str),
     KillBack(&'static str),
     Reset,
+    AfterNewest,
+    Clear,
     Yank(&'static str),
     YankNone,
     Pop(usize, &'static str),
@@ -47,6 +49,8 @@ fn make(ring: &mut KillRing, call: Call) -> Result<bool, Fail> {
         Call::Kill(text) => ring.kill(text, Mode::Append)?,
         Call::KillBack(text) => ring.kill(text, Mode::Prepend)?,
         Call::Reset => ring.reset(),
+        Call::AfterNewest => ring.set_new_kill(NewKill::AfterNewest),
+        Call::Clear => ring.clear(),
         Call::Yank(text) => return Ok(lends(ring.yank(), text)),
         Call::YankNone => return Ok(ring.yank().is_none()),
         Call::Pop(size, text) => {
@@ -161,6 +165,58 @@ fn a_kill_overwrites_the_text_after_the_current_one(rt: HostRuntime) -> Result<(
         (Call::At(2, "d"), Some(1)),
     ];
     goes(&rt, rt.alloc(), 3, STEPS)
+}
+
+#[test]
+fn a_kill_after_the_newest_takes_the_place_of_the_oldest(rt: HostRuntime) -> Result<(), Fail> {
+    const STEPS: &[Step] = &[
+        (Call::AfterNewest, None),
+        (Call::Kill("a"), None),
+        (Call::Reset, None),
+        (Call::Kill("b"), None),
+        (Call::Reset, None),
+        (Call::Kill("c"), None),
+        (Call::Yank("c"), Some(1)),
+        (Call::Pop(1, "b"), Some(1)),
+        (Call::Pop(1, "a"), Some(1)),
+        // there is room: nothing goes
+        (Call::Kill("d"), None),
+        (Call::At(0, "d"), None),
+        (Call::At(1, "c"), None),
+        (Call::At(2, "b"), None),
+        (Call::At(3, "a"), None),
+        (Call::Count(4), None),
+        (Call::Yank("d"), Some(1)),
+        (Call::Pop(1, "c"), Some(1)),
+        // the ring is full: the oldest goes, and a kill joins the newest
+        (Call::Kill("e"), None),
+        (Call::Kill("f"), None),
+        (Call::At(0, "ef"), None),
+        (Call::At(1, "d"), None),
+        (Call::At(2, "c"), None),
+        (Call::At(3, "b"), None),
+        (Call::NoneAt(4), None),
+    ];
+    goes(&rt, rt.alloc(), 4, STEPS)
+}
+
+#[test]
+fn a_cleared_ring_begins_anew(rt: HostRuntime) -> Result<(), Fail> {
+    const STEPS: &[Step] = &[
+        (Call::Kill("a"), None),
+        (Call::Reset, None),
+        (Call::Kill("b"), None),
+        (Call::Clear, None),
+        (Call::YankNone, None),
+        // it joins nothing
+        (Call::Kill("c"), None),
+        (Call::Count(1), None),
+        (Call::Yank("c"), Some(1)),
+        (Call::Clear, None),
+        (Call::PopNone, None),
+        (Call::Count(0), None),
+    ];
+    goes(&rt, rt.alloc(), 2, STEPS)
 }
 
 #[test]

@@ -1,6 +1,7 @@
-//! The law of consecutive kills in a session.
+//! The laws of kills in a session.
 ghost use Rattle.std.specs.Prelude.{◌≡◌, ◌++◌, ◌∷◌, [], ◌<◌, List, map};
 ghost use Rattle.rl_base.specs.declared.motion.Movement.{Movement};
+ghost use Rattle.rl_session.specs.Commands.{Step};
 ghost use Rattle.rl_session.specs.KillRuns.{IsNoKill, AllDirected, AllKill, AnyTook, NoneRefused, GivenBack};
 ghost use Rattle.rl_session.specs.Run.{Row, Run, before_last, replies_of};
 ghost use Rattle.rl_session.specs.State.{Stands, State};
@@ -23,4 +24,10 @@ pub fn kills_then_yank()
         → run.rows ≡ kills ++ (back ∷ []) → back.command ≡ Yank 1 → IsNoKill old.pair.ring.last
         → AllKill kills → AnyTook (replies_of kills) → NoneRefused replies
         → GivenBack old back.before new }
+{}
+
+/// No command changes where a new kill puts its text, nor how many texts the ring has room for.
+pub fn commands_keep_the_rule_of_the_ring()
+    ensures rule { (old new : State) (command : Command) (reply : Reply) → Step old command reply new → new.pair.ring.rule ≡ old.pair.ring.rule }
+    ensures size { (old new : State) (command : Command) (reply : Reply) → Step old command reply new → new.pair.ring.size ≡ old.pair.ring.size }
 {}

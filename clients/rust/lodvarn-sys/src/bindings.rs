@@ -240,6 +240,9 @@ extern "C" {
     ) -> ::std::os::raw::c_int;
 }
 extern "C" {
+    pub fn lodvarn_clear_ring(s: *mut lodvarn) -> ::std::os::raw::c_int;
+}
+extern "C" {
     pub fn lodvarn_copy(
         s: *mut lodvarn,
         movement: lodvarn_movement,

@@ -188,6 +188,7 @@ impl Handle<lodvarn> {
 
     calls! {
         fn part(&mut self) = lodvarn_part();
+        fn clear_ring(&mut self) = lodvarn_clear_ring();
         fn copy(&mut self, movement: Movement, out: &mut [u8], len: &mut usize)
             = lodvarn_copy(movement.passed(), out.as_mut_ptr().cast(), out.len(), len);
         fn watch(&mut self, reports: usize, text_bytes: usize)

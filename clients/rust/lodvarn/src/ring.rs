@@ -7,7 +7,7 @@ use std::ops::Range;
 methods! {
     /// Deletes what a movement covers. If `WholeLine`, `BeginningOfLine` or `EndOfLine` finds nothing in the line, that is
     /// a newline. The ring keeps it, except by `BackwardChar` and `ForwardChar`. Consecutive kills become one text of
-    /// the ring. False if there is nothing.
+    /// the ring. A new text goes after the newest, so only a full ring loses one, its oldest. False if there is nothing.
     ///
     /// # Errors
     ///
@@ -75,6 +75,12 @@ methods! {
 }
 
 impl Session {
+    /// Drops all texts of the ring, and frees them. The next kill begins a new text, and a yank finds nothing.
+    pub fn clear_ring(&mut self) {
+        let answer = self.handle.clear_ring();
+        debug_assert!(answer >= 0);
+    }
+
     /// The text that a movement covers, or `None` if it covers nothing. The ring does not keep it: that is
     /// [`keep`](Session::keep). This is a command: a kill after it begins a new text of the ring.
     ///

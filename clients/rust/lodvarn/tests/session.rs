@@ -72,6 +72,23 @@ fn a_session_begins_anew() -> Result<(), Fault> {
 }
 
 #[test]
+fn a_kill_goes_after_the_newest() -> Result<(), Fault> {
+    let mut session = opened("");
+    for text in ["a", "b", "c"] {
+        session.keep(text)?;
+    }
+    session.yank(1)?;
+    assert_eq!(session.yank_pop(), Ok(Inserted::AtEnd));
+    session.keep("d")?;
+    let texts: Vec<_> = (0..).map_while(|back| session.ring_text(back)).collect();
+    assert_eq!(texts, ["d", "c", "b", "a"]);
+    session.clear_ring();
+    assert_eq!(session.ring_count(), 0);
+    stands(&session, "b", 1);
+    Ok(())
+}
+
+#[test]
 fn what_is_refused_says_why_and_changes_nothing() {
     for pos in [1, 3] {
         let opened = Session::builder().text("é").pos(pos).open();

@@ -1,5 +1,5 @@
 -- What a kill makes of a ring.
-use Rattle.rl_base.proofs.Common.{◌≡◌, ℕ, ◌+◌, ◌<◌, ◌≤◌, zero, suc, Bool, true, false, cond, List, [], ◌∷◌, ◌++◌, length, set, get_or, Result, Ok, Err, OnOk, IfErr, Some, option_map, refl, ap, ◌∙◌, ◌⊎◌, inl, inr, arith, length-append, eqb-true, eqb-false, length-set, max, ◌==◌, slice_get, slice_set, Mode, Refusal, NoMemory, Gathering, IsPackedAt, texts, Ring, raised, next_index, put_at, join_at, in_new_slot, IsRing, map-set, sym, set-get_or, slice_get-get_or, get_or-map, get_or-set_same, length-map, set_past, cond-false, ne_eqb}
+use Rattle.rl_base.proofs.Common.{◌≡◌, ℕ, ◌+◌, ◌<◌, ◌≤◌, zero, suc, Bool, true, false, cond, List, [], ◌∷◌, ◌++◌, length, set, get_or, Result, Ok, Err, OnOk, IfErr, Some, option_map, refl, ap, ◌∙◌, ◌⊎◌, inl, inr, arith, length-append, eqb-true, eqb-false, length-set, max, ◌==◌, slice_get, slice_set, Mode, Refusal, NoMemory, Gathering, IsPackedAt, texts, Ring, raised, next_index, put_at, join_at, in_new_slot, IsRing, map-set, sym, set-get_or, slice_get-get_or, get_or-map, get_or-set_same, length-map, set_past, cond-false, ne_eqb, goes_after, new_index, NewKill, AfterCurrent, AfterNewest}
 use Rattle.rl_base.specs.KillRing.{joined}
 
 -- joining writes the joined text over the slot; where there is none, it leaves all as they are
@@ -55,12 +55,20 @@ length-put slots i size text h k le = through (i == length slots) refl
 pub put-over : (slots : List (List ℕ)) (i : ℕ) (text : List ℕ) → i < length slots → put_at i text slots ≡ slice_set slots i text
 put-over slots i text h = cond-false (i == length slots) _ _ (ne_eqb i (length slots) (λ e. absurd (omega arith)))
 
+-- also in a ring
+pub new_index-is : (r : Ring) → 0 < r.size → IsRing r → Next r.size (goes_after r.rule r.index r.newest) r.slots (new_index r)
+new_index-is r some h = next_index-is r.size (goes_after r.rule r.index r.newest) r.slots some h.within (at r.rule)
+  where
+    at : (rule : NewKill) → goes_after rule r.index r.newest < max 1 (length r.slots)
+    at AfterCurrent = h.at_slot
+    at AfterNewest = h.newest_at_slot
+
 -- a ring stays one by a kill into a new slot
 pub IsRing-in_new_slot : (text : List ℕ) (r : Ring) → 0 < r.size → IsRing r → IsRing (in_new_slot text r)
 IsRing-in_new_slot text r some h =
-    let n = next_index-is r.size r.index r.slots some h.within h.at_slot in
-    let l = length-put r.slots (next_index r.size r.index r.slots) r.size text n.after n.below h.within in
-    record { within = l.0; at_slot = omega arith }
+    let n = new_index-is r some h in
+    let l = length-put r.slots (new_index r) r.size text n.after n.below h.within in
+    record { within = l.0; at_slot = omega arith; newest_at_slot = omega arith }
 
 -- ---- in the code's list
 -- another slot is written over one

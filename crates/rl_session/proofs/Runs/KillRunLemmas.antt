@@ -7,7 +7,7 @@ use Rattle.rl_base.specs.Event.{Delete}
 use Rattle.rl_base.specs.KillRing.{joined, killed, yank, lent}
 use Rattle.rl_base.specs.declared.kill_ring.Action.TheVariants as did
 use Rattle.rl_base.specs.declared.kill_ring.Mode.{Mode}
-use Rattle.rl_base.proofs.Ring.RingLemmas.{next_index-is}
+use Rattle.rl_base.proofs.Ring.RingLemmas.{new_index-is}
 use Rattle.rl_base.proofs.Texts.EventLemmas.{apply-InsertStr}
 use Rattle.rl_base.proofs.Texts.SwapLemmas.{Swaps, Swaps-back, Swaps-Delete, Swaps-InsertStr, Swaps-after, Swaps-before, Swaps-nothing, apply-InsertStr-Swaps}
 use Rattle.rl_line.specs.Plan.{nothing}
@@ -43,7 +43,7 @@ record Newest (r : Ring) (text : List ℕ) : Type 0 where
   last_is : r.last ≡ did.Kill
 
 put-newest : (text : List ℕ) (r : Ring) → 0 < r.size → IsRing r → Newest (in_new_slot text r) text
-put-newest text r some h = grind (arith, next_index-is, get-put)
+put-newest text r some h = grind (arith, new_index-is, get-put)
 
 first_as : (size : ℕ) (last : Action) (text : List ℕ) (mode : Mode) (r : Ring) → size ≡ r.size → 0 < size → IsRing r → IsNoKill last
     → Newest (killed_as size last text mode r) text
@@ -69,7 +69,7 @@ flag-newest r b text n = record { slot_is = n.slot_is; last_is = n.last_is }
 -- the first kill after another action, and one after a kill
 newest-first : (taken : List ℕ) (side : Direction) (r : Ring) → 0 < r.size → IsRing r → IsNoKill r.last → Newest (after_kill taken side r) taken
 newest-first taken side r some h k =
-    flag-newest _ false taken (first_as r.size r.last taken (side_mode side) (record r { killing = true }) refl some (record { within = h.within; at_slot = h.at_slot }) k)
+    flag-newest _ false taken (first_as r.size r.last taken (side_mode side) (record r { killing = true }) refl some (record { within = h.within; at_slot = h.at_slot; newest_at_slot = h.newest_at_slot }) k)
 
 newest-more : (old taken : List ℕ) (side : Direction) (r : Ring) → 0 < r.size → Newest r old → Newest (after_kill taken side r) (joined (side_mode side) old taken)
 newest-more old taken side r some n = grind (arith, flag-newest, more_as)

@@ -1,7 +1,8 @@
 -- What each row of a session keeps, and how a run goes on.
 use Rattle.rl_session.proofs.Common.{None, Some, Option, ap₂, cond_both, popped_ring, turned, yank_size, ring_step, Ring, Event, IsChange, Pair, Append, List, [], ◌∷◌, ◌++◌, ◌≡◌, ◌∙◌, ap, true, false, inl, inr, refl, subst, sym, append_assoc, map-append, ℕ, IsSome, min, IsUtf8, unwind, level, Command, Reply, State, Replays, origin, Start, Course, never, when, stays, goes, edits, lends, pops, tells, Came, popped, Effect, by_steps, puts_begin, puts_ends, puts_end, shortens, takes_back, puts_again, Became, within_bound, no_bound, pair_step, Row, held, held_of, Leads, Run, AfterEach, commands_of, replies_of, steps_in}
-use Rattle.rl_base.proofs.Ring.KillGroupLemmas.{killed_as-size, lent-size, ring_step-size}
+use Rattle.rl_base.proofs.Ring.KillGroupLemmas.{killed_as-lasts, lasts, lent-lasts, ring_step-lasts}
 use Rattle.rl_base.specs.KillRing.{yank}
+use Rattle.rl_base.specs.declared.kill_ring.NewKill.{NewKill}
 use Rattle.rl_line.specs.Plan.{Step as PlanStep}
 use Rattle.rl_line.proofs.Records.ForgettingLemmas.{fitting-stay}
 use Rattle.rl_line.proofs.Records.MarkLemmas.{Kept-begun, Kept-closed, Kept-Redone, Kept-truncated}
@@ -53,16 +54,16 @@ step_replays start old command reply new s h =
     let kept = Kept-Step old command reply new s u in
     record { is_text = h.is_text; leads = replay-unwind new.pair.changes.recorded new.line.text start kept.utf8 (kept.origin_is start came) }
 
--- ---- what no command changes: the options, and how many texts the ring has room for
-abbrev lasting : State → Options × ℕ
-lasting s = (s.options, s.pair.ring.size)
+-- ---- what no command changes: the options, how many texts the ring has room for, and where a new kill goes
+abbrev lasting : State → Options × (ℕ × NewKill)
+lasting s = (s.options, lasts s.pair.ring)
 
-same-size : (size : ℕ) (event : Event) (r : Ring) → IsChange event → r.size ≡ size → (ring_step r event).size ≡ size
-same-size size event r c h = ring_step-size r event ∙ h
+same-lasts : (k : ℕ × NewKill) (event : Event) (r : Ring) → IsChange event → lasts r ≡ k → lasts (ring_step r event) ≡ k
+same-lasts k event r c h = ring_step-lasts r event ∙ h
 
-popped-size : (o : Option ℕ) (r : Ring) → (popped_ring o r).size ≡ r.size
-popped-size None r = refl
-popped-size (Some n) r = lent-size (yank (turned r)) (turned r)
+popped-lasts : (o : Option ℕ) (r : Ring) → lasts (popped_ring o r) ≡ lasts r
+popped-lasts None r = refl
+popped-lasts (Some n) r = lent-lasts (yank (turned r)) (turned r)
 
 Came-lasting : (course : Course) (old new : State) → Changes course → Came course old new → lasting new ≡ lasting old
 Came-lasting never old new c d = absurd d
@@ -70,25 +71,25 @@ Came-lasting (when condition course) old new c d = Came-lasting course old new c
 Came-lasting stays old new c d = ap lasting d
 Came-lasting (goes place a) old new c d = ap lasting d.1
 Came-lasting (edits plan a) old new c d =
-    let n = old.pair.ring.size in
-    ap₂ (λ (o : Options) (k : ℕ). (o, k)) d.options (ring-Done (λ r. r.size ≡ n) (same-size n) plan old.line new.line old.pair new.pair a c d.done refl)
+    let n = lasts old.pair.ring in
+    ap₂ (λ (o : Options) (k : ℕ × NewKill). (o, k)) d.options (ring-Done (λ r. lasts r ≡ n) (same-lasts n) plan old.line new.line old.pair new.pair a c d.done refl)
 Came-lasting (stops unbegun takes plan) old new c (inl e) = ap lasting e.1
 Came-lasting (stops unbegun takes plan) old new c (inr cut) =
-    let n = old.pair.ring.size in
+    let n = lasts old.pair.ring in
     let halted = Halted-own takes plan old.line new.line old.pair new.pair _ cut.halted in
-    ap₂ (λ (o : Options) (k : ℕ). (o, k)) cut.options (ring-Halted (λ r. r.size ≡ n) (same-size n) plan old.line new.line old.pair new.pair _ c halted refl)
-Came-lasting (lends course) old new c d = Came-lasting course (lent old) new c d ∙ ap (λ n. (old.options, n)) (lent-size (yank old.pair.ring) old.pair.ring)
-Came-lasting (pops course) old new c d = Came-lasting course (popped old) new c d ∙ ap (λ n. (old.options, n)) (popped-size (yank_size old.pair.ring) old.pair.ring)
+    ap₂ (λ (o : Options) (k : ℕ × NewKill). (o, k)) cut.options (ring-Halted (λ r. lasts r ≡ n) (same-lasts n) plan old.line new.line old.pair new.pair _ c halted refl)
+Came-lasting (lends course) old new c d = Came-lasting course (lent old) new c d ∙ ap (λ n. (old.options, n)) (lent-lasts (yank old.pair.ring) old.pair.ring)
+Came-lasting (pops course) old new c d = Came-lasting course (popped old) new c d ∙ ap (λ n. (old.options, n)) (popped-lasts (yank_size old.pair.ring) old.pair.ring)
 Came-lasting (tells true course) old new c d = Came-lasting course old new c d
 Came-lasting (tells false course) old new c d =
-    ap (λ (k : Pair). (new.options, k.ring.size)) d.ended
+    ap (λ (k : Pair). (new.options, lasts k.ring)) d.ended
     ∙ Came-lasting course (record old { pair = pair_step old.pair Start }) (record new { pair = d.last }) c d.inside
 
 Became-lasting : (effect : Effect) (old new : State) → EffectChanges effect → Became effect old new → lasting new ≡ lasting old
 Became-lasting (by_steps course) old new c d = Came-lasting course old new c d
 Became-lasting (puts_ends a) old new c d = ap lasting d.1
 Became-lasting (keeps text) old new c d =
-    ap lasting d ∙ ap (λ n. (old.options, n)) (killed_as-size old.pair.ring.size old.pair.ring.last text Append old.pair.ring)
+    ap lasting d ∙ ap (λ n. (old.options, n)) (killed_as-lasts old.pair.ring.size old.pair.ring.last text Append old.pair.ring)
 Became-lasting parts old new c d = ap lasting d
 Became-lasting _ old new c d = ap lasting d.1
 
@@ -96,10 +97,13 @@ Step-lasting : (old new : State) (command : Command) (reply : Reply) → Step ol
 Step-lasting old new command reply s = grind (arith, cond_both, Became-lasting, effect-changes)
 
 pub Step-options : (old new : State) (command : Command) (reply : Reply) → Step old command reply new → new.options ≡ old.options
-Step-options old new command reply s = ap (λ (p : Options × ℕ). p.0) (Step-lasting old new command reply s)
+Step-options old new command reply s = ap (λ (p : Options × (ℕ × NewKill)). p.0) (Step-lasting old new command reply s)
 
 pub Step-size : (old new : State) (command : Command) (reply : Reply) → Step old command reply new → new.pair.ring.size ≡ old.pair.ring.size
-Step-size old new command reply s = ap (λ (p : Options × ℕ). p.1) (Step-lasting old new command reply s)
+Step-size old new command reply s = ap (λ (p : Options × (ℕ × NewKill)). p.1.0) (Step-lasting old new command reply s)
+
+pub Step-rule : (old new : State) (command : Command) (reply : Reply) → Step old command reply new → new.pair.ring.rule ≡ old.pair.ring.rule
+Step-rule old new command reply s = ap (λ (p : Options × (ℕ × NewKill)). p.1.1) (Step-lasting old new command reply s)
 
 -- with no bound among the options nothing is forgotten
 pub within_bound-none : (s : State) → s.options.bound ≡ no_bound → within_bound s ≡ s

@@ -1,13 +1,14 @@
 //! Opening a session, beginning anew in it, and setting what was chosen then.
 ghost use Rattle.std.specs.Prelude.{◌≡◌, ◌<◌, [], List, ℕ, max, length, false, IfOk, IfErr, OnErr, OnOk};
 ghost use Rattle.std.specs.Str.{IsCharBoundary};
+ghost use Rattle.rl_base.specs.KillRing.{cleared, ruled};
 ghost use Rattle.rl_line.specs.Line.{NeedsRoom};
-ghost use Rattle.rl_session.specs.State.{Begins, ChangedFrom, Opens, RefusesRestart, Replays, ReportedFrom, fresh, limited, prompted, restarted, told_anew, with_mode};
+ghost use Rattle.rl_session.specs.State.{Begins, ChangedFrom, Opens, RefusesRestart, Replays, ReportedFrom, fresh, limited, prompted, restarted, told_anew, with_mode, with_ring};
 
 use crate::options::Options;
 use crate::pair::Pair;
 use crate::session::{Fault, Session};
-use rl_base::{GraphemeClusterMode, KillRing, NoListener, Unit, Watch};
+use rl_base::{GraphemeClusterMode, KillRing, NewKill, NoListener, Unit, Watch};
 use rl_line::{Changeset, LineBuffer};
 use std::alloc::Global;
 
@@ -185,5 +186,25 @@ impl Session {
         ensures reported { (read : List ℕ) → ReportedFrom read self.old → ReportedFrom read self.new }
     {
         self.options.mode = mode;
+    }
+
+    /// Sets where a new kill puts its text in the ring. The texts stay.
+    pub fn set_new_kill(&mut self, rule: NewKill)
+        ensures set { self.new ≡ with_ring (ruled rule self.old.pair.ring) self.old }
+        ensures changed { (asked : List ℕ) → ChangedFrom asked self.old → ChangedFrom asked self.new }
+        ensures reported { (read : List ℕ) → ReportedFrom read self.old → ReportedFrom read self.new }
+    {
+        self.pair.ring.set_new_kill(rule);
+        self.stands();
+    }
+
+    /// Drops all texts of the ring, and frees them, as where a password was killed. The next kill begins a new text.
+    pub fn clear_ring(&mut self)
+        ensures set { self.new ≡ with_ring (cleared self.old.pair.ring) self.old }
+        ensures changed { (asked : List ℕ) → ChangedFrom asked self.old → ChangedFrom asked self.new }
+        ensures reported { (read : List ℕ) → ReportedFrom read self.old → ReportedFrom read self.new }
+    {
+        self.pair.ring.clear();
+        self.stands();
     }
 }
