@@ -431,9 +431,8 @@ int lodvarn_begin_group(lodvarn *s);
 int lodvarn_end_group(lodvarn *s);
 int lodvarn_end_all_groups(lodvarn *s);
 
-/* Undoes the last n changes and groups, all if there are fewer. The cursor goes to where it was before
- * them. An edit is a change of its own, or several, as its comment says. But it joins the last change, and is undone
- * with it, if it is
+/* Undoes the last n changes and groups, all if there are fewer. The cursor goes to where it was before them. An edit is
+ * a change of its own, or several, as its comment says. But it joins the last change, and is undone with it, if it is
  * - one letter or digit by lodvarn_insert with n = 1, and the last change an insertion that ends at its place;
  * - the deletion or kill of one letter or digit, and the last change a deletion at that place, to either side;
  * - a text by lodvarn_replace, and the last change one whose new text ends at its place.
@@ -525,17 +524,17 @@ int lodvarn_find_cursor(lodvarn *s, lodvarn_position *position);
 /* Tells where a line begins, and where it ends before its newline. Returns NOTHING if there is no such line. */
 int lodvarn_find_line(lodvarn *s, size_t line, lodvarn_range *range);
 
-/* Tells what lodvarn_copy by a movement would copy with the cursor at the place from, as lodvarn_pos(s). Returns NOTHING
- * if there is nothing. Errors: BAD_PLACE. */
+/* Tells what lodvarn_copy by a movement would copy with the cursor at the place from, which may be lodvarn_pos(s).
+ * Returns NOTHING if there is nothing. Errors: BAD_PLACE. */
 int lodvarn_covers(lodvarn *s, size_t from, lodvarn_movement movement, lodvarn_range *range);
 
-/* Tells where lodvarn_move by a movement would go with the cursor at the place from. Returns NOTHING if there is nowhere
- * to go. Errors: BAD_PLACE. */
+/* Tells where lodvarn_move by a movement would go with the cursor at the place from. Returns NOTHING if there is
+ * nowhere to go. Errors: BAD_PLACE. */
 int lodvarn_destination(lodvarn *s, size_t from, lodvarn_movement movement, size_t *place);
 
-/* Measures the first grapheme cluster of the text from a place on; the last one of the text before a place. They read no
- * more of the text than is near to the place. Return NOTHING if the place is the end of the text, or its start. Errors:
- * BAD_PLACE. */
+/* Measures the first grapheme cluster of the text from a place on; the last one of the text before a place. They read
+ * no more of the text than is near to the place. Return NOTHING if the place is the end of the text, or its start.
+ * Errors: BAD_PLACE. */
 int lodvarn_cluster_at(lodvarn *s, size_t place, lodvarn_cluster *cluster);
 int lodvarn_cluster_before(lodvarn *s, size_t place, lodvarn_cluster *cluster);
 
@@ -589,8 +588,8 @@ int lodvarn_script(const char *script, size_t len, char *out, size_t cap, size_t
 /* Measures a text: sets *columns to how many it takes, at most 65535. */
 int lodvarn_width(enum lodvarn_mode mode, const char *text, size_t len, size_t *columns);
 
-/* Sets *bytes to the length of the first grapheme cluster of a text; of the last one. Return NOTHING if it is empty. They
- * check that the whole text is UTF-8: go over that of a session by lodvarn_cluster_at. */
+/* Sets *bytes to the length of the first grapheme cluster of a text; of the last one. Return NOTHING if it is empty.
+ * They check that the whole text is UTF-8: go over that of a session by lodvarn_cluster_at. */
 int lodvarn_first_cluster(const char *text, size_t len, size_t *bytes);
 int lodvarn_last_cluster(const char *text, size_t len, size_t *bytes);
 

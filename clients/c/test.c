@@ -194,8 +194,8 @@ static void reads_read(void) {
     SEE(!lodvarn_last_was_yank(s));
 }
 
-/* What a movement covers, and where it goes, from a place of "one two\n  three x\n \t \n", wherever the cursor is. NO if
- * that is nothing. */
+/* What a movement covers, and where it goes, from a place of "one two\n  three x\n \t \n", wherever the cursor is. NO
+ * if that is nothing. */
 static void movements_are_asked(void) {
     const struct {
         size_t pos;
