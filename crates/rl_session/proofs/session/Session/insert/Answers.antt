@@ -5,5 +5,5 @@ use Rattle.rl_session.proofs.session.Session.insert.Goals as goal
 
 pub returns : goal.returns
 returns c =
-    step_done _ _ c.part.ensures (subst (λ r. Does c.part.new.self (Insert c.args.c c.args.n) r c.do_insert.new.self) (sym c.inserted-reply.ensures) c.do_insert.ensures)
+    step_done _ _ c.reset_ring.ensures (subst (λ r. Does c.reset_ring.new.self (Insert c.args.c c.args.n) r c.do_insert.new.self) (sym c.inserted-reply.ensures) c.do_insert.ensures)
     refl c.ends.ensures
