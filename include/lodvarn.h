@@ -49,7 +49,8 @@
  * It comes from malloc and realloc, and lodvarn_close frees all that a session has. A call asks for some only if its
  * comment names NO_MEMORY. lodvarn_watch finds room for its whole queue. All else is found by the call that needs it: a
  * longer text, a newline, an entry of the record, a text of the ring, and copies that it frees again. The record grows
- * until lodvarn_truncate or lodvarn_restart, or up to the bound in the options.
+ * until lodvarn_truncate or lodvarn_restart, or up to the bound in the options; the ring up to ring_size texts, and up
+ * to its bound in bytes.
  *
  * docs/RULES.md says exactly what each call does. */
 #ifndef LODVARN_H
@@ -74,7 +75,7 @@ extern "C" {
 #define LODVARN_VERSION_OF_(major, minor, patch) LODVARN_DOTTED_(major, minor, patch)
 #define LODVARN_DOTTED_(major, minor, patch) #major "." #minor "." #patch
 
-/* No limit for the text, and no bound for the record; and of motions by rows, the column of the cursor. */
+/* No limit for the text, and no bound for the record and the ring; and of motions by rows, the column of the cursor. */
 #define LODVARN_NO_LIMIT SIZE_MAX
 #define LODVARN_NO_BOUND SIZE_MAX
 #define LODVARN_OWN_COLUMN SIZE_MAX
@@ -201,15 +202,16 @@ typedef struct lodvarn_screen {
 typedef struct lodvarn_options {
     size_t size;
     enum lodvarn_mode mode;
-    uint16_t prompt;    /* the column where the text begins, after a prompt: for motions up and down */
-    size_t limit;       /* how many bytes the text may have; as many as it has if that is more */
-    size_t ring_size;   /* how many texts the kill ring keeps. It can't be changed once a session is open */
-    size_t max_entries; /* how many entries the record may have, */
-    size_t max_bytes;   /* and they how many bytes of text. See lodvarn_set_options */
+    uint16_t prompt;       /* the column where the text begins, after a prompt: for motions up and down */
+    size_t limit;          /* how many bytes the text may have; as many as it has if that is more */
+    size_t ring_size;      /* how many texts the kill ring keeps. It can't be changed once a session is open */
+    size_t max_entries;    /* how many entries the record may have, */
+    size_t max_bytes;      /* and they how many bytes of text. See lodvarn_set_options */
+    size_t max_ring_bytes; /* how many bytes the texts of the ring may have together */
 } lodvarn_options;
 
 #define LODVARN_OPTIONS                                                                                               \
-    { sizeof(lodvarn_options), LODVARN_UNICODE, 0, 4096, 60, LODVARN_NO_BOUND, LODVARN_NO_BOUND }
+    { sizeof(lodvarn_options), LODVARN_UNICODE, 0, 4096, 60, LODVARN_NO_BOUND, LODVARN_NO_BOUND, LODVARN_NO_BOUND }
 
 /* The kinds of movements. No program needs them: it calls the functions below. */
 enum lodvarn_movement_kind {
@@ -312,8 +314,10 @@ int lodvarn_restart(lodvarn *s, const char *text, size_t len);
  * if that is greater. The bound of the record holds now and after each later command: as long as the record has more
  * than max_entries entries, or they more than max_bytes bytes of text, of what went and of what came, it forgets the
  * oldest change or closed group, which can't be undone then. A group that is open stays, with all after its begin, and
- * so does what was undone. Numbers of entries that were told before count what is gone. Errors: NO_SUCH_NUMBER, also if
- * size is none that this version knows, or ring_size is not the session's. */
+ * so does what was undone. Numbers of entries that were told before count what is gone. Likewise the ring drops its
+ * oldest text as long as all have more than max_ring_bytes bytes together. If that was the current one, the newest is
+ * current then, and a kill begins a new text. Errors: NO_SUCH_NUMBER, also if size is none that this version knows, or
+ * ring_size is not the session's. */
 int lodvarn_set_options(lodvarn *s, const lodvarn_options *options);
 
 /* Writes what is chosen to *options, whose size the caller has set. A read. Errors: NO_SUCH_NUMBER if size is none that

@@ -76,12 +76,13 @@ static void read_reports(struct copy *c, int has_texts, unsigned most, unsigned 
     }
 }
 
-/* Bounds the record, or lets it grow. */
+/* Bounds record and ring, or lets them grow. */
 static int bound(void) {
     lodvarn_options options = LODVARN_OPTIONS;
     if (lodvarn_get_options(s, &options) != LODVARN_DONE) exit(2);
     options.max_entries = below(2) ? most : LODVARN_NO_BOUND;
     options.max_bytes = below(2) ? most : LODVARN_NO_BOUND;
+    options.max_ring_bytes = below(2) ? most : LODVARN_NO_BOUND;
     return lodvarn_set_options(s, &options);
 }
 

@@ -153,16 +153,17 @@ static int has_chosen(const lodvarn_options *wanted) {
     lodvarn_options now = chosen();
     return now.size == sizeof now && now.mode == wanted->mode && now.prompt == wanted->prompt
         && now.limit == wanted->limit && now.ring_size == wanted->ring_size && now.max_entries == wanted->max_entries
-        && now.max_bytes == wanted->max_bytes;
+        && now.max_bytes == wanted->max_bytes && now.max_ring_bytes == wanted->max_ring_bytes;
 }
 
 static void options_are_chosen(void) {
     static const lodvarn_options defaults = LODVARN_OPTIONS,
-                                 first = {sizeof first, Z, 65535, 64, 3, 5, 90},
-                                 second = {sizeof second, W, 0, LODVARN_NO_LIMIT, 3, LODVARN_NO_BOUND, 0};
+                                 first = {sizeof first, Z, 65535, 64, 3, 5, 90, 9},
+                                 second = {sizeof second, W, 0, LODVARN_NO_LIMIT, 3, LODVARN_NO_BOUND, 0, LODVARN_NO_BOUND};
     lodvarn_close(&s);
     SEE(defaults.mode == LODVARN_UNICODE && defaults.prompt == 0 && defaults.limit == 4096 && defaults.ring_size == 60);
     SEE(defaults.max_entries == LODVARN_NO_BOUND && defaults.max_bytes == LODVARN_NO_BOUND);
+    SEE(defaults.max_ring_bytes == LODVARN_NO_BOUND);
     SEE(lodvarn_open(&s, NULL, "ab", 2) == LODVARN_DONE && has_chosen(&defaults));
     lodvarn_close(&s);
     SEE(lodvarn_open(&s, &first, "ab", 2) == LODVARN_DONE && has_chosen(&first));
@@ -400,6 +401,17 @@ static void options_take_effect(void) {
     SET(max_entries, LODVARN_NO_BOUND);
     for (const char *c = "-+*"; *c; c++) lodvarn_insert(s, (uint32_t)*c, 1);
     SEE(lodvarn_entries(s) == 3);
+    open_at("abcd|", 64);
+    DOES(DONE, SET(max_ring_bytes, 4), "abcd|");
+    DOES(DONE, lodvarn_keep(s, "x", 1), "abcd|#x");
+    DOES(DONE, lodvarn_keep(s, "yz", 2), "abcd|#yz#x");
+    DOES(DONE, lodvarn_keep(s, "w", 1), "abcd|#w#yz#x");
+    DOES(DONE_AT_END, lodvarn_yank(s, 1), "abcdw|#w#yz#x");
+    DOES(DONE_AT_END, lodvarn_yank_pop(s), "abcdyz|#yz#x#w");
+    DOES(DONE, SET(max_ring_bytes, 3), "abcdyz|#yz#w");
+    DOES(DONE_AT_END, lodvarn_yank_pop(s), "abcdw|#w#yz");
+    DOES(DONE, lodvarn_kill(s, WORD_BACK), "|");
+    DOES(DONE, SET(max_ring_bytes, LODVARN_NO_BOUND), "|");
 }
 
 static void widths_are_measured(void) {
@@ -731,8 +743,8 @@ static void print_state(char *to, size_t cap) {
     print_ring(file);
     fprintf(file, " %zu %zu", lodvarn_entries(s), lodvarn_level(s));
     fprintf(file, " %d %d", lodvarn_can_undo(s), lodvarn_can_redo(s));
-    fprintf(file, " %d %u %zu %zu %zu %zu", now.mode, (unsigned)now.prompt, now.limit, now.ring_size, now.max_entries,
-            now.max_bytes);
+    fprintf(file, " %d %u %zu %zu %zu %zu %zu", now.mode, (unsigned)now.prompt, now.limit, now.ring_size,
+            now.max_entries, now.max_bytes, now.max_ring_bytes);
     fprintf(file, " %zu %d %zu %zu", lodvarn_count_reports(s), report.kind, report.at, report.old_len);
     fclose(file);
 }
@@ -776,7 +788,7 @@ static int has_left_all(int yanked, int parts) {
 
 /* Options that differ from the session's, but in the size of the ring if that is 60. */
 static const lodvarn_options *other_options(size_t size, int mode, size_t ring_size) {
-    options = (lodvarn_options){size, (enum lodvarn_mode)mode, 7, 99, ring_size, 1, 1};
+    options = (lodvarn_options){size, (enum lodvarn_mode)mode, 7, 99, ring_size, 1, 1, 1};
     return &options;
 }
 
@@ -1028,7 +1040,8 @@ static void great_input_is_met(void) {
     size_t len = 0;
     memset(great, 'a', GREAT);
     lodvarn_close(&s);
-    options = (lodvarn_options){sizeof options, U, 0, 4 * GREAT, 2000, LODVARN_NO_BOUND, LODVARN_NO_BOUND};
+    options = (lodvarn_options)LODVARN_OPTIONS;
+    options.mode = U, options.limit = 4 * GREAT, options.ring_size = 2000;
     SEE(lodvarn_open(&s, &options, great, GREAT) == LODVARN_DONE && lodvarn_pos(s) == GREAT);
     SEE(lodvarn_copy(s, lodvarn_whole_text(), got, sizeof got, &len) > 0 && len == GREAT && !memcmp(got, great, GREAT));
     SEE(lodvarn_kill(s, lodvarn_to_text_start()) > 0 && lodvarn_yank(s, 1) > 0 && lodvarn_pos(s) == GREAT);

@@ -158,10 +158,11 @@ class Places(Scripts):
 class Values(Scripts):
     def test_options_are_read_and_set(self):
         given = {"limit_bytes": 4096, "ring_size": 60, "mode": Mode.UNICODE, "prompt": 0}
-        given.update(max_entries=None, max_bytes=None)
+        given.update(max_entries=None, max_bytes=None, max_ring_bytes=None)
         session = Session()
         self.assertEqual({name: getattr(session, name) for name in given}, given)
         chosen = [("limit_bytes", None), ("mode", Mode.NO_ZWJ), ("prompt", 3), ("max_entries", 0), ("max_bytes", 1)]
+        chosen.append(("max_ring_bytes", 2))
         for name, value in chosen:
             given[name] = value
             setattr(session, name, value)
@@ -669,7 +670,7 @@ class Mirrors(Scripts):
         try:
             do(session, word, [some(rng, session, it) for it in WORDS[word][0]])
             if rng.random() < 0.03:
-                session.max_bytes = rng.choice([None, 300])
+                session.max_bytes = session.max_ring_bytes = rng.choice([None, 300])
                 session.restart(rng.choice(PIECES))
         except (lodvarn.NoSuchNumberError, lodvarn.NoMemoryError) as fault:
             self.refused += isinstance(fault, MemoryError)

@@ -413,6 +413,7 @@ class Session:
         prompt: int = 0,
         max_entries: Optional[int] = None,
         max_bytes: Optional[int] = None,
+        max_ring_bytes: Optional[int] = None,
     ) -> None:
         """Opens a session on a text, with the cursor at its end.
 
@@ -423,6 +424,7 @@ class Session:
             "size": ffi.sizeof("lodvarn_options"), "mode": _of(Mode, mode).value, "prompt": prompt,
             "limit": _or_most(limit_bytes), "ring_size": ring_size,
             "max_entries": _or_most(max_entries), "max_bytes": _or_most(max_bytes),
+            "max_ring_bytes": _or_most(max_ring_bytes),
         }
         it = ffi.gc(_new("session *"), lib.py_close)
         _asked(lib.py_open, it, [options], *_sent(text))
@@ -957,6 +959,18 @@ class Session:
     @max_bytes.setter
     def max_bytes(self, size: Optional[int]) -> None:
         self._choose("max_bytes", _or_most(size))
+
+    @property
+    def max_ring_bytes(self) -> Optional[int]:
+        """How many bytes the texts of the ring may have together, or None if there is no bound.
+
+        Beyond it the oldest are dropped, now and after each later command.
+        """
+        return _or_none(self._options().max_ring_bytes)
+
+    @max_ring_bytes.setter
+    def max_ring_bytes(self, size: Optional[int]) -> None:
+        self._choose("max_ring_bytes", _or_most(size))
 
 
 def run_script(script: bytes) -> bytes:

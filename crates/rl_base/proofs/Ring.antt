@@ -2,3 +2,4 @@
 pub mod SlotLemmas
 pub mod RingLemmas
 pub mod KillGroupLemmas
+pub mod BoundLemmas

@@ -1,5 +1,5 @@
 -- A ring of killed texts, and what each of its steps makes of it.
-use Rattle.std.specs.Prelude.{◌≡◌, ℕ, ◌+◌, ◌-◌, ◌==◌, zero, suc, Bool, true, false, List, [], ◌∷◌, ◌++◌, max, ◌<◌, ◌≤◌, ◌⊎◌, length, slice_set, slice_get, Option, Some, None, option_map, if◌then◌else◌, take, drop, reverse}
+use Rattle.std.specs.Prelude.{◌≡◌, ℕ, ◌+◌, ◌-◌, ◌^◌, ◌==◌, nat_le, nat_lt, zero, suc, Bool, true, false, List, [], ◌∷◌, ◌++◌, max, ◌<◌, ◌≤◌, ◌⊎◌, length, slice_set, slice_get, Option, Some, None, option_map, if◌then◌else◌, take, drop, reverse}
 use Rattle.rl_base.specs.declared.kill_ring.Action.{Action}
 use Rattle.rl_base.specs.declared.kill_ring.Action.TheVariants.{Kill, Yank, Other}
 use Rattle.rl_base.specs.declared.kill_ring.Mode.{Mode}
@@ -163,6 +163,32 @@ back_from i slots = reverse (take (i + 1) slots) ++ reverse (drop (i + 1) slots)
 -- the slots of a ring, from the newest back
 abbrev pub newest_first : Ring → List (List ℕ)
 newest_first r = back_from r.newest r.slots
+
+-- the first texts, as many as have no more bytes together than that
+abbrev pub fitting : ℕ → List (List ℕ) → List (List ℕ)
+fitting room [] = []
+fitting room (t ∷ ts) = if nat_le (length t) room then t ∷ fitting (room - length t) ts else []
+
+-- how many slots the one at an index stands before the newest, round the ring
+abbrev pub behind : ℕ → ℕ → ℕ → ℕ
+behind newest index slots = if nat_le index newest then newest - index else newest + (slots - index)
+
+-- the ring with these texts, the newest first. The one that stands so many before the newest is current; if there is none, the
+-- newest is, and nothing was done last
+abbrev pub left_with : List (List ℕ) → ℕ → Ring → Ring
+left_with texts back r =
+    if nat_lt back (length texts) then record r { slots = reverse texts; index = length texts - 1 - back; newest = length texts - 1 }
+    else record r { slots = reverse texts; index = length texts - 1; newest = length texts - 1; last = Other }
+
+-- the ring once its oldest texts went that do not fit
+abbrev pub cut_to : ℕ → Ring → Ring
+cut_to bytes r =
+    if length (fitting bytes (newest_first r)) == length r.slots then r
+    else left_with (fitting bytes (newest_first r)) (behind r.newest r.index (length r.slots)) r
+
+-- the same by a bound, of which the greatest `usize` is none
+abbrev pub within_bytes : ℕ → Ring → Ring
+within_bytes bytes r = if nat_le (2 ^ 64 - 1) bytes then r else cut_to bytes r
 
 -- the text that stands so many before the current one, round the ring, if there are as many
 abbrev pub text_back : ℕ → Ring → Option (List ℕ)

@@ -1,10 +1,10 @@
 //! The ring of killed texts, from which they are yanked back.
-ghost use Rattle.std.specs.Prelude.{◌≡◌, ◌+◌, ◌<◌, ◌≤◌, Some, None, max, length, slice_get, option_map, MatchOption, IfErr, OnOk, ℕ, List, ◌∷◌, ◌++◌, false, true, take};
+ghost use Rattle.std.specs.Prelude.{◌≡◌, ◌+◌, ◌<◌, ◌≤◌, Some, None, max, length, slice_get, option_map, MatchOption, IfErr, OnOk, ℕ, List, ◌∷◌, ◌++◌, false, true, take, reverse};
 ghost use Rattle.std.specs.String.{string_bytes};
 ghost use Rattle.std.specs.Borrow.{sem};
 ghost use Rattle.rl_base.specs.declared.listeners.Refusal.TheVariants.{NoMemory};
 ghost use Rattle.rl_base.specs.Gathered.{IsPackedAt, texts};
-ghost use Rattle.rl_base.specs.KillRing.{Enlarges, IsRing, PutTakesMemory, Ring, back_from, cleared, index_before, join_at, joined, killed, new_index, new_ring, newest_first, next_index, put_at, reset, ruled, text_back, yank, yank_pop, yank_popped, yank_size, yanked};
+ghost use Rattle.rl_base.specs.KillRing.{Enlarges, IsRing, PutTakesMemory, Ring, back_from, behind, cleared, cut_to, fitting, index_before, join_at, joined, killed, new_index, new_ring, newest_first, next_index, put_at, reset, ruled, text_back, within_bytes, yank, yank_pop, yank_popped, yank_size, yanked};
 ghost use Rattle.rl_base.specs.RingLends.{EndsAs};
 ghost use Rattle.rl_base.specs.declared.kill_ring.Mode.{Mode};
 ghost use Rattle.rl_base.specs.declared.kill_ring.NewKill.{NewKill};
@@ -96,8 +96,9 @@ impl KillRing {
 
     /// Puts a killed text into the ring (GNU readline: kill-line and its like). Right after another kill it is joined
     /// to that kill's text, at the side that `dir` says. Else it goes right after the current text, or after the newest
-    /// if `set_new_kill` chose so, replaces one that stands there, and becomes the current one. Refused only if memory is out, and then it changes nothing. Never
-    /// refused if the ring would not grow: at size 0, which keeps no text, and an empty text that needs no new slot.
+    /// if `set_new_kill` chose so, replaces one that stands there, and becomes the current one. Refused only if memory is
+    /// out, and then it changes nothing. Never refused if the ring would not grow: at size 0, which keeps no text, and an
+    /// empty text that needs no new slot.
     #[tactic(auto, using(crate::proofs::Ring::RingLemmas::written))]
     pub fn kill(&mut self, text: &str, dir: Mode) -> Result<(), Refusal>
         ensures done { OnOk result (self.new ≡ killed text.now dir self.old) }
@@ -144,6 +145,39 @@ impl KillRing {
         self.slots.clear();
         self.index = 0;
         self.newest = 0;
+        self.reset();
+    }
+
+    /// Drops its oldest texts as long as all together have more than `bytes` bytes; `usize::MAX` is no bound, and costs a
+    /// comparison. The current text stays the current one. If it went, the newest is current, nothing was done last, and the
+    /// next kill begins a new text. It takes no memory.
+    #[inline(always)]
+    pub fn forget(&mut self, bytes: usize)
+        ensures { self.new ≡ within_bytes bytes self.old }
+    {
+        if bytes < usize::MAX {
+            self.forget_oldest(bytes);
+        }
+    }
+
+    // Drops the oldest texts, if some do not fit. What stays stands from the first slot on then, the oldest first, so that new
+    // texts go after it while there is room.
+    #[inline(never)]
+    fn forget_oldest(&mut self, bytes: usize)
+        ensures { self.new ≡ cut_to bytes self.old }
+    {
+        let kept = fitting_len(bytes, self.newest, &self.slots);
+        if kept == self.slots.len() {
+            return;
+        }
+        let back = behind(self.newest, self.index, self.slots.len());
+        keep_newest(&mut self.slots, self.newest, kept);
+        self.newest = kept.saturating_sub(1);
+        if back < kept {
+            self.index = self.newest - back;
+            return;
+        }
+        self.index = self.newest;
         self.reset();
     }
 
@@ -277,6 +311,57 @@ fn index_back(index: usize, back: usize, slots: &[Gathered]) -> Option<usize>
     Some(index + (slots.len() - back))
 }
 
+// How many slots the one at an index stands before the newest, round the ring.
+fn behind(newest: usize, index: usize, slots: usize) -> usize
+    requires { index ≤ slots }
+    ensures { result ≡ behind newest index slots }
+{
+    if index <= newest {
+        return newest - index;
+    }
+    newest + (slots - index)
+}
+
+// The length of the text that stands so many before the one at an index, round the ring, if there are as many.
+fn len_back(index: usize, back: usize, slots: &[Gathered]) -> Option<usize>
+    requires { index < max 1 (length slots.now) }
+    ensures { result ≡ option_map length (slice_get (back_from index (texts slots.now)) back) }
+{
+    let at = index_back(index, back, slots)?;
+    match slots.get(at) {
+        Some(slot) => Some(slot.len()),
+        None => None,
+    }
+}
+
+// How many of the texts fit, from the newest back.
+fn fitting_len(bytes: usize, newest: usize, slots: &[Gathered]) -> usize
+    requires { newest < max 1 (length slots.now) }
+    ensures { result ≡ length (fitting bytes (back_from newest (texts slots.now))) }
+{
+    let mut left = bytes;
+    let mut kept = 0;
+    while let Some(size) = len_back(newest, kept, slots) {
+        if size > left {
+            return kept;
+        }
+        left -= size;
+        kept += 1;
+    }
+    kept
+}
+
+// Keeps so many slots from the newest back, the newest last.
+fn keep_newest(slots: &mut Vec<Gathered>, newest: usize, kept: usize)
+    requires newest { newest < length slots.old.items }
+    requires kept { kept ≤ length slots.old.items }
+    ensures { texts slots.new.items ≡ reverse (take kept (back_from newest (texts slots.old.items))) }
+{
+    slots.rotate_left(newest + 1);
+    let gone = slots.len() - kept;
+    slots.drain(..gone);
+}
+
 // Puts a text over the slot at an index, or after all slots.
 #[tactic(auto, using(crate::proofs::Ring::RingLemmas::written))]
 fn put(slots: &mut Vec<Gathered>, index: usize, text: &str) -> Result<(), Refusal>
@@ -339,10 +424,10 @@ fn text_at(slots: &[Gathered], index: usize) -> Option<&String>
     }
 }
 
-/// Whatever is done with a new ring, and if no kill is refused, it holds the latest groups of consecutive kills since it
-/// was cleared, as many as it has room for. If new kills go after the current text, that is so until the first
-/// `yank_pop`; if they go after the newest, always. A yank gives the newest, right after a kill and as long as there was
-/// no `yank_pop`. Consecutive kills are one group: their texts, joined.
+/// Whatever is done with a new ring but `forget`, and if no kill is refused, it holds the latest groups of consecutive
+/// kills since it was cleared, as many as it has room for. If new kills go after the current text, that is so until the
+/// first `yank_pop`; if they go after the newest, always. A yank gives the newest, right after a kill and as long as there
+/// was no `yank_pop`. Consecutive kills are one group: their texts, joined.
 #[tactic(auto, using(crate::proofs::Ring::KillGroupLemmas::grouping))]
 pub fn ring_holds_groups()
     ensures last { (size : ℕ) (rule : NewKill) (doings : List Doing) → 0 < size → (rule ≡ AfterCurrent → NoPops doings)

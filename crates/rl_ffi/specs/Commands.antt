@@ -10,7 +10,7 @@ use Rattle.rl_session.specs.Commands.{Step, StepWith, deletion_of}
 use Rattle.rl_session.specs.Forgetting.{within_bound}
 use Rattle.rl_session.specs.State.{State}
 use Rattle.rl_session.specs.declared.session.Command.{Command}
-use Rattle.rl_session.specs.declared.session.Command.TheVariants.{Indent, Insert, InsertStr, Paste, SetPos, Yank, YankPop}
+use Rattle.rl_session.specs.declared.session.Command.TheVariants.{Indent, Insert, InsertStr, Paste, Replace, SetPos, Yank, YankPop}
 use Rattle.rl_session.specs.declared.session.Reply.{Reply}
 use Rattle.rl_ffi.specs.Answers.{told, told_place, truth}
 use Rattle.rl_ffi.specs.Buffers.{put}
@@ -19,8 +19,9 @@ use Rattle.rl_ffi.specs.Numbers.{char_of, count_of, dedents_of, movement_of}
 use Rattle.rl_ffi.specs.declared.answers.Answer.{Answer}
 use Rattle.rl_ffi.specs.declared.answers.Answer.TheVariants.{Done, NoRoom, NoSuchNumber, Nothing, TooSmall}
 use Rattle.rl_ffi.specs.declared.shapes.CMovement.{CMovement}
+use Rattle.rl_ffi.specs.declared.shapes.CRange.{CRange}
 
--- a command was done, and then the record forgot what was beyond its bound
+-- a command was done, and then record and ring forgot what was beyond the bound
 abbrev pub Obeys : State → Command → Reply → State → Type 0
 Obeys s command reply new = (left : State) × Step s command reply left × (new ≡ within_bound left)
 
@@ -47,6 +48,10 @@ does_with without bytes make s n new = (reply : Reply) × ObeysWith bytes make s
 
 abbrev pub asks_with : List ℕ → (String Global → Command) → Effect State
 asks_with bytes make = of_text bytes (does_with NoRoom bytes make)
+
+-- a text takes the place of what stands in a range
+unfoldable pub replaces : CRange → List ℕ → Effect State
+replaces range text = asks_with text (λ t. Replace range.from range.to t)
 
 -- the answer if an insertion of a text inserted nothing: it is empty, or there is no room for it
 abbrev pub room_for : List ℕ → Answer

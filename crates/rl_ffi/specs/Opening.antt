@@ -21,7 +21,7 @@ Opens fresh old n new = ((n ≡ Done) × (new ≡ Some fresh)) ⊎ ((n ≡ NoMem
 
 -- a session with other options; its ring keeps its size
 abbrev pub chosen : GraphemeClusterMode → COptions → State → State
-chosen mode o s = within_bound (bounded_by (record { entries = o.max_entries; bytes = o.max_bytes }) (limited o.limit (prompted o.prompt (with_mode mode s))))
+chosen mode o s = within_bound (bounded_by (record { entries = o.max_entries; bytes = o.max_bytes; ring_bytes = o.max_ring_bytes }) (limited o.limit (prompted o.prompt (with_mode mode s))))
 
 -- a new session on a text, with the cursor at its end, whose new kills go after the newest
 abbrev pub begun : GraphemeClusterMode → COptions → List ℕ → State
@@ -56,6 +56,7 @@ options_shape size s =
       ring_size = s.pair.ring.size;
       max_entries = s.options.bound.entries;
       max_bytes = s.options.bound.bytes;
+      max_ring_bytes = s.options.bound.ring_bytes;
     }
 
 -- the texts of the ring go

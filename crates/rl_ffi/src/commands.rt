@@ -11,7 +11,7 @@ ghost use Rattle.rl_session.specs.declared.session.Command.{Command};
 ghost use Rattle.rl_session.specs.declared.session.Reply.{Reply};
 ghost use Rattle.rl_ffi.specs.Answers.{merged};
 ghost use Rattle.rl_ffi.specs.Calls.{Through, ThroughOut, of_named};
-ghost use Rattle.rl_ffi.specs.Commands.{HasRoomFor, Obeys, ObeysWith, PopHasRoom, asks, asks_with, copies, deletes_by, ends_kills, hands_out, indents, inserts, lent_room, pastes, popped_length, pops, puts_in, room_for, yanks};
+ghost use Rattle.rl_ffi.specs.Commands.{HasRoomFor, Obeys, ObeysWith, PopHasRoom, asks, asks_with, copies, deletes_by, ends_kills, hands_out, indents, inserts, lent_room, pastes, popped_length, pops, puts_in, replaces, room_for, yanks};
 ghost use Rattle.rl_ffi.specs.Held.{a_session};
 ghost use Rattle.rl_ffi.specs.declared.answers.Answer.TheVariants.{Done};
 ghost use Rattle.rl_ffi.specs.Numbers.{case_of, count_of, direction_of, movement_of};
@@ -453,8 +453,9 @@ pub extern "C" fn lodvarn_insert_at(alloc: Global, s: &mut Handle, place: usize,
     of!(s, alloc, Held::Session(session) => insert_at(session, place, text))
 }
 
+#[tactic(auto, unfolding(crate::specs::Commands::replaces))]
 fn replace(session: &mut Session, range: CRange, text: &[u8]) -> Outcome
-    ensures { asks_with text.now (λ t. Command.Replace range.from range.to t) session.old (merged result) session.new }
+    ensures { replaces range text.now session.old (merged result) session.new }
 {
     let text = text_of(text)?;
     let reply = session.replace(range.from, range.to, text);
@@ -465,7 +466,7 @@ fn replace(session: &mut Session, range: CRange, text: &[u8]) -> Outcome
 /// `lodvarn_replace`.
 #[unsafe(no_mangle)]
 pub extern "C" fn lodvarn_replace(alloc: Global, s: &mut Handle, range: CRange, text: &[u8]) -> i32
-    ensures { Through a_session (asks_with text.now (λ t. Command.Replace range.from range.to t)) s.old.value result s.new.value }
+    ensures { Through a_session (replaces range text.now) s.old.value result s.new.value }
 {
     of!(s, alloc, Held::Session(session) => replace(session, range, text))
 }

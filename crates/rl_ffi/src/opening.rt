@@ -48,6 +48,7 @@ fn choose(session: &mut Session, mode: GraphemeClusterMode, options: &COptions)
     session.set_bound(Bound {
         entries: options.max_entries,
         bytes: options.max_bytes,
+        ring_bytes: options.max_ring_bytes,
     });
 }
 
@@ -194,6 +195,7 @@ fn get_options(session: &Session, options: &mut COptions) -> Outcome
         ring_size: session.ring().size(),
         max_entries: chosen.bound.entries,
         max_bytes: chosen.bound.bytes,
+        max_ring_bytes: chosen.bound.ring_bytes,
     };
     Ok(Answer::Done)
 }

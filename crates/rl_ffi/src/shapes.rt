@@ -81,4 +81,5 @@ pub struct COptions {
     pub ring_size: usize,
     pub max_entries: usize,
     pub max_bytes: usize,
+    pub max_ring_bytes: usize,
 }

@@ -13,6 +13,7 @@ enum Call {
     Reset,
     AfterNewest,
     Clear,
+    Forget(usize),
     Yank(&'static str),
     YankNone,
     Pop(usize, &'static str),
@@ -51,6 +52,7 @@ fn make(ring: &mut KillRing, call: Call) -> Result<bool, Fail> {
         Call::Reset => ring.reset(),
         Call::AfterNewest => ring.set_new_kill(NewKill::AfterNewest),
         Call::Clear => ring.clear(),
+        Call::Forget(bytes) => ring.forget(bytes),
         Call::Yank(text) => return Ok(lends(ring.yank(), text)),
         Call::YankNone => return Ok(ring.yank().is_none()),
         Call::Pop(size, text) => {
@@ -217,6 +219,53 @@ fn a_cleared_ring_begins_anew(rt: HostRuntime) -> Result<(), Fail> {
         (Call::Count(0), None),
     ];
     goes(&rt, rt.alloc(), 2, STEPS)
+}
+
+#[test]
+fn the_oldest_texts_are_forgotten(rt: HostRuntime) -> Result<(), Fail> {
+    const STEPS: &[Step] = &[
+        (Call::AfterNewest, None),
+        (Call::Forget(0), None),
+        (Call::Kill("a"), None),
+        (Call::Reset, None),
+        (Call::Kill("bb"), None),
+        (Call::Reset, None),
+        (Call::Kill("c"), None),
+        (Call::Reset, None),
+        // in the place of the first
+        (Call::Kill("dd"), None),
+        (Call::Forget(5), None),
+        (Call::Count(3), None),
+        (Call::Forget(4), None),
+        (Call::At(0, "dd"), None),
+        (Call::At(1, "c"), None),
+        (Call::NoneAt(2), None),
+        // a kill goes on, and there is room for one more
+        (Call::Kill("d"), None),
+        (Call::Reset, None),
+        (Call::Kill("e"), None),
+        (Call::At(0, "e"), None),
+        (Call::At(1, "ddd"), None),
+        (Call::At(2, "c"), None),
+        (Call::Yank("e"), Some(1)),
+        (Call::Pop(1, "ddd"), Some(3)),
+        (Call::Forget(4), Some(3)),
+        (Call::At(0, "ddd"), Some(3)),
+        (Call::At(1, "e"), Some(3)),
+        // the current one goes
+        (Call::Forget(3), None),
+        (Call::PopNone, None),
+        (Call::At(0, "e"), None),
+        (Call::Count(1), None),
+        (Call::Kill("f"), None),
+        (Call::Forget(0), None),
+        (Call::YankNone, None),
+        (Call::Kill("g"), None),
+        (Call::Forget(usize::MAX), None),
+        (Call::At(0, "g"), None),
+        (Call::Count(1), None),
+    ];
+    goes(&rt, rt.alloc(), 3, STEPS)
 }
 
 #[test]

@@ -1,5 +1,6 @@
--- The bound of a session's record, and what the session forgets beyond it.
+-- The bound of a session's record and of its ring, and what the session forgets beyond it.
 use Rattle.std.specs.Prelude.{◌≡◌, ◌∷◌, List, ℕ, Some}
+use Rattle.rl_base.specs.KillRing.{within_bytes}
 use Rattle.rl_line.specs.Forgetting.{forgotten, gone_within}
 use Rattle.rl_line.specs.Record.{Entry, replay_entries}
 use Rattle.rl_session.specs.declared.options.Bound.{Bound}
@@ -10,10 +11,15 @@ use Rattle.rl_session.specs.State.{State, Replays}
 abbrev pub bounded_by : Bound → State → State
 bounded_by bound s = record s { options = record s.options { bound = bound } }
 
--- the same once the oldest units beyond its bound were forgotten
+-- the same once the oldest units and the oldest texts of the ring beyond its bound were forgotten
 abbrev pub within_bound : State → State
 within_bound s =
-    record s { pair = record s.pair { changes = forgotten s.options.bound.entries s.options.bound.bytes s.pair.changes } }
+    record s {
+      pair = record s.pair {
+        ring = within_bytes s.options.bound.ring_bytes s.pair.ring;
+        changes = forgotten s.options.bound.entries s.options.bound.bytes s.pair.changes;
+      };
+    }
 
 -- the entries that the session forgets
 abbrev pub gone : State → List Entry

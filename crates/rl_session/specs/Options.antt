@@ -1,4 +1,4 @@
--- How a session measures columns, and how much its record may hold.
+-- How a session measures columns, and how much its record and its ring may hold.
 use Rattle.std.specs.Prelude.{◌^◌, ◌-◌}
 use Rattle.rl_base.specs.Widths.{blank_layout, origin}
 use Rattle.rl_base.specs.declared.layout.GraphemeClusterMode.{GraphemeClusterMode}
@@ -8,7 +8,7 @@ use Rattle.rl_session.specs.declared.options.Options.{Options}
 
 -- no bound: the greatest `usize` stands for each
 abbrev pub no_bound : Bound
-no_bound = record { entries = 2 ^ 64 - 1; bytes = 2 ^ 64 - 1 }
+no_bound = record { entries = 2 ^ 64 - 1; bytes = 2 ^ 64 - 1; ring_bytes = 2 ^ 64 - 1 }
 
 -- the options of a new session: a prompt that ends at column 0, and no bound
 abbrev pub plain : GraphemeClusterMode → Options

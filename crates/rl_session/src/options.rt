@@ -1,26 +1,29 @@
-//! How a session measures columns, and how much its record may hold.
+//! How a session measures columns, and how much its record and its ring may hold.
 ghost use Rattle.std.specs.Prelude.{◌≡◌};
 ghost use Rattle.rl_session.specs.Options.{layout_of, no_bound, plain};
 
 use rl_base::{GraphemeClusterMode, Layout, Unit};
 
-/// How much a session's record may hold. `usize::MAX` is no bound.
+/// How much a session's record and its ring may hold. `usize::MAX` is no bound.
 #[derive(Clone, Copy, Debug, PartialEq, Eq)]
 pub struct Bound {
     /// How many entries.
     pub entries: usize,
     /// How many bytes of text, of all entries together.
     pub bytes: usize,
+    /// How many bytes, of all texts of the ring together.
+    pub ring_bytes: usize,
 }
 
 impl Bound {
-    /// No bound on either.
+    /// No bound on any.
     pub fn none() -> Self
         ensures { result ≡ no_bound }
     {
         Bound {
             entries: usize::MAX,
             bytes: usize::MAX,
+            ring_bytes: usize::MAX,
         }
     }
 }
@@ -32,7 +35,7 @@ pub struct Options {
     pub mode: GraphemeClusterMode,
     /// The column at which the prompt ends: the first line of the text begins there, and every other line at 0.
     pub prompt: Unit,
-    /// How much the record may hold.
+    /// How much the record and the ring may hold.
     pub bound: Bound,
 }
 

@@ -53,6 +53,7 @@ fn forgets(rt: &impl Abort, session: &mut Session) -> Result<(), Fail> {
     session.set_bound(Bound {
         entries: 2,
         bytes: usize::MAX,
+        ring_bytes: usize::MAX,
     });
     is_so(rt, session.record().len() == 2, "two entries are left");
     // a command forgets nothing by itself

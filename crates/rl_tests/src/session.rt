@@ -283,6 +283,7 @@ fn kills_on(rt: &impl Abort, session: &mut Session) -> Result<(), Fail> {
     session.set_bound(Bound {
         entries: 0,
         bytes: 0,
+        ring_bytes: usize::MAX,
     });
     let back = Command::Kill(Movement::BeginningOfLine);
     replies(rt, session, &back, &Reply::Answer(true));

@@ -107,6 +107,7 @@ pub struct lodvarn_options {
     pub ring_size: usize,
     pub max_entries: usize,
     pub max_bytes: usize,
+    pub max_ring_bytes: usize,
 }
 pub const LODVARN_WHOLE_LINE_: lodvarn_movement_kind = 100;
 pub const LODVARN_TO_LINE_START_: lodvarn_movement_kind = 101;

@@ -15,7 +15,7 @@ pub use bindings::*;
 /// No limit for the text.
 pub const LODVARN_NO_LIMIT: usize = usize::MAX;
 
-/// No bound for the record.
+/// No bound for the record and the ring.
 pub const LODVARN_NO_BOUND: usize = usize::MAX;
 
 /// Of motions by rows: the column of the cursor.
@@ -30,6 +30,7 @@ pub const LODVARN_OPTIONS: lodvarn_options = lodvarn_options {
     ring_size: 60,
     max_entries: LODVARN_NO_BOUND,
     max_bytes: LODVARN_NO_BOUND,
+    max_ring_bytes: LODVARN_NO_BOUND,
 };
 
 #[cfg(test)]

@@ -83,6 +83,12 @@ impl<'t> SessionBuilder<'t> {
         self
     }
 
+    /// Lets the texts of the kill ring have so many bytes together.
+    pub fn max_ring_bytes(mut self, max_ring_bytes: usize) -> Self {
+        self.options.max_ring_bytes = Some(max_ring_bytes);
+        self
+    }
+
     /// Opens the session. No room is found for the limit before it is needed.
     ///
     /// # Errors

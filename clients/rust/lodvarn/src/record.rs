@@ -157,7 +157,8 @@ methods! {
     /// [`max_bytes`](Options::max_bytes), the oldest changes and groups are forgotten at once, and by each later call,
     /// so that a session that goes on for long takes no more and more memory. An undo does not go back over them. A
     /// group that is open stays, with all that comes after its begin, and so does what was undone. Numbers of entries
-    /// that were told before count what is gone.
+    /// that were told before count what is gone. The oldest texts of the ring beyond
+    /// [`max_ring_bytes`](Options::max_ring_bytes) are dropped so too.
     ///
     /// ```
     /// # use lodvarn::{Fault, Session};

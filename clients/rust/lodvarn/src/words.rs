@@ -224,6 +224,8 @@ pub struct Options {
     pub max_entries: Option<usize>,
     /// How many bytes of text these may have, of what went and of what came.
     pub max_bytes: Option<usize>,
+    /// How many bytes the texts of the kill ring may have together. At first `None`.
+    pub max_ring_bytes: Option<usize>,
 }
 
 impl Options {
@@ -236,6 +238,7 @@ impl Options {
             ring_size: self.ring_size,
             max_entries: self.max_entries.unwrap_or(ffi::LODVARN_NO_BOUND),
             max_bytes: self.max_bytes.unwrap_or(ffi::LODVARN_NO_BOUND),
+            max_ring_bytes: self.max_ring_bytes.unwrap_or(ffi::LODVARN_NO_BOUND),
             ..ffi::LODVARN_OPTIONS
         }
     }
@@ -252,6 +255,7 @@ impl Options {
             ring_size: options.ring_size,
             max_entries: bounded(options.max_entries, ffi::LODVARN_NO_BOUND),
             max_bytes: bounded(options.max_bytes, ffi::LODVARN_NO_BOUND),
+            max_ring_bytes: bounded(options.max_ring_bytes, ffi::LODVARN_NO_BOUND),
         }
     }
 }

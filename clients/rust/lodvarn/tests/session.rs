@@ -47,8 +47,10 @@ fn options_are_those_that_were_set() -> Result<(), Fault> {
     (options.mode, options.prompt) = (Mode::NoZwj, 3);
     (options.limit, options.ring_size) = (Some(20), 1);
     (options.max_entries, options.max_bytes) = (Some(5), Some(50));
+    options.max_ring_bytes = Some(9);
     let built = Session::builder().mode(Mode::NoZwj).prompt(3).limit(20);
     let built = built.ring_size(1).max_entries(5).max_bytes(50);
+    let built = built.max_ring_bytes(9);
     let mut session = built.open()?;
     assert_eq!(session.options(), options);
     (options.mode, options.limit, options.max_bytes) = (Mode::WcWidth, None, None);

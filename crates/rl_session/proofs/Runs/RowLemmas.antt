@@ -1,5 +1,6 @@
 -- What each row of a session keeps, and how a run goes on.
 use Rattle.rl_session.proofs.Common.{None, Some, Option, ap₂, cond_both, popped_ring, turned, yank_size, ring_step, Ring, Event, IsChange, Pair, Append, List, [], ◌∷◌, ◌++◌, ◌≡◌, ◌∙◌, ap, true, false, inl, inr, refl, subst, sym, append_assoc, map-append, ℕ, IsSome, min, IsUtf8, unwind, level, Command, Reply, State, Replays, origin, Start, Course, never, when, stays, goes, edits, lends, pops, tells, Came, popped, Effect, by_steps, puts_begin, puts_ends, puts_end, shortens, takes_back, puts_again, Became, within_bound, no_bound, pair_step, Row, held, held_of, Leads, Run, AfterEach, commands_of, replies_of, steps_in}
+use Rattle.rl_base.proofs.Ring.BoundLemmas.{within-unbounded}
 use Rattle.rl_base.proofs.Ring.KillGroupLemmas.{killed_as-lasts, lasts, lent-lasts, ring_step-lasts}
 use Rattle.rl_base.specs.KillRing.{yank}
 use Rattle.rl_base.specs.declared.kill_ring.NewKill.{NewKill}
@@ -107,7 +108,7 @@ Step-rule old new command reply s = ap (λ (p : Options × (ℕ × NewKill)). p.
 
 -- with no bound among the options nothing is forgotten
 pub within_bound-none : (s : State) → s.options.bound ≡ no_bound → within_bound s ≡ s
-within_bound-none s none = grind (arith, fitting-stay)
+within_bound-none s none = grind (arith, fitting-stay, within-unbounded)
 
 -- what a row keeps, rows keep
 pub Leads-keeps : (Holds : State → Type 0) → ((row : Row) → Holds row.before → Holds row.after) → (rows : List Row) (old new : State) → Leads old rows new → Holds old → Holds new

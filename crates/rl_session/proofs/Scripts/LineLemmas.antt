@@ -94,6 +94,25 @@ pub Took-ended : (old new : Interpreter) (part end out : List ℕ) (a b : Option
 Took-ended old new part end out a b h k l w =
     Took-trans old old new part (part ++ end) [] end (10 ∷ []) a a b (Took-part old part end a) (Took-line old new (part ++ end) out a b (HasNoNewline-append part end h k) l w)
 
+-- nothing was read yet
+Consumes-nothing : (left : Option (List ℕ)) → Consumes left left []
+Consumes-nothing None = tt
+Consumes-nothing (Some bytes) = refl
+
+pub Runs-nothing : (left held : Option (List ℕ)) (now : Interpreter) (part : List ℕ) → now ≡ started → part ≡ [] → Runs left left held held now part
+Runs-nothing left held now part e none = record {
+  input = [];
+  read = Consumes-nothing left;
+  took = record {
+    lines = [];
+    out = [];
+    split = λ more. ap (λ p. lines_of (p ++ more)) (sym none);
+    ended = λ more. ap (λ p. whole_lines (p ++ more)) (sym none);
+    outputs = (refl, e);
+    written = Appends-nil held;
+  };
+}
+
 -- more was read, and taken
 pub Runs-more : (left mid leaves held holds now_holds : Option (List ℕ)) (now new : Interpreter) (part part' bytes : List ℕ)
     → Runs left mid held holds now part → Consumes mid leaves bytes → Took now part bytes holds now_holds new part' → Runs left leaves held now_holds new part'

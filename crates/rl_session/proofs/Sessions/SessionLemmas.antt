@@ -1,5 +1,6 @@
 -- What holds whatever a call answered.
 use Rattle.rl_session.proofs.Common.{ToldOutcome, Outcome, Cut, replay_entries, Bool, false, true, inr, List, [], Result, Ok, Err, ◌≡◌, ◌∙◌, ap, arith, refl, subst, sym, append-nil, inl, ◌≤◌, ℕ, length, take_all, IsCharBoundary-start, IsUtf8-nil, Option, None, max, IsSome, Some, IfOk, IfErr, IsUtf8, Event, Start, Stop, Refusal, Line, Moved, Plan, Done, Halted, or_no_memory, Takes, nothing_more, a_copy, insert_str_plan, Told, Record, agree, replays_to, unwind, Redone, Undone, AtRest, Follows, pair_step, pair_refused, Pair, IsCharBoundary, Walks, line_back, bytes_eq-Decides, same_Some}
+use Rattle.rl_base.proofs.Ring.BoundLemmas.{killing-within}
 use Rattle.rl_base.proofs.Texts.EventLemmas.{apply-InsertStr}
 use Rattle.rl_base.specs.declared.listeners.Refusal.TheVariants as why
 use Rattle.rl_line.proofs.Records.JoinLemmas.{record_step-Start, record_step-Stop}
@@ -131,7 +132,7 @@ follows_unwind r line f = grind (arith, value_of, line_back-unwind)
 pub follows_replay : (r : Record) (line : Line) → Follows line r → IsSome (replay_entries r.pending line.text)
 follows_replay r line f = grind (arith, value_of, line_ahead-replay)
 
-pub ruleset resting = (Walks-forgotten, Walks-begun, Walks-closed, Walks-truncated, replays-all, redone-walks, redo-fits, Walks-ahead)
+pub ruleset resting = (Walks-forgotten, killing-within, Walks-begun, Walks-closed, Walks-truncated, replays-all, redone-walks, redo-fits, Walks-ahead)
 
 pub ruleset places = (range-before, range-some)
 

@@ -1,4 +1,4 @@
-//! The bound of a session's record, beyond which the session forgets the oldest changes.
+//! The bound of a session's record and of its ring, beyond which the session forgets the oldest changes and killed texts.
 ghost use Rattle.std.specs.Prelude.{◌≡◌, List, ℕ};
 ghost use Rattle.rl_session.specs.State.{ChangedFrom, Follows, Replays, ReportedFrom, Stands, State};
 ghost use Rattle.rl_session.specs.Commands.{Step};
@@ -12,7 +12,7 @@ use crate::options::Bound;
 use crate::session::Session;
 
 impl Session {
-    /// Sets how much the record may hold, and forgets at once what is beyond that, as `forget` does. A new session has no
+    /// Sets how much the record and the ring may hold, and forgets at once what is beyond that, as `forget` does. A new session has no
     /// bound.
     pub fn set_bound(&mut self, bound: Bound)
         ensures set { self.new ≡ within_bound (bounded_by bound self.old) }
@@ -24,7 +24,8 @@ impl Session {
 
     /// Forgets the oldest changes and closed groups, as long as the record has more entries than its bound, or more bytes
     /// of text in them, old and new. It stops at the begin of an open group. An undo goes back to the text with which the
-    /// rest begins, and what was undone can be redone as before; text, cursor, ring and reports stay. It takes no memory.
+    /// rest begins, and what was undone can be redone as before; text, cursor and reports stay. And it drops the ring's
+    /// oldest texts beyond its bound, as `forget` of the ring does. It takes no memory.
     ///
     /// `apply`, `run` and scripts never forget by themselves. What is said of runs goes on after it, from the text with
     /// which the record then begins (`what_is_left_replays`). Only an undo may find nothing, or less than it is to take:
@@ -37,6 +38,7 @@ impl Session {
     {
         let bound = self.options.bound;
         self.pair.changes.forget(bound.entries, bound.bytes);
+        self.pair.ring.forget(bound.ring_bytes);
         self.stands();
         self.follows();
     }

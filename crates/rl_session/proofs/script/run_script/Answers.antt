@@ -1,5 +1,6 @@
-use Rattle.rl_session.proofs.Common.{rules, err_from_is_err_and}
+use Rattle.rl_session.proofs.Common.{err_from_is_err_and}
 use Rattle.rl_session.proofs.Scripts.FaultLemmas.{StoppedBy-first, Stopped-by}
+use Rattle.rl_session.proofs.Scripts.LineLemmas.{Runs-nothing}
 use Rattle.rl_session.proofs.script.run_script.Goals as goal
 
 pub returns-in_err-interpreter : goal.returns-in_err-interpreter
@@ -8,4 +9,4 @@ returns-in_err-interpreter g c =
     rw (p.1, p.2, c.in_err-interpreter.ensures.err) (record { ok = tt; err = Stopped-by _ _ _ _ _ (StoppedBy-first _ _); fault = StoppedBy-first _ _ })
 
 pub run_blocks-requires-clause-runs : goal.run_blocks-requires-clause-runs
-run_blocks-requires-clause-runs g c = rw (c.in_ok-interpreter.ensures.ok, c.new-part.ensures.items) (search rules)
+run_blocks-requires-clause-runs g c = Runs-nothing _ _ _ _ c.in_ok-interpreter.ensures.ok c.new-part.ensures.items
