@@ -435,6 +435,11 @@ int lodvarn_begin_group(lodvarn *s);
 int lodvarn_end_group(lodvarn *s);
 int lodvarn_end_all_groups(lodvarn *s);
 
+/* Takes the group up again that was closed last, if nothing was recorded after it: it is open, and what comes is a part
+ * of it, until it is closed once more. What was undone is forgotten then. Returns NOTHING if there is no such group, and
+ * the record stays. */
+int lodvarn_reopen_group(lodvarn *s);
+
 /* Undoes the last n changes and groups, all if there are fewer. The cursor goes to where it was before them. An edit is
  * a change of its own, or several, as its comment says. But it joins the last change, and is undone with it, if it is
  * - one letter or digit by lodvarn_insert with n = 1, and the last change an insertion that ends at its place;

@@ -123,6 +123,7 @@ static int run_command(void) {
     case 31: case 32: return lodvarn_kill_range(s, range, LODVARN_FORWARD + below(2));
     case 33: return lodvarn_keep(s, text, size);
     case 34: return bound();
+    case 35: return below(2) ? lodvarn_part(s) : lodvarn_reopen_group(s);
     default: return lodvarn_insert(s, c, n);
     }
 }

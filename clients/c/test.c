@@ -372,9 +372,14 @@ static void groups_are_closed(void) {
     DOES(DONE, lodvarn_undo(s, 1), "|one");
     SEE(!lodvarn_can_undo(s) && lodvarn_can_redo(s));
     DOES(DONE, lodvarn_redo(s), "ONEb|");
+    SEE(lodvarn_reopen_group(s) == LODVARN_DONE && lodvarn_level(s) == 1);
+    lodvarn_insert(s, 'c', 1);
+    SEE(lodvarn_reopen_group(s) == LODVARN_NOTHING && lodvarn_end_group(s) == LODVARN_DONE && !lodvarn_level(s));
+    DOES(DONE, lodvarn_undo(s, 1), "|one");
+    DOES(DONE, lodvarn_redo(s), "ONEbc|");
     for (int i = 0; i < 3; i++) lodvarn_begin_group(s), lodvarn_insert(s, 'd', 1);
     SEE(lodvarn_level(s) == 3 && lodvarn_end_all_groups(s) == LODVARN_DONE && !lodvarn_level(s));
-    DOES(DONE, lodvarn_undo(s, 1), "ONEb|");
+    DOES(DONE, lodvarn_undo(s, 1), "ONEbc|");
 }
 
 static void options_take_effect(void) {

@@ -203,6 +203,13 @@ static int end(lodvarn *s) {
     return answer;
 }
 
+static int reopen(lodvarn *s) {
+    size_t level = lodvarn_level(s);
+    int answer = lodvarn_reopen_group(s);
+    see("reopen", lodvarn_level(s) == level + (answer == LODVARN_DONE));
+    return answer;
+}
+
 static int end_one(lodvarn *s) {
     size_t level = lodvarn_level(s);
     int answer = lodvarn_end_group(s);
@@ -266,6 +273,7 @@ enum reply { OK, TRUTH, AT_END, TEXT, MARK, AT };
     ROW(begin, MARK, "", begin(s))                                                                     \
     ROW(end, TRUTH, "", end(s))                                                                        \
     ROW(endone, TRUTH, "", end_one(s))                                                                 \
+    ROW(reopen, TRUTH, "", reopen(s))                                                                  \
     ROW(undo, TRUTH, "N", undo(s, g->n))                                                               \
     ROW(redo, TRUTH, "", redo(s))                                                                      \
     ROW(trunc, OK, "N", lodvarn_truncate(s, g->n))                                                     \

@@ -229,6 +229,17 @@ class Groups(Scripts):
                         raise fault
             self.assertEqual((session.text, session.level, session.undo(), session.text), ("ab c", 0, True, ""))
 
+    def test_a_group_goes_on(self):
+        session = Session("one")
+        for letter in "ab":
+            with session.group(reopen=True):
+                session.insert(letter)
+        self.assertEqual((session.text, session.undo(), session.text), ("oneab", True, "one"))
+        session.insert("-")
+        with session.group(reopen=True):
+            session.insert("c")
+        self.assertEqual((session.text, session.undo(), session.text, session.level), ("one-c", True, "one-", 0))
+
     def test_it_hides_no_exception(self):
         session = Session("")
         with mock.patch.object(Session, "end_group", side_effect=lodvarn.NoMemoryError):
@@ -269,6 +280,7 @@ ARGUMENTS = {
     "tuple[int, int]": ((0, 0), [None, ("1", 0), (0, 1.0)], [(-1, 0), (0, 2**64)]),
     "str": ("a", [None, b"a", 97], []),
     "bytes": (b"", [None, "a"], []),
+    "bool": (True, [], []),
     "Movement": (LINE, [None, 100, Word.VI, ("whole_line", ())], []),
     "Word": (Word.VI, [None, 22, Mode.UNICODE], []),
     "Stop": (Stop.AT_START, [None, 30, Word.VI], []),

@@ -669,15 +669,24 @@ class Session:
         """Closes all open groups. Returns False if they have no change, or none is open."""
         return self._do(lib.py_end_all_groups)
 
+    def reopen_group(self) -> bool:
+        """Takes the group up again that was closed last, so that what comes is a part of it.
+
+        What was undone is forgotten then. Returns False if something was recorded after it, or there is none.
+        """
+        return self._do(lib.py_reopen_group)
+
     @contextmanager
-    def group(self) -> Iterator[None]:
+    def group(self, reopen: bool = False) -> Iterator[None]:
         """Makes one undo of the changes that are made inside of a `with`, also if an exception ends it.
 
+        With `reopen` it goes on with the group that was closed last, if nothing was recorded after that.
         It closes the groups that were begun inside of it, and no others, so one may stand in another. If that is
         refused after an exception, groups stay open and the exception goes on.
         """
         level = self.level
-        self.begin_group()
+        if not (reopen and self.reopen_group()):
+            self.begin_group()
         try:
             yield
         except BaseException:

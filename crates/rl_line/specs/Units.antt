@@ -1,5 +1,5 @@
 -- Undo groups: the units that an undo takes off and a redo puts back, and what each call makes of the record.
-use Rattle.std.specs.Prelude.{◌≡◌, ℕ, zero, suc, max, min, not, ◌||◌, Bool, true, false, List, [], ◌∷◌, ◌++◌, length, map, take, drop, reverse, Option, Some, None, IsSome, IsTrue, option_and_then, if◌then◌else◌}
+use Rattle.std.specs.Prelude.{◌≡◌, ℕ, zero, suc, ◌-◌, max, min, not, ◌||◌, Bool, true, false, List, [], ◌∷◌, ◌++◌, length, map, take, drop, reverse, Option, Some, None, IsSome, IsTrue, option_and_then, if◌then◌else◌}
 use Rattle.rl_base.specs.Event.{Event}
 use Rattle.rl_line.specs.declared.change.Freshness.TheVariants.{Stale}
 use Rattle.rl_line.specs.Record.{Entry, Begin, End, Changed, Record, record_step}
@@ -85,6 +85,15 @@ ends_in_begin [] = false
 ends_in_begin (e ∷ []) = is_begin e
 ends_in_begin (e ∷ (d ∷ ds)) = ends_in_begin (d ∷ ds)
 
+abbrev pub is_end : Entry → Bool
+is_end End = true
+is_end _ = false
+
+abbrev pub ends_in_end : List Entry → Bool
+ends_in_end [] = false
+ends_in_end (e ∷ []) = is_end e
+ends_in_end (e ∷ (d ∷ ds)) = ends_in_end (d ∷ ds)
+
 -- the group that was opened last is closed: a Begin at the end is removed, else an End is added
 abbrev pub end_one : List Entry → List Entry
 end_one [] = End ∷ []
@@ -123,6 +132,10 @@ redone r = record { recorded = r.recorded ++ redo_of r.pending; pending = drop (
 
 abbrev pub truncated : ℕ → Record → Record
 truncated len r = record { recorded = take len r.recorded; pending = []; fresh = Stale }
+
+-- the group that ends the record is taken up again, if one does: its End is taken off
+abbrev pub reopened : Record → Record
+reopened r = if ends_in_end r.recorded then truncated (length r.recorded - 1) r else r
 
 -- the open groups, the latest first, each with whether it holds a change; the latest comes to hold one
 abbrev pub touched : List Bool → List Bool

@@ -9,7 +9,7 @@ ghost use Rattle.rl_base.specs.declared.listeners.Refusal.TheVariants.{NoMemory}
 ghost use Rattle.rl_line.specs.Plan.{NeverRefuses, listener_after};
 ghost use Rattle.rl_line.specs.Record.{bytes_back, cursors_of, entry_of, event_of, freshness_joined, freshness_told, inverse, is_parted, new_text, old_text, with_cursors};
 ghost use Rattle.rl_line.specs.Undo.{Reaches, count_over, cursor_after, cursor_told, cursor_stands, line_back, steps_ahead};
-ghost use Rattle.rl_line.specs.Units.{is_begin, is_change};
+ghost use Rattle.rl_line.specs.Units.{is_begin, is_change, is_end};
 ghost use Rattle.rl_line.specs.Change.{Outgrows, TakesIn, text_after, text_back, place, entry_to_undo, greatest_back_over, length_back, order, entries_to_undo};
 
 use crate::inserted::Inserted;
@@ -126,6 +126,19 @@ impl Change {
         match self {
             Change::Begin => true,
             Change::End
+            | Change::Insert(_, _, _)
+            | Change::Delete(_, _, _)
+            | Change::Replace(_, _, _) => false,
+        }
+    }
+
+    /// Whether it closes a group.
+    pub(crate) fn is_end(&self) -> bool
+        ensures { result ≡ is_end (entry_of self.now) }
+    {
+        match self {
+            Change::End => true,
+            Change::Begin
             | Change::Insert(_, _, _)
             | Change::Delete(_, _, _)
             | Change::Replace(_, _, _) => false,

@@ -12,7 +12,7 @@ ghost use Rattle.rl_line.specs.Change.{entries_to_undo};
 ghost use Rattle.rl_line.specs.Plan.{NeverRefuses};
 ghost use Rattle.rl_line.specs.Record.{IsOfKind, Record, entry_of, last_insert, parted, record_step, replays_to};
 ghost use Rattle.rl_line.specs.Undo.{CopiesBack, GoesOver, LineOutOfRoom, OutOfRoom, Redone, StandsStill, TriesAhead, TriesBack, Undone, line_ahead, line_back, line_over, listener_ahead, listener_back, listener_over, texts_ahead, texts_back, texts_over, unit_of};
-ghost use Rattle.rl_line.specs.Units.{BothMatched, IsMatched, adds_end, begun, ended, ended_one, has_change, is_change, last_of, level, redo_of, truncated, with_closed};
+ghost use Rattle.rl_line.specs.Units.{BothMatched, IsMatched, adds_end, begun, ended, ended_one, ends_in_end, has_change, is_change, last_of, level, redo_of, reopened, truncated, with_closed};
 
 mod foretelling;
 
@@ -28,7 +28,7 @@ use std::marker::Model;
 /// The changes of a line in the order in which they were made, with the marks of their groups, and those that
 /// were undone and may be redone. It is a listener of the line, and a refused call leaves it as it was.
 ///
-/// Every call that records a change, also an empty one, and every `begin`, `end` and `truncate` drops what was
+/// Every call that records a change, also an empty one, and every `begin`, `end`, `reopen` and `truncate` drops what was
 /// undone; the start and the stop of a kill and the telling of cursors do not.
 ///
 /// With a change it keeps the cursor before it and after it, if it is told them right after the change. Where changes
@@ -128,6 +128,21 @@ impl Changeset {
     {
         let open = self.level();
         self.close(open.min(1))
+    }
+
+    /// Takes the group up again that was closed last, if nothing was recorded after it: it is open then, and what comes is a
+    /// part of it, until it is closed once more. Answers whether it did. It drops what was undone then, and else changes
+    /// nothing.
+    pub fn reopen(&mut self) -> bool
+        ensures answer { result ≡ ends_in_end self.old.recorded }
+        ensures done { self.new ≡ reopened self.old }
+    {
+        if !entries::ends_in_end(self.recorded()) {
+            return false;
+        }
+        let len = self.entries.len();
+        self.truncate(len - 1);
+        true
     }
 
     // Closes so many groups, the one that was opened last first. Answers whether one of them holds something.

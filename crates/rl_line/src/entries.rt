@@ -11,7 +11,7 @@ ghost use Rattle.rl_base.specs.declared.listeners.Refusal.TheVariants.{NoMemory}
 ghost use Rattle.rl_line.specs.declared.change.Freshness.TheVariants.{Added, Stale};
 ghost use Rattle.rl_line.specs.Record.{Changed, Insertion, IsOfKind, untold, entry_of, freshness_told, last_insert, parted, record_step};
 ghost use Rattle.rl_line.specs.Undo.{Tries, line_over};
-ghost use Rattle.rl_line.specs.Units.{adds_end, end_one, end_times, ends_in_begin, has_change, truncated, with_closed};
+ghost use Rattle.rl_line.specs.Units.{adds_end, end_one, end_times, ends_in_begin, ends_in_end, has_change, truncated, with_closed};
 ghost use Rattle.rl_line.specs.Entries.{Joins, added, cut_at, settled};
 
 use crate::change::{Change, Freshness, Texts, Way, copied, patch_over};
@@ -420,6 +420,17 @@ fn ends_in_begin(entries: &[Change]) -> bool
 {
     match entries.last() {
         Some(last) => last.is_begin(),
+        None => false,
+    }
+}
+
+/// Whether the last entry is an End.
+#[tactic(auto, using(crate::proofs::Records::EntryLemmas::at_the_end))]
+pub(crate) fn ends_in_end(entries: &[Change]) -> bool
+    ensures { result ≡ ends_in_end (map entry_of entries.now) }
+{
+    match entries.last() {
+        Some(last) => last.is_end(),
         None => false,
     }
 }

@@ -8,9 +8,9 @@ ghost use Rattle.rl_line.specs.Forgetting.{fits, gone_within, kept_within};
 ghost use Rattle.rl_line.specs.Line.{Line};
 ghost use Rattle.rl_line.specs.Plan.{after};
 ghost use Rattle.rl_line.specs.Record.{Begin, Entry, End, IsRecorded, Record, entries_of, parted, record_step, replay_entries, unwind};
-ghost use Rattle.rl_line.specs.declared.change.Freshness.TheVariants.{Parted};
+ghost use Rattle.rl_line.specs.declared.change.Freshness.TheVariants.{Parted, Stale};
 ghost use Rattle.rl_line.specs.Undo.{Redone, Redos, StandAfter, StandBefore, Undone, line_ahead, line_back, steps_ahead, steps_back};
-ghost use Rattle.rl_line.specs.Units.{BothMatched, GroupAt, InGroup, IsMatched, adds_end, after_in_group, begun, ended, ended_one, group_of, has_change, in_group, kept_of, last_of, last_units, level, opens, redo_of};
+ghost use Rattle.rl_line.specs.Units.{BothMatched, GroupAt, InGroup, IsMatched, adds_end, after_in_group, begun, ended, ended_one, group_of, has_change, in_group, kept_of, last_of, last_units, level, opens, redo_of, reopened};
 
 /// Where entries lead from one text to another, unwinding them leads back from that to the first, and conversely.
 pub fn unwinding_is_replaying()
@@ -79,6 +79,12 @@ pub fn group_is_closed_alone()
         → (ended_one (in_group events r)).recorded ≡ r.recorded }
     ensures level { (r : Record) (events : List Event) → IsMatched r.recorded
         → level (ended_one (in_group events r)).recorded ≡ level r.recorded }
+{}
+
+/// Where the end of a group added an End, `reopen` right after it gives back what was recorded before that end.
+pub fn reopen_takes_back_an_end()
+    ensures { (r : Record) → adds_end (min 1 (level r.recorded)) r.recorded ≡ true
+        → reopened (ended_one r) ≡ record { recorded = r.recorded; pending = []; fresh = Stale } }
 {}
 
 /// After a part an event that records a change adds an entry of its own, whatever was recorded before: an undo of one unit

@@ -68,6 +68,7 @@ pub(crate) enum Call {
     Begin,
     End,
     EndOne,
+    Reopen,
     Truncate(usize),
     HasUndo,
     HasRedo,
@@ -161,6 +162,7 @@ pub(crate) fn make(
         Call::Begin => record.begin(),
         Call::End => truth(record.end()),
         Call::EndOne => truth(record.end_one()),
+        Call::Reopen => Ok(usize::from(record.reopen())),
         Call::Truncate(len) => {
             record.truncate(len);
             Ok(1)
@@ -305,6 +307,15 @@ fn the_last_group_is_closed_alone(rt: HostRuntime) -> Result<(), Fail> {
         (Call::Begin, 6, "abc", 3, 7, 2),
         (Call::EndOne, 0, "abc", 3, 6, 1),
         (Call::EndOne, 1, "abc", 3, 7, 0),
+        // and is taken up again, with the inner one, but not past a change; what was undone goes
+        (Call::Yank("-"), 1, "abc-", 4, 8, 0),
+        (Call::Reopen, 0, "abc-", 4, 8, 0),
+        (Call::Undo(1), 1, "abc", 3, 7, 0),
+        (Call::Reopen, 1, "abc", 3, 6, 1),
+        (Call::Redo, 0, "abc", 3, 6, 1),
+        (Call::Reopen, 1, "abc", 3, 5, 2),
+        (Call::Reopen, 0, "abc", 3, 5, 2),
+        (Call::End, 1, "abc", 3, 7, 0),
         (Call::Undo(1), 1, "", 0, 0, 0),
     ];
     goes(&rt, rt.alloc(), "", STEPS)

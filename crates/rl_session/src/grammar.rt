@@ -398,6 +398,7 @@ fn lone_command(alloc: Global, word: &str) -> Option<Command>
         "begin" => Some(Command::Begin),
         "end" => Some(Command::End),
         "endone" => Some(Command::EndOne),
+        "reopen" => Some(Command::Reopen),
         "redo" => Some(Command::Redo),
         "where" => Some(Command::LinePlace),
         _ => None,

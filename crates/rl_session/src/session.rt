@@ -102,6 +102,8 @@ pub enum Command {
     End,
     /// Closes the group that was opened last.
     EndOne,
+    /// Takes the group up again that was closed last, if nothing was recorded after it.
+    Reopen,
     /// Undoes the given number of units: one for 0, and all if there are fewer.
     Undo(RepeatCount),
     /// Redoes what was undone last.
@@ -371,6 +373,7 @@ impl Session {
             Command::Begin => self.begin(),
             Command::End => self.end(),
             Command::EndOne => self.end_one(),
+            Command::Reopen => self.reopen(),
             Command::Undo(n) => self.undo(*n),
             Command::Redo => self.redo(),
             Command::Truncate(len) => self.truncate(*len),

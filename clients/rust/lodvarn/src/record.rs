@@ -1,7 +1,7 @@
 //! Undo, redo, and groups of changes.
 use crate::calls::methods;
 use crate::words::{Fault, Options};
-use crate::{done, found, Session};
+use crate::{done, found, is_done, Session};
 use std::ops::{Deref, DerefMut};
 
 /// An open undo group, from [`Session::group`]. It is the session meanwhile, and closes the group when it is dropped.
@@ -123,6 +123,10 @@ methods! {
     ///
     /// [`Fault::NoMemory`]; the group stays open.
     pub fn end_group(&mut self) -> Result<bool, Fault> = found(lodvarn_end_group());
+
+    /// Takes the group up again that was closed last, so that what comes is a part of it, until it is closed once more. What
+    /// was undone is forgotten then. False if something was recorded after it, or there is none.
+    pub fn reopen_group(&mut self) -> bool = is_done(lodvarn_reopen_group());
 
     /// Closes all open groups. False if they have no change, or none is open.
     ///

@@ -1,5 +1,5 @@
 -- Entries in the list of the code: counting them, and closing groups.
-use Rattle.rl_line.proofs.Common.{common_steps, ◌≡◌, ℕ, ◌+◌, ◌-◌, ◌<◌, ◌≤◌, arith, suc, List, [], ◌∷◌, ◌++◌, length, take, drop, get_or, map, reverse, refl, sym, ap, ◌∙◌, ◌⊎◌, inl, inr, or-true, append-nil, map-append, reverse-append, drop_all, zero, max, slice_get, cond, IsSome, Bool, true, false, not, ◌||◌, Option, Some, None, option_to_list, Change, Entry, Begin, End, Changed, entry_of, last_of, redo_of, adds_end, end_one, end_times, ends_in_begin, is_begin, is_change, IsMatched, deep, same_Some, take-map}
+use Rattle.rl_line.proofs.Common.{common_steps, ◌≡◌, ℕ, ◌+◌, ◌-◌, ◌<◌, ◌≤◌, arith, suc, List, [], ◌∷◌, ◌++◌, length, take, drop, get_or, map, reverse, refl, sym, ap, ◌∙◌, ◌⊎◌, inl, inr, or-true, append-nil, map-append, reverse-append, drop_all, zero, max, slice_get, cond, IsSome, Bool, true, false, not, ◌||◌, Option, Some, None, option_to_list, Change, Entry, Begin, End, Changed, entry_of, last_of, redo_of, adds_end, end_one, end_times, ends_in_begin, ends_in_end, is_begin, is_end, is_change, IsMatched, deep, same_Some, take-map}
 use Rattle.rl_line.proofs.Records.Counts.{ahead_len, back_len}
 use Rattle.rl_line.proofs.Records.CountLemmas.{last-counted, redo-counted}
 use Rattle.rl_line.proofs.Records.LastLemmas.{end_one-cases, end_one-past, ends-past, read-last}
@@ -104,6 +104,15 @@ ends-at [] o e = ap begins (sym e)
 ends-at (x ∷ []) o e = ap begins (sym e)
 ends-at (x ∷ (y ∷ ys)) o e = ends-at (y ∷ ys) o (e ∙ ap (slice_get (x ∷ (y ∷ ys))) (two (length ys)))
 
+abbrev pub ends : Option Change → Bool
+ends None = false
+ends (Some x) = is_end (entry_of x)
+
+pub ends-at_end : (xs : List Change) (o : Option Change) → o ≡ slice_get xs (length xs - 1) → ends_in_end (map entry_of xs) ≡ ends o
+ends-at_end [] o e = ap ends (sym e)
+ends-at_end (x ∷ []) o e = ap ends (sym e)
+ends-at_end (x ∷ (y ∷ ys)) o e = ends-at_end (y ∷ ys) o (e ∙ ap (slice_get (x ∷ (y ∷ ys))) (two (length ys)))
+
 -- a Begin at the end goes
 takes_begin-off : (xs : List Entry) (e : Entry) → is_begin e ≡ true → xs ≡ end_one (xs ++ e ∷ [])
 takes_begin-off xs e h = sym (end_one-past xs e [] ∙ ap (λ b. xs ++ cond b [] (e ∷ (End ∷ []))) h ∙ append-nil xs)
@@ -181,4 +190,4 @@ next-alone (y ∷ ys) x e is m =
     let same : x ≡ y = same_Some x y e in
     redo_of-change (entry_of y) (map entry_of ys) (ap (λ z. is_change (entry_of z)) (sym same) ∙ is) m ∙ ap (λ z. entry_of z ∷ []) (sym same)
 
-pub ruleset at_the_end = (Counted-all, Counted-end, Counted-next, adds-before, adds-here, adds-off, end_one-popped, end_one-pushed, ends-at, last-alone, next-alone, take-map)
+pub ruleset at_the_end = (Counted-all, Counted-end, Counted-next, adds-before, adds-here, adds-off, end_one-popped, end_one-pushed, ends-at, ends-at_end, last-alone, next-alone, take-map)

@@ -1,7 +1,7 @@
 -- Groups: where an End stands its group stands before it, and a group without a change leaves no trace.
-use Rattle.rl_line.proofs.Common.{common_steps, ◌≡◌, ℕ, ◌+◌, suc, Bool, true, false, List, [], ◌∷◌, ◌++◌, length, drop, Option, Some, None, refl, sym, ap, subst, ◌∙◌, arith, append-nil, append_assoc, add-zero, or-true, or_assoc, IsSome, zero, not, ◌||◌, Event, Freshness, Entry, Begin, End, Changed, Record, entries_after, entries_of, joined_in, UndoUnit, Open, Whole, close, units, together, opens, level, has_change, is_change, end_one, end_times, ends_in_begin, adds_end, begun, ended, marks, mark, IsMatched, GroupAt, InGroup, Hears, Begins, after_in_group}
+use Rattle.rl_line.proofs.Common.{common_steps, ◌≡◌, ℕ, ◌+◌, suc, Bool, true, false, List, [], ◌∷◌, ◌++◌, length, drop, Option, Some, None, refl, sym, ap, subst, ◌∙◌, arith, append-nil, append_assoc, add-zero, or-true, or_assoc, IsSome, zero, not, ◌||◌, Event, Freshness, Entry, Begin, End, Changed, Record, entries_after, entries_of, joined_in, UndoUnit, Open, Whole, close, units, together, opens, level, has_change, is_change, end_one, end_times, ends_in_begin, adds_end, begun, reopened, ends_in_end, cond_both, take, ◌-◌, ended, marks, mark, IsMatched, GroupAt, InGroup, Hears, Begins, after_in_group}
 use Rattle.rl_line.specs.Record.{record_step}
-use Rattle.rl_line.proofs.Records.LastLemmas.{after-past, end_one-begin, ends-past, ends_in, joined_in-joined}
+use Rattle.rl_line.proofs.Records.LastLemmas.{after-past, but_last, by_last, skips, end_one-begin, ends-past, ends_in, joined_in-joined}
 use Rattle.rl_line.proofs.Records.RecordLemmas.{joins, value_of}
 use Rattle.rl_line.proofs.Records.UnitLemmas.{AllGood, AllGood-left, together-append, Settles, flags_on, cut_good, cut_more-append, good_cuts, units-good, together-units, IsMatched-front, IsMatched-together}
 use Rattle.rl_line.proofs.Records.MatchLemmas.{marks-last, level-is, IsMatched-after, IsMatched-begin}
@@ -160,6 +160,16 @@ Inside-event event front r k = grind (arith, entries_after-inside, IsMatched-aft
 
 pub Inside-begun : (front : List Entry) (r : Record) → Inside front r → Inside front (begun r)
 Inside-begun front r k = grind (arith, common_steps, IsMatched-begin)
+
+pub Inside-reopened : (front : List Entry) (r : Record) → Inside front r → Inside front (reopened r)
+Inside-reopened front r k = cond_both (ends_in_end r.recorded) _ _ (Inside front) (λ h. from k.inner k.is k.matched h) (λ _. k)
+  where
+    from : (inner : List Entry) → r.recorded ≡ front ++ Begin ∷ inner → IsMatched inner → ends_in_end r.recorded ≡ true → InsideOf front (take (length r.recorded - 1) r.recorded)
+    from = by_last (λ inner. r.recorded ≡ front ++ Begin ∷ inner → IsMatched inner → ends_in_end r.recorded ≡ true → InsideOf front (take (length r.recorded - 1) r.recorded))
+        (λ is m h. let other = ap ends_in_end is ∙ skips ends_in_end (λ e d ds. refl) front Begin [] in cc)
+        (λ ys y is m h.
+        let all = is ∙ sym (append_assoc front (Begin ∷ ys) (y ∷ [])) in
+        record { inner = ys; is = ap (λ es. take (length es - 1) es) all ∙ but_last (front ++ Begin ∷ ys) y; matched = IsMatched-front ys (y ∷ []) m })
 
 pub Inside-steps : (steps : List InGroup) (front : List Entry) (r : Record) → Inside front r → Inside front (after_in_group steps r)
 Inside-steps [] front r k = k

@@ -1,5 +1,5 @@
 -- The last entry of a list: what an event, the end of a group and cursors that are told make of it. All before it stays.
-use Rattle.rl_line.proofs.Common.{take_at_read, map-append, reverse-append, zero, reverse, suc, ◌+◌, ◌<◌, length, map, take, drop, get_or, drop-cons, add-one, ◌≡◌, ℕ, ◌⊎◌, inl, inr, true, false, List, [], ◌∷◌, ◌++◌, append-nil, append_assoc, Option, Some, None, refl, sym, ap, subst, ◌∙◌, option_map_or, Event, Freshness, Entry, Begin, End, cursors_of, entries_after, entries_of, entries_told, freshness_added, freshness_joined, freshness_of, freshness_told, is_parted, joined, joined_in, last_told, end_one, end_times, ends_in_begin}
+use Rattle.rl_line.proofs.Common.{take_at_read, map-append, reverse-append, zero, reverse, suc, ◌+◌, ◌<◌, length, map, take, drop, get_or, drop-cons, add-one, ◌≡◌, ℕ, ◌⊎◌, inl, inr, true, false, List, [], ◌∷◌, ◌++◌, append-nil, append_assoc, Option, Some, None, refl, sym, ap, subst, ◌∙◌, option_map_or, Event, Freshness, Entry, Begin, End, cursors_of, entries_after, entries_of, entries_told, freshness_added, freshness_joined, freshness_of, freshness_told, is_parted, joined, joined_in, last_told, end_one, end_times, ends_in_begin, ends_in_end, is_end, ◌-◌, arith, length-append, take_at}
 use Rattle.rl_line.specs.declared.change.Freshness.TheVariants as is
 
 -- what holds of no elements, and of any that end with one, holds of all lists
@@ -151,6 +151,29 @@ end_one-past = passes end_one (λ e d ds. refl)
 
 pub ends-past : (xs : List Entry) (y : Entry) (ys : List Entry) → ends_in_begin (xs ++ y ∷ ys) ≡ ends_in_begin (y ∷ ys)
 ends-past = skips ends_in_begin (λ e d ds. refl)
+
+-- all but the last
+pub but_last : (xs : List Entry) (y : Entry) → take (length (xs ++ y ∷ []) - 1) (xs ++ y ∷ []) ≡ xs
+but_last xs y = take_at xs (y ∷ []) (length (xs ++ y ∷ []) - 1) (omega (arith, length-append xs (y ∷ [])))
+
+-- entries that end with an End, without it
+pub record EndsInEnd (es : List Entry) : Type 0 where
+  pub front : List Entry
+  pub is : es ≡ front ++ End ∷ []
+  pub cut : take (length es - 1) es ≡ front
+
+pub end-last : (es : List Entry) → ends_in_end es ≡ true → EndsInEnd es
+end-last = by_last (λ es. ends_in_end es ≡ true → EndsInEnd es) (λ h. cc) (λ front e h. from front e (sym (end-past front e) ∙ h))
+  where
+    end-past : (front : List Entry) (e : Entry) → ends_in_end (front ++ e ∷ []) ≡ is_end e
+    end-past front e = skips ends_in_end (λ e d ds. refl) front e []
+
+    from : (front : List Entry) (e : Entry) → is_end e ≡ true → EndsInEnd (front ++ e ∷ [])
+    from front End h = record { front = front; is = refl; cut = but_last front End }
+    from front e h = cc
+
+pub end-added : (es : List Entry) → ends_in_end (es ++ End ∷ []) ≡ true
+end-added es = skips ends_in_end (λ e d ds. refl) es End []
 
 -- a Begin at the end is what an end takes off
 pub end_one-begin : (es : List Entry) → end_one (es ++ Begin ∷ []) ≡ es

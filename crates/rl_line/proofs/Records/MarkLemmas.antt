@@ -1,7 +1,7 @@
 -- The record after a begin, an end, a redo and a truncation leads back to the same text.
-use Rattle.rl_line.proofs.Common.{◌≡◌, ℕ, Bool, true, List, [], ◌∷◌, take, Option, Some, None, refl, sym, ap, ◌∙◌, same_text, option_and_then, IsUtf8, Line, Entry, Begin, Record, event_of, inverse, agree, replays_to, unwind, Redone, begun, end_one, redo_of, truncated, with_closed}
+use Rattle.rl_line.proofs.Common.{◌≡◌, ℕ, Bool, true, List, [], ◌∷◌, take, length, ◌-◌, Option, Some, None, refl, sym, ap, ◌∙◌, same_text, option_and_then, IsUtf8, Line, Entry, Begin, End, Record, cond_both, ends_in_end, reopened, event_of, inverse, agree, replays_to, unwind, Redone, begun, end_one, redo_of, truncated, with_closed}
 use Rattle.rl_base.specs.Event.{apply}
-use Rattle.rl_line.proofs.Records.LastLemmas.{end_times-keeps}
+use Rattle.rl_line.proofs.Records.LastLemmas.{end-last, end_times-keeps}
 use Rattle.rl_line.proofs.Records.OriginLemmas.{Kept}
 use Rattle.rl_line.proofs.Records.RecordLemmas.{replay-IsUtf8, unwind-append, unwind-replay}
 use Rattle.rl_line.proofs.Records.UndoLemmas.{line_ahead-replay}
@@ -26,6 +26,11 @@ agree-same (Some a) None h = cc
 pub unwind-truncated : (len : ℕ) (r : Record) (text : List ℕ) → replays_to len r text ≡ true → unwind (truncated len r).recorded text ≡ unwind r.recorded text
 unwind-truncated len r text h = sym (agree-same (unwind r.recorded text) (unwind (take len r.recorded) text) h)
 
+pub unwind-cut : (es : List Entry) (text : List ℕ) → ends_in_end es ≡ true → unwind (take (length es - 1) es) text ≡ unwind es text
+unfolding apply
+unwind-cut es text h =
+    let e = end-last es h in ap (λ ks. unwind ks text) e.cut ∙ sym (ap (λ ks. unwind ks text) e.is ∙ unwind-append e.front (End ∷ []) text)
+
 -- the entries that were made again are taken back first
 pub unwind-redone : (r now : Record) (old new : Line) (x : Bool) → IsUtf8 old.text → Redone r now old new x → unwind now.recorded new.text ≡ unwind r.recorded old.text
 unwind-redone r now old new x u d =
@@ -39,6 +44,10 @@ Kept-begun r line u = record { origin_is = λ start e. unwind-begun r line.text 
 
 pub Kept-closed : (n : ℕ) (r : Record) (line : Line) → IsUtf8 line.text → Kept r (with_closed n r) line line
 Kept-closed n r line u = record { origin_is = λ start e. end_times-keeps (λ es. unwind es line.text ≡ Some start) (λ es k. unwind-end_one es line.text ∙ k) n r.recorded e; utf8 = u }
+
+pub Kept-reopened : (r : Record) (line : Line) → IsUtf8 line.text → Kept r (reopened r) line line
+Kept-reopened r line u =
+    cond_both (ends_in_end r.recorded) _ _ (λ k. Kept r k line line) (λ h. record { origin_is = λ start e. unwind-cut r.recorded line.text h ∙ e; utf8 = u }) (λ _. record { origin_is = λ start e. e; utf8 = u })
 
 pub Kept-truncated : (len : ℕ) (r : Record) (line : Line) → IsUtf8 line.text → replays_to len r line.text ≡ true → Kept r (truncated len r) line line
 Kept-truncated len r line u h = record { origin_is = λ start e. unwind-truncated len r line.text h ∙ e; utf8 = u }

@@ -1,11 +1,11 @@
 -- Entries that lead from a text to another, with their cursors: what keeps that, and where a line goes over them.
-use Rattle.rl_line.proofs.Common.{◌≡◌, ℕ, ◌⊎◌, inl, inr, Bool, true, List, [], ◌∷◌, ◌++◌, length, take, drop, take-append-drop, Option, Some, None, refl, sym, ap, subst, ◌∙◌, same_Some, option_map_or, cond, IsSome, option_and_then, IsCharBoundary, IsUtf8, Refusal, Event, Cursors, is_boundary, text_after, text_back, Line, stepped, Step, Plan, after, listener_after, listener_after_step, Taken, Done, Halted, Freshness, Kind, Swap, Entry, Begin, End, Changed, Record, cursors_of, entries_after, entries_of, entries_told, event_of, freshness_added, freshness_joined, freshness_of, inverse, joined, replay_entries, replays_to, unwind, with_cursors, cursor_after, cursor_told, line_ahead, line_back, Redone, Undone, cursor_stands, begun, end_one, kept_of, last_of, redo_of, truncated, with_closed, LeadsTo, Walk, Walks}
+use Rattle.rl_line.proofs.Common.{◌≡◌, ℕ, ◌⊎◌, inl, inr, Bool, true, List, [], ◌∷◌, ◌++◌, length, take, drop, take-append-drop, Option, Some, None, refl, sym, ap, subst, ◌∙◌, same_Some, option_map_or, cond, cond_both, IsSome, option_and_then, IsCharBoundary, IsUtf8, Refusal, Event, Cursors, is_boundary, text_after, text_back, Line, stepped, Step, Plan, after, listener_after, listener_after_step, Taken, Done, Halted, Freshness, Kind, Swap, Entry, Begin, End, Changed, Record, cursors_of, entries_after, entries_of, entries_told, event_of, freshness_added, freshness_joined, freshness_of, inverse, joined, replay_entries, replays_to, unwind, with_cursors, cursor_after, cursor_told, line_ahead, line_back, Redone, Undone, cursor_stands, begun, end_one, ends_in_end, reopened, kept_of, last_of, redo_of, truncated, with_closed, LeadsTo, Walk, Walks}
 use Rattle.rl_base.specs.Event.{apply}
 use Rattle.rl_base.proofs.Texts.SwapLemmas.{apply-IsUtf8}
 use Rattle.rl_base.proofs.Texts.TextLemmas.{is_boundary-means, is_boundary-true}
 use Rattle.rl_line.specs.Record.{record_step}
 use Rattle.rl_line.proofs.Records.JoinLemmas.{step-cases}
-use Rattle.rl_line.proofs.Records.LastLemmas.{after-cases, end_times-keeps, told-added, told-none, told-past, told-twice}
+use Rattle.rl_line.proofs.Records.LastLemmas.{after-cases, end-last, end_times-keeps, told-added, told-none, told-past, told-twice}
 use Rattle.rl_line.proofs.Records.MarkLemmas.{unwind-truncated}
 use Rattle.rl_line.proofs.Records.MatchLemmas.{redo-front}
 use Rattle.rl_line.proofs.Plans.PlanLemmas.{first_step}
@@ -216,6 +216,17 @@ pub Walks-closed : (n : ℕ) (r : Record) (text : List ℕ) → Walks r text →
 Walks-closed n r text w =
     let back = end_times-keeps (λ es. Walk es w.start text) (λ es v. Walk-end_one es w.start text v) n r.recorded w.back in
     record { start = w.start; is_text = w.is_text; back = back; end = text; ahead = refl; stale = refl }
+
+pub Walks-reopened : (r : Record) (text : List ℕ) → Walks r text → Walks (reopened r) text
+unfolding apply
+Walks-reopened r text w =
+    cond_both (ends_in_end r.recorded) _ _ (λ (k : Record). Walks k text)
+    (λ h.
+    let e = end-last r.recorded h in
+    let (mid, first, last) = Walk-split e.front (End ∷ []) w.start text (subst (λ es. Walk es w.start text) e.is w.back) in
+    let same : mid ≡ text = same_Some _ _ last.1.makes ∙ last.2 in
+    record { start = w.start; is_text = w.is_text; back = subst (λ es. Walk es w.start text) (sym e.cut) (subst (Walk e.front w.start) same first); end = text; ahead = refl; stale = refl })
+    (λ _. w)
 
 -- entries that lead to the text by themselves pass through the same texts
 pub Walks-truncated : (len : ℕ) (r : Record) (text : List ℕ) → replays_to len r text ≡ true → Walks r text → Walks (truncated len r) text

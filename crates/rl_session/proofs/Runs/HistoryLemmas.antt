@@ -6,14 +6,15 @@ use Rattle.rl_line.proofs.Records.RecordLemmas.{replay-IsUtf8}
 use Rattle.rl_line.proofs.Records.RedoLemmas.{redos-give-back}
 use Rattle.rl_line.proofs.Records.UndoLemmas.{line_ahead-replay, line_back-unwind}
 use Rattle.rl_line.proofs.Records.UnitLemmas.{kept-last}
-use Rattle.rl_session.specs.Commands.{keeps, parts}
+use Rattle.rl_session.specs.Commands.{keeps, parts, reopens}
 use Rattle.rl_line.specs.Record.{parted}
+use Rattle.rl_line.specs.Units.{reopened}
 use Rattle.rl_session.specs.State.{Begins}
 use Rattle.rl_base.specs.KillRing.{killed}
 use Rattle.rl_session.specs.declared.session.Reply.TheVariants as says
 use Rattle.rl_session.proofs.Sessions.CourseLemmas.{Heard, Heard-Came}
 use Rattle.rl_session.proofs.Runs.RowLemmas.{Leads-split}
-use Rattle.rl_session.proofs.Runs.PlaceLemmas.{History-more, History-steps, History-begun, History-closed, History-undone, History-redone, History-truncated, undo-held}
+use Rattle.rl_session.proofs.Runs.PlaceLemmas.{History-more, History-steps, History-begun, History-closed, History-undone, History-redone, History-reopened, History-truncated, undo-held}
 
 -- ---- the history
 History-Heard : (start : List ℕ) (held : List (List ℕ)) (steps : List PlanStep) (old : Line) (r : Record) (text : List ℕ) (now : Record) → History start held old.text r
@@ -56,6 +57,8 @@ Holds-Became start held (shortens len) old new d h =
 Holds-Became start held (keeps text) old new d h = History-changes start held new (with_ring (reset (killed text Append old.pair.ring)) old) h d
 Holds-Became start held parts old new d h =
     History-changes start held new (with_changes (parted old.pair.changes) old) (record { is_text = h.is_text; leads = h.leads; placed = h.placed; matched = record { recorded = h.matched.recorded; pending = h.matched.pending } }) d
+Holds-Became start held (reopens a) old new d h =
+    History-changes start held new (with_changes (reopened old.pair.changes) old) (History-reopened start held old.line.text old.pair.changes h) d.1
 Holds-Became start held (takes_back n a) old new d h = History-TookBack _ start held _ old new a h d.0
 Holds-Became start held (puts_again a) old new d h = History-PutAgain start held _ old new a h d.0
 

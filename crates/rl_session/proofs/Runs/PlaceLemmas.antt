@@ -1,9 +1,11 @@
 -- A record is placed among the texts that were held, whatever it hears.
-use Rattle.rl_session.proofs.Common.{◌≡◌, ◌≤◌, ℕ, List, [], ◌∷◌, ◌++◌, length, length-append, take, drop, map, reverse, Some, refl, sym, ap, subst, ◌∙◌, inl, inr, append-nil, append_assoc, arith, same_Some, take-append-drop, reverse-append, reverse-reverse, map-append, option_and_then, IsSome, IsUtf8, Event, Freshness, Cursors, replay, Line, stepped, listener_after, listener_after_step, Entry, Begin, End, Changed, Record, entries_of, entries_after, replay_entries, unwind, event_of, entries_told, last_told, freshness_of, level, last_of, kept_of, redo_of, end_one, end_times, begun, undone, redone, truncated, with_closed, kept_within, HoldsOn, gone, StandsAfter, WasHeld, PlacedBack, Placed, History, Holds, State, texts_of_steps}
+use Rattle.rl_session.proofs.Common.{◌≡◌, ◌≤◌, ℕ, List, [], ◌∷◌, ◌++◌, length, length-append, cond_both, ◌-◌, take, drop, map, reverse, Some, refl, sym, ap, subst, ◌∙◌, inl, inr, append-nil, append_assoc, arith, same_Some, take-append-drop, reverse-append, reverse-reverse, map-append, option_and_then, IsSome, IsUtf8, Event, Freshness, Cursors, replay, Line, stepped, listener_after, listener_after_step, Entry, Begin, End, Changed, Record, entries_of, entries_after, replay_entries, unwind, event_of, entries_told, last_told, freshness_of, level, last_of, kept_of, redo_of, end_one, end_times, begun, undone, redone, truncated, with_closed, kept_within, HoldsOn, gone, StandsAfter, WasHeld, PlacedBack, Placed, History, Holds, State, texts_of_steps}
 use Rattle.rl_base.specs.Event.{apply}
 use Rattle.rl_base.proofs.Texts.SwapLemmas.{apply-IsUtf8}
 use Rattle.rl_line.specs.Plan.{Step, after}
 use Rattle.rl_line.specs.Record.{record_step}
+use Rattle.rl_line.specs.Units.{ends_in_end, reopened}
+use Rattle.rl_line.proofs.Records.MarkLemmas.{unwind-cut}
 use Rattle.rl_line.proofs.Records.JoinLemmas.{step-cases}
 use Rattle.rl_line.proofs.Records.LastLemmas.{after-cases, end_one-cases, end_times-keeps, map-reverse}
 use Rattle.rl_line.proofs.Records.MatchLemmas.{IsMatched-after, BothMatched-begun, BothMatched-closed, BothMatched-undone, BothMatched-redone, BothMatched-truncated, Redoes-of, BothMatched-step}
@@ -257,6 +259,10 @@ History-truncated len start held text r h k =
           (Placed-front start (take len es) (drop len es) held (subst (λ l. Placed start l held) (sym (take-append-drop len es)) (recorded-placed start held text r h)));
       matched = BothMatched-truncated len r h.matched;
     }
+
+pub History-reopened : (start : List ℕ) (held : List (List ℕ)) (text : List ℕ) (r : Record) → History start held text r → History start held text (reopened r)
+History-reopened start held text r h =
+    cond_both (ends_in_end r.recorded) _ _ (History start held text) (λ e. History-truncated (length r.recorded - 1) start held text r h (unwind-cut r.recorded text e)) (λ _. h)
 
 -- the undone entries can be made again
 pub pending-leads : (start : List ℕ) (held : List (List ℕ)) (text : List ℕ) (r : Record) → History start held text r → IsSome (replay_entries r.pending text)

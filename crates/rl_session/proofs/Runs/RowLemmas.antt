@@ -6,10 +6,10 @@ use Rattle.rl_base.specs.KillRing.{yank}
 use Rattle.rl_base.specs.declared.kill_ring.NewKill.{NewKill}
 use Rattle.rl_line.specs.Plan.{Step as PlanStep}
 use Rattle.rl_line.proofs.Records.ForgettingLemmas.{fitting-stay}
-use Rattle.rl_line.proofs.Records.MarkLemmas.{Kept-begun, Kept-closed, Kept-Redone, Kept-truncated}
+use Rattle.rl_line.proofs.Records.MarkLemmas.{Kept-begun, Kept-closed, Kept-reopened, Kept-Redone, Kept-truncated}
 use Rattle.rl_line.proofs.Records.OriginLemmas.{Kept, Kept-Taken, Kept-Undone}
 use Rattle.rl_line.proofs.Records.RecordLemmas.{unwind-replay, replay-unwind, replay-IsUtf8, value_of}
-use Rattle.rl_session.specs.Commands.{stops, lent, Step, keeps, parts}
+use Rattle.rl_session.specs.Commands.{stops, lent, Step, keeps, parts, reopens}
 use Rattle.rl_session.proofs.Sessions.CommandLemmas.{Changes, EffectChanges, effect-changes}
 use Rattle.rl_session.proofs.Sessions.CourseLemmas.{Heard, Heard-Came}
 use Rattle.rl_session.proofs.Sessions.IdleLemmas.{ring-Done, ring-Halted}
@@ -34,6 +34,7 @@ Kept-Became (puts_end a) old new u d = subst (KeepsOrigin old) (sym d.1) (Kept-c
 Kept-Became (shortens len) old new u d = subst (KeepsOrigin old) (sym d.1) (Kept-truncated len old.pair.changes old.line u d.0)
 Kept-Became (keeps text) old new u d = subst (KeepsOrigin old) (sym d) (record { origin_is = λ start e. e; utf8 = u })
 Kept-Became parts old new u d = subst (KeepsOrigin old) (sym d) (record { origin_is = λ start e. e; utf8 = u })
+Kept-Became (reopens a) old new u d = subst (KeepsOrigin old) (sym d.1) (Kept-reopened old.pair.changes old.line u)
 Kept-Became (takes_back n a) old new u d = Kept-Undone _ old.pair.changes new.pair.changes old.line new.line a u d.0
 Kept-Became (puts_again a) old new u d = Kept-Redone old.pair.changes new.pair.changes old.line new.line a u d.0
 

@@ -1,14 +1,15 @@
 -- A group that was closed is one unit, whatever happened inside, so that one undo takes it off.
 use Rattle.rl_session.proofs.Common.{rules, ◌≡◌, ◌<◌, ◌+◌, ℕ, inl, inr, zero, suc, true, List, [], ◌∷◌, ◌++◌, length, drop, Some, refl, sym, ap, subst, ◌∙◌, arith, or-false, min, listener_after, listener_after_step, Begin, End, Entry, Record, record_step, replay_entries, IsMatched, begun, end_one, end_times, ended, ended_one, has_change, kept_of, last_of, level, opens, with_closed, Effect, by_steps, puts_begin, puts_end, Became, effect, Does, with_changes, AllStandInGroup, ClosesGroup, Holds, MayStandInGroup, WasRefused, Leads, Row, Run, held, held_of, steps_in, State, with_ring, reset, Append, Command, Reply, Cursors}
 use Rattle.rl_line.specs.Plan.{Step}
-use Rattle.rl_line.proofs.Records.GroupLemmas.{has_change-append, Inside, InsideOf, Inside-event, Inside-begun, past_begin}
+use Rattle.rl_line.proofs.Records.GroupLemmas.{has_change-append, Inside, InsideOf, Inside-event, Inside-begun, Inside-reopened, past_begin}
 use Rattle.rl_line.proofs.Records.LastLemmas.{end_one-begin, end_one-cases, end_one-past, end_times-keeps}
 use Rattle.rl_line.proofs.Records.EndLemmas.{closed_alone, closed_group, level-group}
 use Rattle.rl_line.proofs.Records.MatchLemmas.{Lower-end_one, Lower-end_times}
 use Rattle.rl_line.proofs.Records.UndoLemmas.{line_back-unwind}
-use Rattle.rl_session.specs.Commands.{keeps, parts}
+use Rattle.rl_session.specs.Commands.{keeps, parts, reopens}
 use Rattle.rl_base.specs.KillRing.{killed}
 use Rattle.rl_line.specs.Record.{parted}
+use Rattle.rl_line.specs.Units.{reopened}
 use Rattle.rl_session.specs.declared.session.Command.TheVariants as asks
 use Rattle.rl_session.specs.declared.session.Reply.TheVariants as says
 use Rattle.rl_session.proofs.Runs.RowLemmas.{Leads-split}
@@ -58,6 +59,7 @@ StaysOpen below now (puts_begin _) = Unit {0}
 StaysOpen below now (puts_end _) = below < now
 StaysOpen below now (keeps _) = Unit {0}
 StaysOpen below now parts = Unit {0}
+StaysOpen below now (reopens _) = Unit {0}
 StaysOpen below now _ = ⊥
 
 stays_open : (below now : ℕ) (old : State) (command : Command) (reply : Reply) → MayStandInGroup below now command reply → StaysOpen below now (effect old command reply)
@@ -94,6 +96,7 @@ Inside-Became front (puts_end a) old new i d k =
     Inside-same front (with_changes (ended_one old.pair.changes) old) new (Inside-ended_one front old.pair.changes k up) d.1
 Inside-Became front (keeps text) old new i d k = Inside-same front (with_ring (reset (killed text Append old.pair.ring)) old) new k d
 Inside-Became front parts old new i d k = Inside-same front (with_changes (parted old.pair.changes) old) new (record { inner = k.inner; is = k.is; matched = k.matched }) d
+Inside-Became front (reopens a) old new i d k = Inside-same front (with_changes (reopened old.pair.changes) old) new (Inside-reopened front old.pair.changes k) d.1
 Inside-Became front _ old new i d k = absurd i
 
 Inside-row : (front : List Entry) (row : Row) → MayStandInGroup (level front) (level row.after.pair.changes.recorded) row.command row.reply → Inside front row.before.pair.changes → Inside front row.after.pair.changes

@@ -84,6 +84,7 @@ effect-changes old (asks.Undo n) (says.Answer a) = tt
 effect-changes old asks.Redo (says.Answer a) = tt
 effect-changes old (asks.Keep t) says.Done = tt
 effect-changes old asks.Part says.Done = tt
+effect-changes old asks.Reopen (says.Answer a) = tt
 effect-changes old command reply = course-changes (asked old.line command) old command reply (asks-changes old.line command)
 
 -- ---- an event of an empty text

@@ -222,6 +222,14 @@ impl Session {
         anew!(self, self.do_end_one())
     }
 
+    /// Takes the group up again that was closed last, so that what comes is a part of it. Answers whether it did: it does
+    /// if nothing was recorded after that group, and drops what was undone; else it changes nothing.
+    pub fn reopen(&mut self) -> Reply
+        ensures { Step self.old Command.Reopen result self.new }
+    {
+        anew!(self, self.do_reopen())
+    }
+
     /// Undoes n units: one for 0, and all if there are fewer. Answers whether there was a change. `NoMemory` leaves text
     /// and record as they were. Inlined, as `insert` is.
     #[inline(always)]

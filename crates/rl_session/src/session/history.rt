@@ -65,6 +65,13 @@ impl Session {
         answered(self.pair.changes.end_one())
     }
 
+    #[tactic(auto, using(crate::proofs::Sessions::SessionLemmas::resting))]
+    pub(super) fn do_reopen(&mut self) -> Reply
+        ensures { Does self.old Command.Reopen result self.new }
+    {
+        Reply::Answer(self.pair.changes.reopen())
+    }
+
     // Its reply is made by the caller, so that the outcome stays in a register.
     pub(super) fn do_undo(&mut self, n: RepeatCount) -> Result<bool, Refusal>
         ensures { Does self.old (Command.Undo n) (replied Reply.Answer result) self.new }
