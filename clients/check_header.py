@@ -53,6 +53,8 @@ OTHERWISE = {
     "Movement::BeginningOfBuffer": "TO_TEXT_START_",
     "Movement::EndOfBuffer": "TO_TEXT_END_",
     "Movement::FirstNonBlank": "TO_FIRST_NONBLANK_",
+    "Movement::WholeLinesUp": "WHOLE_LINES_UP_",
+    "Movement::WholeLinesDown": "WHOLE_LINES_DOWN_",
     "Ok(false)": "INDENT",
     "Ok(true)": "DEDENT",
 }

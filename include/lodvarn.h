@@ -229,7 +229,9 @@ enum lodvarn_movement_kind {
     LODVARN_WHOLE_TEXT_ = 124,
     LODVARN_TO_TEXT_START_ = 125,
     LODVARN_TO_TEXT_END_ = 126,
-    LODVARN_TO_FIRST_NONBLANK_ = 127
+    LODVARN_TO_FIRST_NONBLANK_ = 127,
+    LODVARN_WHOLE_LINES_UP_ = 128,
+    LODVARN_WHOLE_LINES_DOWN_ = 129
 };
 
 static inline lodvarn_movement lodvarn_movement_(uint32_t kind, uint32_t c, size_t n) {
@@ -290,6 +292,15 @@ static inline lodvarn_movement lodvarn_chars_forward(size_t n) {
 /* n lines up, or down, in the column of the cursor. */
 static inline lodvarn_movement lodvarn_lines_up(size_t n) { return lodvarn_movement_(LODVARN_LINES_UP_, 0, n); }
 static inline lodvarn_movement lodvarn_lines_down(size_t n) { return lodvarn_movement_(LODVARN_LINES_DOWN_, 0, n); }
+
+/* n whole lines with their newlines: the cursor's line and those above it, or those below it; all that there are if there
+ * are fewer. No motion: lodvarn_move does nothing. */
+static inline lodvarn_movement lodvarn_whole_lines_up(size_t n) {
+    return lodvarn_movement_(LODVARN_WHOLE_LINES_UP_, 0, n);
+}
+static inline lodvarn_movement lodvarn_whole_lines_down(size_t n) {
+    return lodvarn_movement_(LODVARN_WHOLE_LINES_DOWN_, 0, n);
+}
 
 /* The whole text; to its start; to its end. */
 static inline lodvarn_movement lodvarn_whole_text(void) { return lodvarn_movement_(LODVARN_WHOLE_TEXT_, 0, 0); }

@@ -95,7 +95,7 @@ static int run_command(void) {
     size_t n = ONE_OF(counts), len = text_of().len, from = below((unsigned)len + 2), size = strlen(text);
     lodvarn_range range = {from, from + below(5)};
     uint32_t c = ONE_OF(chars);
-    uint32_t kind = LODVARN_WHOLE_LINE_ + below(LODVARN_TO_FIRST_NONBLANK_ - LODVARN_WHOLE_LINE_ + 1);
+    uint32_t kind = LODVARN_WHOLE_LINE_ + below(LODVARN_WHOLE_LINES_DOWN_ - LODVARN_WHOLE_LINE_ + 1);
     lodvarn_movement movement = lodvarn_movement_(kind, c, n);
     switch (len > LONG ? 0 : below(40)) {
     case 0: return below(32) ? lodvarn_set_text(s, size, text, size) : lodvarn_restart(s, text, size);

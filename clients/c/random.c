@@ -54,7 +54,7 @@ static const char *const searches[] = {"f", "t", "F", "T"};
 
 static void add_movement(void) {
     static const char *const plain[] = {"line", "home", "eol", "first", "nonblank", "buf", "bob", "eob"};
-    static const char *const counted[] = {"bchar", "fchar", "up", "down"};
+    static const char *const counted[] = {"bchar", "fchar", "up", "down", "linesup", "lines"};
     switch (below(8)) {
     case 0: case 1: add(" %s", ONE_OF(plain)); break;
     case 2: case 3: add(" %s %u", ONE_OF(counted), count()); break;

@@ -70,11 +70,13 @@ static inline int around(int k, int first) {
 static inline void each_counted_movement(size_t n, void (*try)(lodvarn_movement)) {
     for (uint32_t kind = LODVARN_WORDS_BACK_; kind <= LODVARN_LINES_DOWN_; kind++)
         if (kind != LODVARN_FROM_FIRST_WORD_) try(lodvarn_movement_(kind, 'a', n));
+    try(lodvarn_whole_lines_up(n));
+    try(lodvarn_whole_lines_down(n));
 }
 
 /* Tries movements of no kind, of a number outside of its enum, with a count that is too great, and to no character. */
 static inline void each_bad_movement(void (*refuse)(lodvarn_movement)) {
-    EACH_OUTSIDE(LODVARN_WHOLE_LINE_, LODVARN_TO_FIRST_NONBLANK_) refuse(lodvarn_movement_((uint32_t)number, 'a', 1));
+    EACH_OUTSIDE(LODVARN_WHOLE_LINE_, LODVARN_WHOLE_LINES_DOWN_) refuse(lodvarn_movement_((uint32_t)number, 'a', 1));
     EACH_OUTSIDE(LODVARN_BIG, LODVARN_VI) {
         refuse(lodvarn_words_back((enum lodvarn_word)number, 1));
         refuse(lodvarn_words_forward((enum lodvarn_word)number, LODVARN_AT_START, 1));

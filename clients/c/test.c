@@ -223,6 +223,13 @@ static void movements_are_asked(void) {
         {12, lodvarn_lines_up(1), 0, 18, 4},
         {22, lodvarn_lines_down(1), NO, NO, NO},
         {2, lodvarn_lines_down(1), 0, 18, 10},
+        {12, lodvarn_whole_lines_up(1), 8, 18, NO},
+        {12, lodvarn_whole_lines_up(65535), 0, 18, NO},
+        {12, lodvarn_whole_lines_down(1), 8, 18, NO},
+        {12, lodvarn_whole_lines_down(2), 8, 22, NO},
+        {2, lodvarn_whole_lines_down(2), 0, 18, NO},
+        {22, lodvarn_whole_lines_down(1), NO, NO, NO},
+        {22, lodvarn_whole_lines_up(2), 18, 22, NO},
         {12, lodvarn_whole_text(), 0, 22, NO},
         {12, lodvarn_to_text_start(), 0, 12, 0},
         {12, lodvarn_to_text_end(), 12, 22, 22},
@@ -703,6 +710,7 @@ static void movements_mean_what_they_say(void) {
         {lodvarn_lines_up(2), "up 2"},        {lodvarn_lines_down(2), "down 2"},  {lodvarn_whole_text(), "buf"},
         {lodvarn_to_text_start(), "bob"},     {lodvarn_to_text_end(), "eob"},
         {lodvarn_to_first_nonblank(), "nonblank"},
+        {lodvarn_whole_lines_up(2), "linesup 2"}, {lodvarn_whole_lines_down(2), "lines 2"},
     };
     for (size_t i = 0; i < COUNT(others); i++) {
         mean(kills, others[i].by, 0, "kill %s", others[i].name, "");
@@ -850,6 +858,7 @@ static void numbers_outside_of_their_enums(void) {
     const lodvarn_movement not_to_one_side[] = {
         lodvarn_whole_line(),  lodvarn_whole_text(),     lodvarn_to_first_nonblank(), lodvarn_from_first_word(),
         lodvarn_chars_back(1), lodvarn_chars_forward(1), lodvarn_lines_up(1),         lodvarn_lines_down(1),
+        lodvarn_whole_lines_up(1), lodvarn_whole_lines_down(1),
     };
     for (size_t i = 0; i < COUNT(not_to_one_side); i++)
         LEAVES(NO_SUCH_NUMBER, lodvarn_delete_by(s, not_to_one_side[i]));

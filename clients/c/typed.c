@@ -109,7 +109,9 @@ struct given {
     ROW(buf, "", lodvarn_whole_text())                                        \
     ROW(bob, "", lodvarn_to_text_start())                                     \
     ROW(eob, "", lodvarn_to_text_end())                                       \
-    ROW(nonblank, "", lodvarn_to_first_nonblank())
+    ROW(nonblank, "", lodvarn_to_first_nonblank())                            \
+    ROW(linesup, "N", lodvarn_whole_lines_up(g->n))                           \
+    ROW(lines, "N", lodvarn_whole_lines_down(g->n))
 
 static void take_movement(char *rest, struct given *g);
 

@@ -321,6 +321,16 @@ class Movement:
         return cls._made("lines_down", n)
 
     @classmethod
+    def whole_lines_up(cls, n: int = 1) -> Movement:
+        """n whole lines with their newlines: the cursor's line and those above it. No motion."""
+        return cls._made("whole_lines_up", n)
+
+    @classmethod
+    def whole_lines_down(cls, n: int = 1) -> Movement:
+        """n whole lines with their newlines: the cursor's line and those below it. No motion."""
+        return cls._made("whole_lines_down", n)
+
+    @classmethod
     def whole_text(cls) -> Movement:
         """The whole text."""
         return cls._made("whole_text")

@@ -61,7 +61,7 @@ pub enum CharSearch {
 /// Where a motion goes, or what an edit covers.
 #[derive(Clone, Debug, Drop, Eq, PartialEq)]
 pub enum Movement {
-    /// The cursor's line (vi's `dd`).
+    /// The cursor's line without its newline.
     WholeLine,
     /// The start of the line (readline's `beginning-of-line`, vi's `0`).
     BeginningOfLine,
@@ -86,6 +86,10 @@ pub enum Movement {
     LineUp(RepeatCount),
     /// Down by lines (readline's `next-screen-line`, vi's `j`).
     LineDown(RepeatCount),
+    /// So many whole lines with their newlines, at least one: the cursor's line and those above it (vi's `dk`).
+    WholeLinesUp(RepeatCount),
+    /// So many whole lines with their newlines, at least one: the cursor's line and those below it (vi's `dd`, `dj`).
+    WholeLinesDown(RepeatCount),
     /// The whole text.
     WholeBuffer,
     /// The start of the text (vi's `gg`).

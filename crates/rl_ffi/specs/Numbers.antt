@@ -9,7 +9,7 @@ use Rattle.rl_base.specs.declared.listeners.Direction.TheVariants as told
 use Rattle.rl_base.specs.declared.motion.At.TheVariants.{Start, BeforeEnd, AfterEnd}
 use Rattle.rl_base.specs.declared.motion.CharSearch.TheVariants.{Forward, ForwardBefore, Backward, BackwardAfter}
 use Rattle.rl_base.specs.declared.motion.Movement.{Movement}
-use Rattle.rl_base.specs.declared.motion.Movement.TheVariants.{WholeLine, BeginningOfLine, EndOfLine, BackwardWord, ForwardWord, ViCharSearch, ViFirstPrint, FirstNonBlank, BackwardChar, ForwardChar, LineUp, LineDown, WholeBuffer, BeginningOfBuffer, EndOfBuffer}
+use Rattle.rl_base.specs.declared.motion.Movement.TheVariants.{WholeLine, BeginningOfLine, EndOfLine, BackwardWord, ForwardWord, ViCharSearch, ViFirstPrint, FirstNonBlank, BackwardChar, ForwardChar, LineUp, LineDown, WholeLinesUp, WholeLinesDown, WholeBuffer, BeginningOfBuffer, EndOfBuffer}
 use Rattle.rl_base.specs.declared.motion.Word.TheVariants.{Big, Emacs, Vi}
 use Rattle.rl_base.specs.declared.motion.WordAction.{WordAction}
 use Rattle.rl_base.specs.declared.motion.WordAction.TheVariants.{Capitalize, Lowercase, Uppercase}
@@ -95,11 +95,13 @@ movement_by k n c =
     if k == 125 then Some BeginningOfBuffer else
     if k == 126 then Some EndOfBuffer else
     if k == 127 then Some FirstNonBlank else
+    if k == 128 then Some (WholeLinesUp n) else
+    if k == 129 then Some (WholeLinesDown n) else
     None
 
 -- whether a kind of movements has a count
 abbrev pub has_count : ℕ → Bool
-has_count k = is_in_range 103 118 k || is_in_range 120 123 k
+has_count k = is_in_range 103 118 k || is_in_range 120 123 k || is_in_range 128 129 k
 
 -- a movement of C, by its count
 abbrev pub counted : CMovement → Result ℕ Answer → Result Movement Answer

@@ -130,6 +130,8 @@ fn movement_by(kind: u32, n: RepeatCount, c: u32) -> Result<Movement, Answer>
         125 => Movement::BeginningOfBuffer,
         126 => Movement::EndOfBuffer,
         127 => Movement::FirstNonBlank,
+        128 => Movement::WholeLinesUp(n),
+        129 => Movement::WholeLinesDown(n),
         _ => return Err(Answer::NoSuchNumber),
     })
 }
@@ -137,7 +139,7 @@ fn movement_by(kind: u32, n: RepeatCount, c: u32) -> Result<Movement, Answer>
 pub(crate) fn movement_of(movement: CMovement) -> Result<Movement, Answer>
     ensures { result ≡ movement_of movement }
 {
-    let n = if matches!(movement.kind, 103..=118 | 120..=123) {
+    let n = if matches!(movement.kind, 103..=118 | 120..=123 | 128..=129) {
         count_of(movement.n)?
     } else {
         0

@@ -17,6 +17,8 @@ pub(crate) enum Reach {
     ForwardChar,
     LineUp,
     LineDown,
+    WholeLinesUp,
+    WholeLinesDown,
     WholeBuffer,
     BeginningOfBuffer,
     EndOfBuffer,
@@ -38,6 +40,8 @@ impl Reach {
             Reach::ForwardChar => Movement::ForwardChar(n),
             Reach::LineUp => Movement::LineUp(n),
             Reach::LineDown => Movement::LineDown(n),
+            Reach::WholeLinesUp => Movement::WholeLinesUp(n),
+            Reach::WholeLinesDown => Movement::WholeLinesDown(n),
             Reach::WholeBuffer => Movement::WholeBuffer,
             Reach::BeginningOfBuffer => Movement::BeginningOfBuffer,
             Reach::EndOfBuffer => Movement::EndOfBuffer,
@@ -143,6 +147,8 @@ pub(crate) const COUNTED_REACHES: &[Reach] = &[
     Reach::ForwardChar,
     Reach::LineUp,
     Reach::LineDown,
+    Reach::WholeLinesUp,
+    Reach::WholeLinesDown,
 ];
 
 pub(crate) const OTHER_REACHES: &[Reach] = &[

@@ -76,6 +76,14 @@ fn ends(line: &mut LineBuffer, reach: Reach, n: RepeatCount) -> (usize, usize) {
             let start = line_start(line, number).saturating_sub(1);
             return (start, past_line(line, number.saturating_add(lines)));
         }
+        Reach::WholeLinesUp => {
+            let first = number.saturating_add(1).saturating_sub(lines.max(1));
+            return (line_start(line, first), past_line(line, number));
+        }
+        Reach::WholeLinesDown => {
+            let last = number.saturating_add(lines.max(1)).saturating_sub(1);
+            return (line_start(line, number), past_line(line, last));
+        }
         _ => {}
     }
     (cursor, other_end(line, reach, n))

@@ -76,6 +76,12 @@ fn kills(reach: Reach, n: RepeatCount, before: &str, after: &str) -> bool {
         Reach::ForwardChar => n != 0 && !after.is_empty(),
         Reach::LineUp => before.contains('\n'),
         Reach::LineDown => after.contains('\n'),
+        // all but the empty last line alone
+        Reach::WholeLinesUp => {
+            !after.is_empty() || !(before.is_empty() || n < 2 && before.ends_with('\n'))
+        }
+        Reach::WholeLinesDown => !after.is_empty()
+            || !(before.is_empty() || before.ends_with('\n')),
         Reach::WholeBuffer => !before.is_empty() || !after.is_empty(),
     }
 }

@@ -42,7 +42,7 @@ pub use Rattle.rl_base.specs.declared.listeners.Refusal.TheVariants.{NoMemory}
 pub use Rattle.rl_base.specs.declared.motion.At.{At}
 pub use Rattle.rl_base.specs.declared.motion.CharSearch.{CharSearch}
 pub use Rattle.rl_base.specs.declared.motion.Movement.{Movement}
-pub use Rattle.rl_base.specs.declared.motion.Movement.TheVariants.{BackwardChar, BackwardWord, BeginningOfBuffer, BeginningOfLine, EndOfBuffer, EndOfLine, FirstNonBlank, ForwardChar, ForwardWord, LineDown, LineUp, ViCharSearch, ViFirstPrint, WholeBuffer, WholeLine}
+pub use Rattle.rl_base.specs.declared.motion.Movement.TheVariants.{BackwardChar, BackwardWord, BeginningOfBuffer, BeginningOfLine, EndOfBuffer, EndOfLine, FirstNonBlank, ForwardChar, ForwardWord, LineDown, LineUp, ViCharSearch, ViFirstPrint, WholeBuffer, WholeLine, WholeLinesDown, WholeLinesUp}
 pub use Rattle.rl_base.specs.declared.motion.Word.{Word}
 pub use Rattle.rl_base.specs.declared.motion.WordAction.{WordAction}
 pub use Rattle.rl_base.specs.declared.motion.WordAction.TheVariants.{Capitalize, Lowercase, Uppercase}

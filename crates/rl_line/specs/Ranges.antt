@@ -11,7 +11,7 @@ use Rattle.rl_base.specs.declared.motion.At.TheVariants.{Start}
 use Rattle.rl_base.specs.declared.motion.CharSearch.{CharSearch}
 use Rattle.rl_base.specs.declared.motion.CharSearch.TheVariants.{Forward, ForwardBefore, Backward, BackwardAfter}
 use Rattle.rl_base.specs.declared.motion.Movement.{Movement}
-use Rattle.rl_base.specs.declared.motion.Movement.TheVariants.{WholeLine, BeginningOfLine, EndOfLine, BackwardWord, ForwardWord, ViCharSearch, ViFirstPrint, FirstNonBlank, BackwardChar, ForwardChar, LineUp, LineDown, WholeBuffer, BeginningOfBuffer, EndOfBuffer}
+use Rattle.rl_base.specs.declared.motion.Movement.TheVariants.{WholeLine, BeginningOfLine, EndOfLine, BackwardWord, ForwardWord, ViCharSearch, ViFirstPrint, FirstNonBlank, BackwardChar, ForwardChar, LineUp, LineDown, WholeLinesUp, WholeLinesDown, WholeBuffer, BeginningOfBuffer, EndOfBuffer}
 use Rattle.rl_base.specs.declared.motion.Word.TheVariants.{Big}
 use Rattle.rl_line.specs.Line.{Line, between}
 use Rattle.rl_line.specs.LineMotions.{first_nonblank, home, line_end}
@@ -65,6 +65,16 @@ lines_down text pos n =
     if count_by is_newline (drop pos text) == 0 then None
     else Some (between (start_of_line text k - 1) (after_line text (min (last_line text) (k + n))))
 
+-- the cursor's line and those above it, n in all, at least one, with their newlines; none if that is nothing
+abbrev pub whole_lines_up : List ℕ → ℕ → ℕ → Option (Range ℕ)
+whole_lines_up text pos n =
+    let k = line_number text pos in unless_empty (start_of_line text (k - (n - 1))) (after_line text k)
+
+-- the cursor's line and those below it, n in all, at least one, with their newlines; none if that is nothing
+abbrev pub whole_lines_down : List ℕ → ℕ → ℕ → Option (Range ℕ)
+whole_lines_down text pos n =
+    let k = line_number text pos in unless_empty (start_of_line text k) (after_line text (min (last_line text) (k + (n - 1))))
+
 -- what a movement covers, and copies
 abbrev pub covered : Line → Movement → Option (Range ℕ)
 covered line WholeLine = unless_empty (home line) (line_end line)
@@ -79,6 +89,8 @@ covered line (BackwardChar n) = from_place line (prev_pos line.text line.cursor 
 covered line (ForwardChar n) = to_place line (next_pos line.text line.cursor n)
 covered line (LineUp n) = lines_up line.text line.cursor n
 covered line (LineDown n) = lines_down line.text line.cursor n
+covered line (WholeLinesUp n) = whole_lines_up line.text line.cursor n
+covered line (WholeLinesDown n) = whole_lines_down line.text line.cursor n
 covered line WholeBuffer = unless_empty 0 (length line.text)
 covered line BeginningOfBuffer = unless_empty 0 line.cursor
 covered line EndOfBuffer = unless_empty line.cursor (length line.text)

@@ -310,6 +310,38 @@ fn deletions_to_places(rt: HostRuntime) -> Result<(), Fail> {
             Some((1, "b\nc", AHEAD)),
         ),
         ("ab", 0, Call::KillRange(1, 1, AHEAD), None),
+        (
+            "a\nbc\nd",
+            3,
+            Call::Kill(Movement::WholeLinesDown(1)),
+            Some((2, "bc\n", AHEAD)),
+        ),
+        // the last line has no newline, and that above it stays
+        (
+            "a\nbc\nd",
+            3,
+            Call::Kill(Movement::WholeLinesDown(9)),
+            Some((2, "bc\nd", AHEAD)),
+        ),
+        (
+            "a\nbc\nd",
+            6,
+            Call::Kill(Movement::WholeLinesUp(2)),
+            Some((2, "bc\nd", AHEAD)),
+        ),
+        (
+            "a\nbc\nd",
+            4,
+            Call::Kill(Movement::WholeLinesUp(0)),
+            Some((2, "bc\n", AHEAD)),
+        ),
+        ("a\n", 2, Call::Kill(Movement::WholeLinesDown(2)), None),
+        (
+            "a\n",
+            2,
+            Call::Kill(Movement::WholeLinesUp(2)),
+            Some((0, "a\n", AHEAD)),
+        ),
         // a last, empty line is killed as an empty text
         (
             "\n",
@@ -327,7 +359,7 @@ fn is_so(rt: &impl Abort, is_so: bool, mvt: &Movement, text: &str, pos: usize) {
 }
 
 // Each movement with that count.
-fn movements(n: RepeatCount) -> [Movement; 32] {
+fn movements(n: RepeatCount) -> [Movement; 34] {
     [
         Movement::WholeLine,
         Movement::BeginningOfLine,
@@ -358,6 +390,8 @@ fn movements(n: RepeatCount) -> [Movement; 32] {
         Movement::ForwardChar(n),
         Movement::LineUp(n),
         Movement::LineDown(n),
+        Movement::WholeLinesUp(n),
+        Movement::WholeLinesDown(n),
         Movement::WholeBuffer,
         Movement::BeginningOfBuffer,
         Movement::EndOfBuffer,

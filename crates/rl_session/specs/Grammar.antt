@@ -17,7 +17,7 @@ use Rattle.rl_base.specs.declared.motion.At.TheVariants.{Start, BeforeEnd, After
 use Rattle.rl_base.specs.declared.motion.CharSearch.{CharSearch}
 use Rattle.rl_base.specs.declared.motion.CharSearch.TheVariants.{Forward, ForwardBefore, Backward, BackwardAfter}
 use Rattle.rl_base.specs.declared.motion.Movement.{Movement}
-use Rattle.rl_base.specs.declared.motion.Movement.TheVariants.{WholeLine, BeginningOfLine, EndOfLine, BackwardWord, ForwardWord, ViCharSearch, ViFirstPrint, FirstNonBlank, BackwardChar, ForwardChar, LineUp, LineDown, WholeBuffer, BeginningOfBuffer, EndOfBuffer}
+use Rattle.rl_base.specs.declared.motion.Movement.TheVariants.{WholeLine, BeginningOfLine, EndOfLine, BackwardWord, ForwardWord, ViCharSearch, ViFirstPrint, FirstNonBlank, BackwardChar, ForwardChar, LineUp, LineDown, WholeLinesUp, WholeLinesDown, WholeBuffer, BeginningOfBuffer, EndOfBuffer}
 use Rattle.rl_base.specs.declared.motion.Word.{Word}
 use Rattle.rl_base.specs.declared.motion.Word.TheVariants.{Big, Emacs, Vi}
 use Rattle.rl_base.specs.declared.motion.WordAction.{WordAction}
@@ -104,6 +104,8 @@ pub data Names : List ℕ → Option (List ℕ) → Movement → Type 0 where
   fchar : {digits : List ℕ} {n : ℕ} → number_of 65535 digits ≡ Some n → Names (codes "fchar") (Some digits) (ForwardChar n)
   up : {digits : List ℕ} {n : ℕ} → number_of 65535 digits ≡ Some n → Names (codes "up") (Some digits) (LineUp n)
   down : {digits : List ℕ} {n : ℕ} → number_of 65535 digits ≡ Some n → Names (codes "down") (Some digits) (LineDown n)
+  linesup : {digits : List ℕ} {n : ℕ} → number_of 65535 digits ≡ Some n → Names (codes "linesup") (Some digits) (WholeLinesUp n)
+  linesdown : {digits : List ℕ} {n : ℕ} → number_of 65535 digits ≡ Some n → Names (codes "lines") (Some digits) (WholeLinesDown n)
   buf : Names (codes "buf") None WholeBuffer
   bob : Names (codes "bob") None BeginningOfBuffer
   eob : Names (codes "eob") None EndOfBuffer

@@ -163,6 +163,8 @@ fn movement_with(word: &str, given: &str) -> Option<Movement>
         "fchar" => Some(Movement::ForwardChar(count(given)?)),
         "up" => Some(Movement::LineUp(count(given)?)),
         "down" => Some(Movement::LineDown(count(given)?)),
+        "linesup" => Some(Movement::WholeLinesUp(count(given)?)),
+        "lines" => Some(Movement::WholeLinesDown(count(given)?)),
         _ => None,
     }
 }

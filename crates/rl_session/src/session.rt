@@ -40,7 +40,8 @@ use thiserror::Error;
 pub enum Command {
     /// Moves the cursor to a place.
     SetPos(usize),
-    /// Moves the cursor by a movement. `WholeLine`, `WholeBuffer` and `ViFirstPrint` do not move it.
+    /// Moves the cursor by a movement. `WholeLine`, `WholeLinesUp`, `WholeLinesDown`, `WholeBuffer` and `ViFirstPrint` do
+    /// not move it.
     Move(Movement),
     /// Inserts a character at the cursor, the given number of times.
     Insert(char, RepeatCount),

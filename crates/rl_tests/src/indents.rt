@@ -37,6 +37,12 @@ fn lines_are_indented(rt: HostRuntime) -> Result<(), Fail> {
         ("a\\nb\\nc", 2, "indent 1 up 0", "true 3 a\\n b\\nc"),
         ("a\\nb\\nc", 2, "indent 1 down 0", "true 4  a\\n b\\nc"),
         ("a\\nb", 2, "indent 1 down 1", "true 3 a\\n b"),
+        ("a\\nb\\nc", 2, "indent 1 lines 1", "true 3 a\\n b\\nc"),
+        ("a\\nb\\nc", 2, "indent 1 lines 2", "true 3 a\\n b\\n c"),
+        ("a\\n b\\n c", 3, "dedent 1 linesup 2", "true 2 a\\nb\\n c"),
+        // the line after the last newline is none of them, but if the cursor stands there
+        ("a\\n", 0, "indent 1 lines 1", "true 1  a\\n"),
+        ("a\\n", 2, "indent 1 lines 1", "true 3 a\\n "),
     ];
     print_each(&rt, rt.alloc(), ROWS)
 }

@@ -457,6 +457,9 @@ fn movements_cover_and_lead(rt: HostRuntime) -> Result<(), Fail> {
         (TEXT, 1, Movement::WholeLine, Some((0, 4)), None),
         (TEXT, 1, Movement::LineDown(1), Some((0, 7)), Some(6)),
         (TEXT, 1, Movement::LineUp(1), None, None),
+        (TEXT, 1, Movement::WholeLinesDown(1), Some((0, 5)), None),
+        (TEXT, 6, Movement::WholeLinesDown(1), Some((5, 7)), None),
+        (TEXT, 6, Movement::WholeLinesUp(2), Some((0, 7)), None),
         (TEXT, 1, Movement::BackwardChar(0), None, None),
         // a kill would take the newline
         ("ab\n", 2, Movement::EndOfLine, None, None),

@@ -124,6 +124,8 @@ pub const LODVARN_WHOLE_TEXT_: lodvarn_movement_kind = 124;
 pub const LODVARN_TO_TEXT_START_: lodvarn_movement_kind = 125;
 pub const LODVARN_TO_TEXT_END_: lodvarn_movement_kind = 126;
 pub const LODVARN_TO_FIRST_NONBLANK_: lodvarn_movement_kind = 127;
+pub const LODVARN_WHOLE_LINES_UP_: lodvarn_movement_kind = 128;
+pub const LODVARN_WHOLE_LINES_DOWN_: lodvarn_movement_kind = 129;
 pub type lodvarn_movement_kind = ::std::os::raw::c_uint;
 extern "C" {
     pub fn lodvarn_open(

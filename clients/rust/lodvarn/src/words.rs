@@ -115,6 +115,10 @@ pub enum Movement {
     /// To the first character of the cursor's line that is no blank, or to the end of the line if there is none: on
     /// either side of the cursor. A kill takes what stands between.
     FirstNonBlank,
+    /// n whole lines with their newlines, at least one: the cursor's line and those above it. No motion.
+    WholeLinesUp(u16),
+    /// n whole lines with their newlines, at least one: the cursor's line and those below it. No motion.
+    WholeLinesDown(u16),
 }
 
 impl Movement {
@@ -141,6 +145,8 @@ impl Movement {
             Movement::BeginningOfBuffer => (LODVARN_TO_TEXT_START_, 0),
             Movement::EndOfBuffer => (LODVARN_TO_TEXT_END_, 0),
             Movement::FirstNonBlank => (LODVARN_TO_FIRST_NONBLANK_, 0),
+            Movement::WholeLinesUp(n) => (LODVARN_WHOLE_LINES_UP_, n),
+            Movement::WholeLinesDown(n) => (LODVARN_WHOLE_LINES_DOWN_, n),
         };
         let c = match self {
             Movement::ViCharSearch(_, search) => search.passed().1.into(),

@@ -95,7 +95,7 @@ fn scripts_print() {
 
 #[test]
 fn movements_and_numbers_are_those_of_scripts() {
-    let words = "line,home,eol,first,bchar 2,fchar 2,up 1,down 1,buf,bob,eob,nonblank";
+    let words = "line,home,eol,first,bchar 2,fchar 2,up 1,down 1,buf,bob,eob,nonblank,linesup 2,lines 2";
     let searches = ["f", "t", "F", "T"].map(|kind| format!("find 1 {kind} x"));
     let mut by: Vec<_> = words.split(',').map(str::to_string).collect();
     by.extend(searches);

@@ -1,5 +1,5 @@
 -- The plans of killing and deleting by a movement, by their cases.
-use Rattle.rl_line.proofs.Common.{ToldOutcome, Ok, Err, Refusal, Plan, Done, Halted, Outcome, nothing_more, ◌≡◌, ◌∷◌, [], ℕ, Bool, true, false, List, Some, None, refl, sym, ap, subst, ◌∙◌, same_Some, Option, Result, option_map, Range, Event, Delete, Start, Stop, Direction, Forward, Movement, WholeLine, BeginningOfLine, EndOfLine, BackwardWord, ForwardWord, ViCharSearch, ViFirstPrint, FirstNonBlank, BackwardChar, ForwardChar, LineUp, LineDown, WholeBuffer, BeginningOfBuffer, EndOfBuffer, Line, nothing, single, answering, covered, killed, text_in, Told, delete_plan, is_exact, removal}
+use Rattle.rl_line.proofs.Common.{ToldOutcome, Ok, Err, Refusal, Plan, Done, Halted, Outcome, nothing_more, ◌≡◌, ◌∷◌, [], ℕ, Bool, true, false, List, Some, None, refl, sym, ap, subst, ◌∙◌, same_Some, Option, Result, option_map, Range, Event, Delete, Start, Stop, Direction, Forward, Movement, WholeLine, BeginningOfLine, EndOfLine, BackwardWord, ForwardWord, ViCharSearch, ViFirstPrint, FirstNonBlank, BackwardChar, ForwardChar, LineUp, LineDown, WholeLinesUp, WholeLinesDown, WholeBuffer, BeginningOfBuffer, EndOfBuffer, Line, nothing, single, answering, covered, killed, text_in, Told, delete_plan, is_exact, removal}
 use Rattle.rl_line.proofs.Plans.PlanLemmas.{Done-nothing, Done-single, Halted-at_first}
 
 pub delete_plan-nothing : (line : Line) (n : ℕ) → None ≡ covered line (ForwardChar n) → delete_plan line n ≡ nothing line None
@@ -38,6 +38,8 @@ killed-exact line (BackwardChar n) e = refl
 killed-exact line (ForwardChar n) e = refl
 killed-exact line (LineUp n) e = refl
 killed-exact line (LineDown n) e = refl
+killed-exact line (WholeLinesUp n) e = refl
+killed-exact line (WholeLinesDown n) e = refl
 killed-exact line WholeBuffer e = refl
 killed-exact line BeginningOfBuffer e = refl
 killed-exact line EndOfBuffer e = refl

@@ -81,6 +81,8 @@ impl LineBuffer {
             | Movement::ForwardChar(_)
             | Movement::LineUp(_)
             | Movement::LineDown(_)
+            | Movement::WholeLinesUp(_)
+            | Movement::WholeLinesDown(_)
             | Movement::WholeBuffer
             | Movement::EndOfBuffer => Direction::Forward,
         }

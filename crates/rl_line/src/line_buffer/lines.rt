@@ -31,7 +31,9 @@ impl LineBuffer {
             | Movement::EndOfLine
             | Movement::FirstNonBlank
             | Movement::LineUp(_)
-            | Movement::LineDown(_) => self.index_lines(),
+            | Movement::LineDown(_)
+            | Movement::WholeLinesUp(_)
+            | Movement::WholeLinesDown(_) => self.index_lines(),
             Movement::BackwardWord(_, _)
             | Movement::ForwardWord(_, _, _)
             | Movement::ViCharSearch(_, _)

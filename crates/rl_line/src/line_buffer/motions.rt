@@ -63,8 +63,8 @@ impl LineBuffer {
     }
 
     /// The byte place that a motion by the movement goes to. None if there is none, and if the cursor stands there
-    /// already; `WholeLine`, `WholeBuffer` and `ViFirstPrint` lead nowhere. The layout counts columns, as for
-    /// `move_to_line_up`.
+    /// already; `WholeLine`, `WholeLinesUp`, `WholeLinesDown`, `WholeBuffer` and `ViFirstPrint` lead nowhere. The layout
+    /// counts columns, as for `move_to_line_up`.
     #[tactic(auto, using(crate::proofs::Lines::Starting::starting))]
     pub fn destination(&self, mvt: &Movement, layout: &Layout) -> Option<usize>
         ensures value { result ≡ destination layout.now self.now mvt.now }
@@ -85,7 +85,11 @@ impl LineBuffer {
             Movement::LineDown(n) => self.place_below(*n, layout),
             Movement::BeginningOfBuffer => self.unless_there(0),
             Movement::EndOfBuffer => self.unless_there(text.len()),
-            Movement::WholeLine | Movement::ViFirstPrint | Movement::WholeBuffer => None,
+            Movement::WholeLine
+            | Movement::WholeLinesUp(_)
+            | Movement::WholeLinesDown(_)
+            | Movement::ViFirstPrint
+            | Movement::WholeBuffer => None,
         }
     }
 

@@ -4,7 +4,7 @@ ghost use Rattle.std.specs.Option.{option_map};
 ghost use Rattle.std.specs.Str.{IsCharBoundary};
 ghost use Rattle.rl_base.specs.Search.{chosen_hit};
 ghost use Rattle.rl_line.specs.LineMotions.{line_end};
-ghost use Rattle.rl_line.specs.Ranges.{covered, either_way, from_first_print, indented, killed, lines_down, lines_up, newline_at, to_hit, unless_empty};
+ghost use Rattle.rl_line.specs.Ranges.{covered, either_way, from_first_print, indented, killed, lines_down, lines_up, newline_at, to_hit, unless_empty, whole_lines_down, whole_lines_up};
 
 use crate::line_buffer::LineBuffer;
 use rl_base::places::{next_pos, next_word, prev_pos, prev_word, search};
@@ -36,6 +36,8 @@ impl LineBuffer {
             Movement::ForwardChar(n) => Some(at..next_pos(text, at, *n)?),
             Movement::LineUp(n) => self.lines_up(*n),
             Movement::LineDown(n) => self.lines_down(*n),
+            Movement::WholeLinesUp(n) => self.whole_lines_up(*n),
+            Movement::WholeLinesDown(n) => self.whole_lines_down(*n),
             Movement::WholeBuffer => self.unless_empty(0, text.len()),
             Movement::BeginningOfBuffer => self.unless_empty(0, at),
             Movement::EndOfBuffer => self.unless_empty(at, text.len()),
@@ -67,6 +69,8 @@ impl LineBuffer {
             | Movement::ForwardChar(_)
             | Movement::LineUp(_)
             | Movement::LineDown(_)
+            | Movement::WholeLinesUp(_)
+            | Movement::WholeLinesDown(_)
             | Movement::WholeBuffer
             | Movement::BeginningOfBuffer
             | Movement::EndOfBuffer => self.covered(mvt),
@@ -94,6 +98,8 @@ impl LineBuffer {
             | Movement::ForwardWord(_, _, _)
             | Movement::LineUp(_)
             | Movement::LineDown(_)
+            | Movement::WholeLinesUp(_)
+            | Movement::WholeLinesDown(_)
             | Movement::WholeBuffer
             | Movement::BeginningOfBuffer
             | Movement::EndOfBuffer => match self.covered(mvt) {
@@ -146,6 +152,33 @@ impl LineBuffer {
         let start = self.start_of_line(k).saturating_sub(1);
         let final_line = last.min(k.saturating_add(usize::from(n)));
         Some(start..self.after_line(final_line))
+    }
+
+    // The cursor's line and those above it, `n` in all, at least one, with their newlines.
+    #[tactic(auto, using(crate::proofs::Lines::LineReadLemmas::lines_read))]
+    fn whole_lines_up(&self, n: RepeatCount) -> Option<Range<usize>>
+        ensures value { result ≡ whole_lines_up self.now.text self.now.cursor n }
+        ensures order { IfSome result (λ r. r.start ≤ r.end) }
+        ensures start { IfSome result (λ r. IsCharBoundary self.now.text r.start) }
+        ensures end { IfSome result (λ r. IsCharBoundary self.now.text r.end) }
+    {
+        let k = self.line_number();
+        let first = k.saturating_sub(usize::from(n.saturating_sub(1)));
+        self.unless_empty(self.start_of_line(first), self.after_line(k))
+    }
+
+    // The cursor's line and those below it, `n` in all, at least one, with their newlines.
+    #[tactic(auto, using(crate::proofs::Lines::LineReadLemmas::lines_read))]
+    fn whole_lines_down(&self, n: RepeatCount) -> Option<Range<usize>>
+        ensures value { result ≡ whole_lines_down self.now.text self.now.cursor n }
+        ensures order { IfSome result (λ r. r.start ≤ r.end) }
+        ensures start { IfSome result (λ r. IsCharBoundary self.now.text r.start) }
+        ensures end { IfSome result (λ r. IsCharBoundary self.now.text r.end) }
+    {
+        let k = self.line_number();
+        let more = usize::from(n.saturating_sub(1));
+        let final_line = self.last_line().min(k.saturating_add(more));
+        self.unless_empty(self.start_of_line(k), self.after_line(final_line))
     }
 
     // Between a place and the cursor, whichever comes first.

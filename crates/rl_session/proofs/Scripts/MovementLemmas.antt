@@ -1,6 +1,6 @@
 -- One movement at most is named, by what stands after its word.
 use Rattle.rl_session.proofs.Common.{arith}
-use Rattle.rl_session.proofs.Common.{◌≡◌, ℕ, ◌-◌, ◌^◌, List, Option, Some, refl, sym, ap, subst, ◌∙◌, codes, GraphemeClusterMode, Direction, At, CharSearch, Movement, BackwardChar, ForwardChar, LineUp, LineDown, Word, WordAction, NamesWord, big, emacs, vi, NamesAt, start, before, NamesSearch, till, back_onto, back_till, NamesAction, cap, low, upper, NamesMode, unicode, wcwidth, nozwj, CountWord, CountAtWord, CountSearch, Names, whole, home, eol, bword, fword, find, first, nonblank, bchar, fchar, up, down, buf, bob, eob, AmountMovement, NamesDirection, ahead, backward, RangeDirection, word, rest, SpellsChar, Numbered, HasNoWord, HasNoAt, HasNoSearch, NamesNothing}
+use Rattle.rl_session.proofs.Common.{◌≡◌, ℕ, ◌-◌, ◌^◌, List, Option, Some, refl, sym, ap, subst, ◌∙◌, codes, GraphemeClusterMode, Direction, At, CharSearch, Movement, BackwardChar, ForwardChar, LineUp, LineDown, WholeLinesUp, WholeLinesDown, Word, WordAction, NamesWord, big, emacs, vi, NamesAt, start, before, NamesSearch, till, back_onto, back_till, NamesAction, cap, low, upper, NamesMode, unicode, wcwidth, nozwj, CountWord, CountAtWord, CountSearch, Names, whole, home, eol, bword, fword, find, first, nonblank, bchar, fchar, up, down, linesup, linesdown, buf, bob, eob, AmountMovement, NamesDirection, ahead, backward, RangeDirection, word, rest, SpellsChar, Numbered, HasNoWord, HasNoAt, HasNoSearch, NamesNothing}
 use Rattle.rl_session.specs.Grammar.{after, onto}
 use Rattle.rl_session.proofs.Scripts.NumberLemmas.{some_same}
 use Rattle.rl_session.proofs.Scripts.SpellingLemmas.{SpellsChar-one}
@@ -71,6 +71,8 @@ Names-one (bchar p) (bchar q) = ap (λ x. BackwardChar x) (some_same _ p q)
 Names-one (fchar p) (fchar q) = ap (λ x. ForwardChar x) (some_same _ p q)
 Names-one (up p) (up q) = ap (λ x. LineUp x) (some_same _ p q)
 Names-one (down p) (down q) = ap (λ x. LineDown x) (some_same _ p q)
+Names-one (linesup p) (linesup q) = ap (λ x. WholeLinesUp x) (some_same _ p q)
+Names-one (linesdown p) (linesdown q) = ap (λ x. WholeLinesDown x) (some_same _ p q)
 Names-one buf buf = refl
 Names-one bob bob = refl
 Names-one eob eob = refl
@@ -95,4 +97,4 @@ pub no_kind : {given after bytes : List ℕ} {n c : ℕ} → Numbered 65535 give
     → ((cs : CharSearch) → NamesSearch (word after) c cs → ⊥) → HasNoSearch given
 no_kind {c = c} h on char none m cs p = grind (arith, Numbered-one, some_same, SpellsChar-one)
 
-pub ruleset movements = (whole, home, eol, bword, fword, find, first, nonblank, bchar, fchar, up, down, buf, bob, eob, no-bword, no-fword, no-find)
+pub ruleset movements = (whole, home, eol, bword, fword, find, first, nonblank, bchar, fchar, up, down, linesup, linesdown, buf, bob, eob, no-bword, no-fword, no-find)

@@ -83,6 +83,8 @@ impl Random {
             Movement::BeginningOfBuffer,
             Movement::EndOfBuffer,
             Movement::FirstNonBlank,
+            Movement::WholeLinesUp(n),
+            Movement::WholeLinesDown(n),
         ])
     }
 }

@@ -89,6 +89,8 @@ impl<'l> Words<'l> {
             "bob" => Movement::BeginningOfBuffer,
             "eob" => Movement::EndOfBuffer,
             "nonblank" => Movement::FirstNonBlank,
+            "linesup" => Movement::WholeLinesUp(self.number()),
+            "lines" => Movement::WholeLinesDown(self.number()),
             word => panic!("no such movement: {word}"),
         }
     }
