@@ -221,16 +221,15 @@ other_course old (KillRange i j side) (says.Refused BadPlace) = when (¬ (IsRang
 other_course old (KillRange i j side) (says.Refused NoMemory) =
     when (IsRange old.line.text i j) (tells false (stops ⊥ nothing_more (kill_range_plan old.line i j side)))
 other_course old (Keep t) (says.Refused NoMemory) = when (Enlarges (string_bytes t) Append old.pair.ring) stays
--- memory may be out before a yank begins too, unless the text is empty or goes in no times
 other_course old (Yank n) (says.Inserted a) = lends (edits (lent_plan old.line (yank old.pair.ring) n) a)
 other_course old (Yank n) (says.Refused NoMemory) =
-    lends (stops ((0 < n) × HasText (yank old.pair.ring)) room_by_step (lent_plan old.line (yank old.pair.ring) n))
+    lends (stops ⊥ room_by_step (lent_plan old.line (yank old.pair.ring) n))
 other_course old YankPop (says.Inserted a) =
     when (StandsYanked (yank_size old.pair.ring) old.line) (pops (edits (popped_plan old.line (yank_pop old.pair.ring)) a))
 other_course old YankPop (says.Refused BadYankSize) = when (¬ (StandsYanked (yank_size old.pair.ring) old.line)) stays
 other_course old YankPop (says.Refused NoMemory) =
     when (StandsYanked (yank_size old.pair.ring) old.line)
-    (pops (stops (HasText (option_map (λ (p : ℕ × List ℕ). p.1) (yank_pop old.pair.ring))) room_by_step (popped_plan old.line (yank_pop old.pair.ring))))
+    (pops (stops ⊥ room_by_step (popped_plan old.line (yank_pop old.pair.ring))))
 other_course old Begin (says.Refused NoMemory) = when (old.pair.changes.pending ≡ []) stays
 other_course old End (says.Refused NoMemory) = when (adds_end (level old.pair.changes.recorded) old.pair.changes.recorded ≡ true) stays
 other_course old EndOne (says.Refused NoMemory) =
