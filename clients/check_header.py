@@ -100,7 +100,7 @@ def calls_of(source, end):
         if ends == end and not result.startswith("static"):
             kinds = ", ".join(kind for _, kind in declared(given, ","))
             kinds = kinds.replace("*const u8, usize", "&[u8]").replace("*mut u8, usize", "&mut [u8]")
-            kinds = kinds.replace("&mut usize, usize", "&mut [usize]")
+            kinds = re.sub(r"&mut (usize|Cluster), usize", r"&mut [\1]", kinds)
             kinds = re.sub(r"(?<!mut )\bView\b", "&[u8]", kinds)
             found[name] = f"({kinds}) -> {in_crate(result)}"
     return found

@@ -613,6 +613,11 @@ int lodvarn_width(enum lodvarn_mode mode, const char *text, size_t len, size_t *
 int lodvarn_first_cluster(const char *text, size_t len, size_t *bytes);
 int lodvarn_last_cluster(const char *text, size_t len, size_t *bytes);
 
+/* Cuts a text into its grapheme clusters: writes as many as cap to clusters, with their places in the text and their
+ * columns in the mode, and sets *count to how many there are. */
+int lodvarn_clusters(enum lodvarn_mode mode, const char *text, size_t len, lodvarn_cluster *clusters, size_t cap,
+                     size_t *count);
+
 /* Finds where a place of a text is on a screen: its row, in line, and its column. The text begins at column prompt of
  * row 0. A newline, "\n" or "\r\n", leads to column continuation of the next row. A cluster that does not fit in the
  * rest of its row goes whole to the next row. A place at the right edge is column 0 of the next row, and one inside a cluster is where the

@@ -346,6 +346,7 @@ static int frugal_step(unsigned which) {
     CALL(lodvarn_cell(&screen, LEN, text, LEN, &position));
     CALL(lodvarn_place_at(&screen, position, text, LEN, &n));
     CALL(lodvarn_rows(&screen, text, LEN, NULL, 0, &n));
+    CALL(lodvarn_clusters(LODVARN_UNICODE, text, LEN, &cluster, 1, &n));
     CALL(lodvarn_row_above(s, &screen, 1, &column, &n));
     CALL(lodvarn_row_below(s, &screen, 1, &column, &n));
     CALL(lodvarn_line_text(l, &view));

@@ -557,6 +557,20 @@ static void see_cell(const struct laid *row) {
         printf("  got %zu, %zu\n", got.line, got.column);
 }
 
+static void clusters_are_cut(void) {
+    static const char text[] = "e\u0301漢\r\n" FAMILY "x";
+    static const lodvarn_cluster wanted[] = {{0, 3, 1}, {3, 6, 2}, {6, 8, 0}, {8, 26, 2}, {26, 27, 1}};
+    for (size_t cap = 0; cap < 7; cap++) {
+        lodvarn_cluster got[7] = {{NO, NO, NO}, {NO, NO, NO}, {NO, NO, NO}, {NO, NO, NO}, {NO, NO, NO}, {NO, NO, NO}};
+        size_t count = NO;
+        SEE(lodvarn_clusters(U, text, sizeof text - 1, got, cap, &count) == LODVARN_DONE && count == 5);
+        for (size_t i = 0; i < 6; i++) {
+            int is = got[i].from == wanted[i % 5].from && got[i].to == wanted[i % 5].to && got[i].columns == wanted[i % 5].columns;
+            SEE(i < cap && i < 5 ? is : got[i].from == NO);
+        }
+    }
+}
+
 /* The rows of a text: where each begins, and how many there are. */
 static const struct {
     const char *what, *text;
@@ -833,6 +847,7 @@ static void numbers_outside_of_their_enums(void) {
         LEAVES(NO_SUCH_NUMBER, lodvarn_width((enum lodvarn_mode)number, "a", 1, &out.number));
         LEAVES(NO_SUCH_NUMBER, lodvarn_cell(screen_of(10, number), 0, "a", 1, &out.position));
         LEAVES(NO_SUCH_NUMBER, lodvarn_place_at(screen_of(10, number), corner, "a", 1, &out.number));
+        LEAVES(NO_SUCH_NUMBER, lodvarn_clusters((enum lodvarn_mode)number, "a", 1, &out.cluster, 1, &out.number));
         LEAVES(NO_SUCH_NUMBER, lodvarn_rows(screen_of(10, number), "a", 1, &out.number, 1, &out.number));
         LEAVES(NO_SUCH_NUMBER, lodvarn_row_above(s, screen_of(10, number), 1, &out.number, &out.number));
     }
@@ -911,6 +926,7 @@ static void texts_that_are_no_utf8(void) {
         LEAVES(NOT_UTF8, lodvarn_last_cluster(bad, len, &out.number));
         LEAVES(NOT_UTF8, lodvarn_cell(&screen, 0, bad, len, &out.position));
         LEAVES(NOT_UTF8, lodvarn_place_at(&screen, corner, bad, len, &out.number));
+        LEAVES(NOT_UTF8, lodvarn_clusters(U, bad, len, &out.cluster, 1, &out.number));
         LEAVES(NOT_UTF8, lodvarn_rows(&screen, bad, len, &out.number, 1, &out.number));
     }
     SEE(lodvarn_script("\xff\n", 2, out.text, 8, &out.number) == LODVARN_DONE && out.number == 4);
@@ -1285,6 +1301,7 @@ int main(void) {
     widths_are_measured();
     clusters_are_found();
     cells_and_places_are_found();
+    clusters_are_cut();
     rows_are_found();
     motions_by_rows_keep_the_column();
     movements_mean_what_they_say();

@@ -140,6 +140,11 @@ class Places(Scripts):
             self.assertEqual(session.row_below(screen, 1), (3, 1))
             self.assertIsNone(session.row_below(screen, n=9))
 
+    def test_a_text_is_cut_into_clusters(self):
+        self.assertEqual(lodvarn.clusters("e\u0301漢x"), [("e\u0301", 1), ("漢", 2), ("x", 1)])
+        self.assertEqual(lodvarn.clusters("\x01\n", Mode.WC_WIDTH), [("\x01", 0), ("\n", 0)])
+        self.assertEqual(lodvarn.clusters(""), [])
+
     def test_rows_begin_at_places(self):
         for screen, text, wanted in [
             (Screen(10), "", [0]),

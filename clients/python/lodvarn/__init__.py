@@ -29,8 +29,8 @@ from ._lodvarn import ffi, lib
 __all__ = [
     "BadPlaceError", "BadYankSizeError", "Case", "ClosedError", "Cluster", "Direction", "IsWatchedError",
     "LodvarnError", "Mode", "Movement", "NoMemoryError", "NoRoomError", "NoSuchNumberError", "NotReplayingError",
-    "Report", "ReportKind", "Screen", "Search", "Session", "Splice", "Stop", "Word", "cell", "first_cluster",
-    "last_cluster", "place_at", "run_script", "width",
+    "Report", "ReportKind", "Screen", "Search", "Session", "Splice", "Stop", "Word", "cell", "clusters",
+    "first_cluster", "last_cluster", "place_at", "rows", "run_script", "width",
 ]
 
 __version__ = "0.1.0"
@@ -1020,6 +1020,15 @@ def last_cluster(text: str) -> str:
     return given[size - _size(lib.lodvarn_last_cluster, given, size) :].decode()
 
 
+def clusters(text: str, mode: Mode = Mode.UNICODE) -> list[tuple[str, int]]:
+    """Returns the grapheme clusters of a text, each with the number of its columns."""
+    given, size = _sent(text)
+    counted, found = _of(Mode, mode).value, _new("lodvarn_cluster[]", len(text))
+    count = _size(lib.lodvarn_clusters, counted, given, size, found, len(found))
+    ends = [0, *(found[i].to for i in range(count))]
+    return [(given[ends[i] : ends[i + 1]].decode(), found[i].columns) for i in range(count)]
+
+
 def cell(screen: Screen, place: int, text: str) -> tuple[int, int]:
     """Returns the row and column of a place of a text on a screen.
 
@@ -1050,7 +1059,10 @@ def rows(screen: Screen, text: str) -> list[int]:
     empty. Raises NoSuchNumberError if the screen has no columns.
     """
     given, size = _sent(text)
-    on, starts, count = _on(screen), ffi.NULL, -1
-    while count < (count := _size(lib.lodvarn_rows, on, given, size, starts, max(count, 0))):
-        starts = _new("size_t[]", count)
-    return [lib.chars_in(given, start) for start in starts[0:count]]
+    starts = _new("size_t[]", _size(lib.lodvarn_rows, _on(screen), given, size, ffi.NULL, 0))
+    _size(lib.lodvarn_rows, _on(screen), given, size, starts, len(starts))
+    at, found, last = ffi.from_buffer(given), [0], 0
+    for start in starts[1 : len(starts)]:
+        found.append(found[-1] + lib.chars_in(at + last, start - last))
+        last = start
+    return found

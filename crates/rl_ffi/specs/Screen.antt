@@ -1,8 +1,8 @@
 -- What the calls tell that lay a text out on a screen.
-use Rattle.std.specs.Prelude.{◌≡◌, ◌⊎◌, ℕ, ◌^◌, ◌-◌, ◌==◌, zero, suc, List, length, Option, Some, None, Result, Ok, Err, if◌then◌else◌}
+use Rattle.std.specs.Prelude.{◌⊎◌, ℕ, ◌^◌, ◌-◌, ◌==◌, zero, suc, List, Option, Some, None, Result, Ok, Err, if◌then◌else◌}
 use Rattle.std.specs.Str.{IsCharBoundary}
 use Rattle.rl_base.specs.Lines.{line_number}
-use Rattle.rl_base.specs.Screen.{cell, filled, place_at, rows}
+use Rattle.rl_base.specs.Screen.{cell, place_at, rows}
 use Rattle.rl_base.specs.declared.layout.GraphemeClusterMode.{GraphemeClusterMode}
 use Rattle.rl_base.specs.declared.screen.Screen.{Screen}
 use Rattle.rl_line.specs.Line.{Line}
@@ -10,9 +10,9 @@ use Rattle.rl_line.specs.Rows.{Above, Below, kept_column, own_cell}
 use Rattle.rl_line.specs.Rows as motion
 use Rattle.rl_ffi.specs.Calls.{Tale, Telling, Writes, refuses, where_named}
 use Rattle.rl_ffi.specs.Numbers.{count_of, mode_of}
-use Rattle.rl_ffi.specs.Texts.{of_bytes}
+use Rattle.rl_ffi.specs.Texts.{Fills, of_bytes}
 use Rattle.rl_ffi.specs.declared.answers.Answer.{Answer}
-use Rattle.rl_ffi.specs.declared.answers.Answer.TheVariants.{BadPlace, Done, NoSuchNumber}
+use Rattle.rl_ffi.specs.declared.answers.Answer.TheVariants.{BadPlace, NoSuchNumber}
 use Rattle.rl_ffi.specs.declared.shapes.CPosition.{CPosition}
 use Rattle.rl_ffi.specs.declared.shapes.CScreen.{CScreen}
 
@@ -39,10 +39,6 @@ TellsCell screen place text = where_named (screen_of screen) (λ (on : Screen). 
 abbrev pub TellsPlace : CScreen → CPosition → List ℕ → Tale ℕ
 TellsPlace screen at text =
     where_named (screen_of screen) (λ (on : Screen). of_bytes text (Writes (Some (place_at on text (at.line, at.column)))))
-
--- as many values as fit are written to a buffer, and how many there are
-abbrev pub Fills : {A : Type 0} → List A → Tale (List A × ℕ)
-Fills values n out out' = (n ≡ Done) × (out' ≡ (filled values out.0, length values))
 
 -- the places where rows begin
 abbrev pub TellsRows : CScreen → List ℕ → Tale (List ℕ × ℕ)

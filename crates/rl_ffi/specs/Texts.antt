@@ -2,6 +2,7 @@
 use Rattle.std.specs.Prelude.{◌≡◌, ◌⊎◌, ℕ, ℤ, ◌+◌, ◌*◌, List, [], ◌∷◌, length, reverse, Option, Some, None}
 use Rattle.std.specs.Str.{IsUtf8}
 use Rattle.rl_base.specs.Clusters.{clusters}
+use Rattle.rl_base.specs.Screen.{filled}
 use Rattle.rl_base.specs.Widths.{width}
 use Rattle.rl_base.specs.declared.layout.GraphemeClusterMode.{GraphemeClusterMode}
 use Rattle.rl_session.specs.Script.{Ran, StoppedBy}
@@ -10,6 +11,7 @@ use Rattle.rl_ffi.specs.Answers.{number}
 use Rattle.rl_ffi.specs.Calls.{Tale, Writes, told_where, where_named}
 use Rattle.rl_ffi.specs.Numbers.{mode_of}
 use Rattle.rl_ffi.specs.declared.answers.Answer.{Answer}
+use Rattle.rl_ffi.specs.declared.shapes.CCluster.{CCluster}
 use Rattle.rl_ffi.specs.declared.answers.Answer.TheVariants.{Done, NoMemory, NotUtf8}
 
 -- the number of what is answered
@@ -33,6 +35,20 @@ TellsFirst text = of_bytes text (Writes (first_length (clusters text)))
 
 abbrev pub TellsLast : List ℕ → Tale ℕ
 TellsLast text = of_bytes text (Writes (first_length (reverse (clusters text))))
+
+-- clusters one after another, the first of which begins at a place, each with its columns
+abbrev pub measured : GraphemeClusterMode → ℕ → List (List ℕ) → List CCluster
+measured mode place [] = []
+measured mode place (cluster ∷ more) =
+    record { from = place; to = place + length cluster; columns = width mode cluster } ∷ measured mode (place + length cluster) more
+
+-- as many values as fit are written to a buffer, and how many there are
+abbrev pub Fills : {A : Type 0} → List A → Tale (List A × ℕ)
+Fills values n out out' = (n ≡ Done) × (out' ≡ (filled values out.0, length values))
+
+-- the clusters of a text
+abbrev pub TellsClusters : ℕ → List ℕ → Tale (List CCluster × ℕ)
+TellsClusters mode text = where_named (mode_of mode) (λ (m : GraphemeClusterMode). of_bytes text (Fills (measured m 0 (clusters text))))
 
 -- the version 0.1.0 in one number
 abbrev pub version : ℕ

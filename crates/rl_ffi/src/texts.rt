@@ -1,14 +1,18 @@
 //! The calls that need no session.
 ghost use Rattle.std.specs.Prelude.{◌≡◌, ℕ, List, length, Some, IfOk, IfErr};
 ghost use Rattle.std.specs.Str.{IsUtf8};
+ghost use Rattle.rl_base.specs.Clusters.{clusters};
+ghost use Rattle.rl_base.specs.Screen.{filled};
 ghost use Rattle.rl_ffi.specs.Answers.{merged, number};
 ghost use Rattle.rl_ffi.specs.Buffers.{written};
-ghost use Rattle.rl_ffi.specs.Texts.{Answers, Printed, TellsFirst, TellsLast, TellsWidth, version};
+ghost use Rattle.rl_ffi.specs.Texts.{Answers, Printed, TellsClusters, TellsFirst, TellsLast, TellsWidth, measured, version};
 ghost use Rattle.rl_ffi.specs.declared.answers.Answer.TheVariants.{NotUtf8};
 
 use crate::answers::{Answer, Outcome, merged};
 use crate::buffers::write;
 use crate::numbers::mode_of;
+use crate::shapes::CCluster;
+use rl_base::GraphemeClusterMode;
 use rl_session::run_script;
 use std::alloc::Global;
 use unicode_segmentation::UnicodeSegmentation;
@@ -100,6 +104,47 @@ pub extern "C" fn lodvarn_last_cluster(text: &[u8], bytes: &mut usize) -> i32
     ensures { Answers (TellsLast text.now) result bytes.old bytes.new }
 {
     merged(last(text, bytes)).number()
+}
+
+// Cuts a text into its clusters, of which as many as fit go to `out`. Answers how many there are.
+fn cut(mode: GraphemeClusterMode, text: &str, out: &mut [CCluster]) -> usize
+    ensures written { out.new ≡ filled (measured mode 0 (clusters text.now)) out.old }
+    ensures count { result ≡ length (measured mode 0 (clusters text.now)) }
+{
+    let mut count: usize = 0;
+    let mut from: usize = 0;
+    for cluster in text.graphemes(true) {
+        let to = from + cluster.len();
+        if count < out.len() {
+            let columns = usize::from(mode.width(cluster));
+            out[count] = CCluster { from, to, columns };
+        }
+        count += 1;
+        from = to;
+    }
+    count
+}
+
+fn find_clusters(mode: u32, text: &[u8], out: &mut [CCluster], count: &mut usize) -> Outcome
+    ensures { TellsClusters mode text.now (merged result) (out.old, count.old) (out.new, count.new) }
+{
+    let mode = mode_of(mode)?;
+    let text = text_of(text)?;
+    *count = cut(mode, text, out);
+    Ok(Answer::Done)
+}
+
+/// `lodvarn_clusters`.
+#[unsafe(no_mangle)]
+pub extern "C" fn lodvarn_clusters(
+    mode: u32,
+    text: &[u8],
+    out: &mut [CCluster],
+    count: &mut usize,
+) -> i32
+    ensures { Answers (TellsClusters mode text.now) result (out.old, count.old) (out.new, count.new) }
+{
+    merged(find_clusters(mode, text, out, count)).number()
 }
 
 /// `lodvarn_version`.

@@ -482,6 +482,16 @@ extern "C" {
     ) -> ::std::os::raw::c_int;
 }
 extern "C" {
+    pub fn lodvarn_clusters(
+        mode: lodvarn_mode,
+        text: *const ::std::os::raw::c_char,
+        len: usize,
+        clusters: *mut lodvarn_cluster,
+        cap: usize,
+        count: *mut usize,
+    ) -> ::std::os::raw::c_int;
+}
+extern "C" {
     pub fn lodvarn_cell(
         screen: *const lodvarn_screen,
         place: usize,

@@ -296,6 +296,16 @@ pub(crate) fn rows(
     written(|out| unsafe { lodvarn_rows(&screen, at, len, to, cap, out) })
 }
 
+pub(crate) fn clusters(
+    mode: Mode,
+    text: &str,
+    clusters: &mut [lodvarn_cluster],
+) -> Result<Option<usize>, Fault> {
+    let (at, len) = (start_of(text), text.len());
+    let (to, cap) = (clusters.as_mut_ptr(), clusters.len());
+    written(|out| unsafe { lodvarn_clusters(mode as u32, at, len, to, cap, out) })
+}
+
 pub(crate) fn answer_name(answer: i32) -> &'static str {
     // A NUL ends it.
     let name = unsafe { CStr::from_ptr(lodvarn_answer_name(answer)) };

@@ -47,7 +47,7 @@ pub use builder::SessionBuilder;
 pub use changes::{Report, Splice, Untold};
 pub use listeners::{ChangeListener, DeleteListener, NoListener, Pair};
 pub use record::Group;
-pub use texts::{first_cluster, last_cluster, run_script, width};
+pub use texts::{clusters, first_cluster, last_cluster, run_script, width};
 pub use words::{
     At, Case, CharSearch, Cluster, Direction, Fault, Inserted, Mode, Movement, Options, Position,
     ReportKind, Screen, Word,

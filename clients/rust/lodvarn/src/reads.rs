@@ -1,6 +1,6 @@
 //! What is read of a session. A read changes nothing, and a kill after it still goes on from the kill before it.
 use crate::calls::methods;
-use crate::words::{Cluster, Fault, Movement, Options, Position};
+use crate::words::{Cluster, Fault, Movement, Options, Position, Screen};
 use crate::{sure, told, Session};
 use std::ops::Range;
 

@@ -1,5 +1,6 @@
 //! The calls without a session.
-use crate::words::{Fault, Mode, Position, Screen};
+use crate::ffi::lodvarn_cluster;
+use crate::words::{Cluster, Fault, Mode, Position, Screen};
 use crate::{calls, done, room, sure, told};
 
 /// What a script prints, run in a session of its own.
@@ -36,6 +37,22 @@ pub fn first_cluster(text: &str) -> &str {
 #[must_use]
 pub fn last_cluster(text: &str) -> &str {
     &text[text.len() - told(calls::last_cluster(text)).unwrap_or(0)..]
+}
+
+/// The grapheme clusters of a text, one after another.
+///
+/// ```
+/// # use lodvarn::Mode;
+/// let columns = |text| lodvarn::clusters(Mode::Unicode, text).iter().map(|it| (it.from, it.columns)).collect::<Vec<_>>();
+/// assert_eq!(columns("e\u{301}漢x"), [(0, 1), (3, 2), (6, 1)]);
+/// ```
+#[must_use]
+pub fn clusters(mode: Mode, text: &str) -> Vec<Cluster> {
+    let count = sure(calls::clusters(mode, text, &mut []));
+    let none = lodvarn_cluster { from: 0, to: 0, columns: 0 };
+    let mut found = vec![none; count];
+    let _ = calls::clusters(mode, text, &mut found);
+    found.into_iter().map(Cluster::of).collect()
 }
 
 impl Screen {

@@ -9,8 +9,9 @@ use Rattle.rl_ffi.proofs.texts.cut.Given as goal
 abbrev pub invariant-loop-cluster : goal.invariant-loop-cluster
 invariant-loop-cluster l =
     record {
+      few : l.count + length (graphemes_left l.cluster-iterator) ≤ length l.text;
       places : l.from + bytes_in (graphemes_left l.cluster-iterator) ≡ length l.text;
-      clusters : filled_after l.count (measured l.mode l.from (graphemes_left l.cluster-iterator)) l.clusters
-          ≡ filled (measured l.mode 0 (clusters l.text)) l.fn.clusters;
+      written : filled_after l.count (measured l.mode l.from (graphemes_left l.cluster-iterator)) l.out
+          ≡ filled (measured l.mode 0 (clusters l.text)) l.fn.out;
       count : l.count + length (measured l.mode l.from (graphemes_left l.cluster-iterator)) ≡ length (measured l.mode 0 (clusters l.text));
     }
