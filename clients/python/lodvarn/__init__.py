@@ -858,12 +858,12 @@ class Session:
         return Cluster(place - told[0], place, told[1]) if told else None
 
     def row_above(self, screen: Screen, column: Optional[int] = None, n: int = 1) -> Optional[tuple[int, int]]:
-        """Returns the place n rows above the cursor on a screen, and the column that it is looked for at: the given one,
-        or for None the cursor's. Pass that to the next such call, and the cursor comes back to it over a shorter row.
-        None if there are fewer rows.
+        """Returns the place n rows above the cursor on a screen, and the column that it is looked for at: the given
+        one, or for None the cursor's. Pass that to the next such call, and the cursor comes back to it over a shorter
+        row. None if there are fewer rows.
 
-        Each line is laid out by itself, as by `rows`, the first after the prompt of the screen, and the others after its
-        continuation. Raises NoSuchNumberError if the screen has no columns.
+        Each line is laid out by itself, as by `rows`, the first after the prompt of the screen, and the others after
+        its continuation. Raises NoSuchNumberError if the screen has no columns.
         """
         return _pair(lib.py_row_above, self._it, _on(screen), n, _or_most(column))
 
