@@ -293,8 +293,8 @@ static inline lodvarn_movement lodvarn_chars_forward(size_t n) {
 static inline lodvarn_movement lodvarn_lines_up(size_t n) { return lodvarn_movement_(LODVARN_LINES_UP_, 0, n); }
 static inline lodvarn_movement lodvarn_lines_down(size_t n) { return lodvarn_movement_(LODVARN_LINES_DOWN_, 0, n); }
 
-/* n whole lines with their newlines: the cursor's line and those above it, or those below it; all that there are if there
- * are fewer. No motion: lodvarn_move does nothing. */
+/* n whole lines with their newlines: the cursor's line and those above it, or those below it; all that there are if
+ * there are fewer. No motion: lodvarn_move does nothing. */
 static inline lodvarn_movement lodvarn_whole_lines_up(size_t n) {
     return lodvarn_movement_(LODVARN_WHOLE_LINES_UP_, 0, n);
 }
@@ -433,12 +433,12 @@ int lodvarn_copy(lodvarn *s, lodvarn_movement movement, char *out, size_t cap, s
 int lodvarn_indent(lodvarn *s, lodvarn_movement movement, uint8_t amount, enum lodvarn_indentation indentation);
 
 /* Parts what comes from what was done: the next change joins no other, so that it is undone alone, the next kill begins
- * a new text of the ring, and lodvarn_yank_pop finds nothing. Text, cursor, groups and what was undone stay. A change of
- * nothing leaves it so; an undo, a redo, lodvarn_truncate and the begin or end of a group take it back. */
+ * a new text of the ring, and lodvarn_yank_pop finds nothing. Text, cursor, groups and what was undone stay. A change
+ * of nothing leaves it so; an undo, a redo, lodvarn_truncate and the begin or end of a group take it back. */
 int lodvarn_part(lodvarn *s);
 
-/* Begins an undo group: once it is closed, one undo takes back all its changes. Groups may be nested. What was undone is
- * forgotten, also if nothing changes in the group: begin one only if a change is to come. Errors: NO_MEMORY. */
+/* Begins an undo group: once it is closed, one undo takes back all its changes. Groups may be nested. What was undone
+ * is forgotten, also if nothing changes in the group: begin one only if a change is to come. Errors: NO_MEMORY. */
 int lodvarn_begin_group(lodvarn *s);
 
 /* Closes the innermost group; lodvarn_end_all_groups all that are open. Returns NOTHING if it had no change, or none is
@@ -447,8 +447,8 @@ int lodvarn_end_group(lodvarn *s);
 int lodvarn_end_all_groups(lodvarn *s);
 
 /* Takes the group up again that was closed last, if nothing was recorded after it: it is open, and what comes is a part
- * of it, until it is closed once more. What was undone is forgotten then. Returns NOTHING if there is no such group, and
- * the record stays. */
+ * of it, until it is closed once more. What was undone is forgotten then. Returns NOTHING if there is no such group,
+ * and the record stays. */
 int lodvarn_reopen_group(lodvarn *s);
 
 /* Undoes the last n changes and groups, all if there are fewer. The cursor goes to where it was before them. An edit is
@@ -620,9 +620,10 @@ int lodvarn_clusters(enum lodvarn_mode mode, const char *text, size_t len, lodva
 
 /* Finds where a place of a text is on a screen: its row, in line, and its column. The text begins at column prompt of
  * row 0. A newline, "\n" or "\r\n", leads to column continuation of the next row. A cluster that does not fit in the
- * rest of its row goes whole to the next row. A place at the right edge is column 0 of the next row, and one inside a cluster is where the
- * cluster starts. A tab goes to the next column of its row that is a multiple of tab, or to the right edge if that is
- * nearer. Errors: BAD_PLACE, NO_SUCH_NUMBER also if the screen has no columns. */
+ * rest of its row goes whole to the next row, and the place before it with it. A place at the right edge is column 0 of
+ * the next row, and one inside a cluster is where the cluster starts. A tab goes to the next column of its row that is
+ * a multiple of tab, or to the right edge if that is nearer. Errors: BAD_PLACE, NO_SUCH_NUMBER also if the screen has
+ * no columns. */
 int lodvarn_cell(const lodvarn_screen *screen, size_t place, const char *text, size_t len, lodvarn_position *cell);
 
 /* Finds which place of a text is at a cell of the screen, as where a mouse points: the last place between two clusters

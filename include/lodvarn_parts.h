@@ -203,8 +203,8 @@ int lodvarn_record_replace(lodvarn_record *r, size_t at, lodvarn_view old_text, 
 int lodvarn_record_cursors(lodvarn_record *r, size_t before, size_t after);
 
 /* Undoes the last n changes and groups in a line, which makes a report of each. Returns NOTHING if there was no change.
- * Errors: NOT_REPLAYING if the changes that it takes can't be taken back from the line's text, or a cursor that was told
- * of one would stand inside a character or past the end; NO_MEMORY only if there is a change. */
+ * Errors: NOT_REPLAYING if the changes that it takes can't be taken back from the line's text, or a cursor that was
+ * told of one would stand inside a character or past the end; NO_MEMORY only if there is a change. */
 int lodvarn_record_undo(lodvarn_record *r, lodvarn_line *l, size_t n);
 
 /* Redoes what was undone last, one change or group, in a line, which makes a report of each change. Answers and errors
