@@ -9,7 +9,7 @@ import re
 import sys
 from typing import Callable, Dict, Iterator, Tuple
 
-from lodvarn import Movement, Screen, Session, Stop, Word, cell, place_at
+from lodvarn import Movement, Screen, Session, Stop, Word, cell, rows
 from raw_terminal import RawTerminal
 
 ESC, TAB, VISUAL, CONTROL = "\x1b", 8, "-- VISUAL --", re.compile("[\0-\x08\x0b-\x1f\x7f-\x9f\ud800-\udfff]")
@@ -29,13 +29,13 @@ class Vi(Session):
         """Draws the rows that fit, the cursor's among them, with the selection, and then the mode."""
         (columns, height), text, (start, end) = os.get_terminal_size(1), self.text, self.selected()
         row, column = cell(screen := Screen(columns or 80, tab=TAB), self.pos, text)
-        first, rows = max(row - height + 2, 0), ""
-        places = [place_at(screen, (first + it, 0), text) for it in range(height)]
+        first, drawn = max(row - height + 2, 0), ""
+        places = (rows(screen, text) + [len(text)] * height)[first : first + height]
         for number, (a, b) in enumerate(zip(places, places[1:]), 1):
             x, y = (min(max(it, a), b) for it in (start, end))
             shown = f"{self.slice(a, x)}\x1b[7m{self.slice(x, y)}\x1b[m{self.slice(y, b)}"
-            rows += f"\x1b[{number}H\x1b[K" + shown.replace("\n", "")
-        print(f"{rows}\x1b[{height}H\x1b[K{self.state}\x1b[{row - first + 1};{column + 1}H", end="", flush=True)
+            drawn += f"\x1b[{number}H\x1b[K" + shown.replace("\n", "")
+        print(f"{drawn}\x1b[{height}H\x1b[K{self.state}\x1b[{row - first + 1};{column + 1}H", end="", flush=True)
 
     def selected(self) -> Tuple[int, int]:
         """Where the selection begins and ends. The characters at both of its ends are in it, but no last newline."""
