@@ -21,7 +21,7 @@ CASES = [
     ("words", ["one two three", keys("M-b M-b M-d C-y M-f"), "x", keys("C-a C-d")], ["$ ne two threex"], 2),
     ("kills in a row are one", ["one two three", keys("M-b C-k C-w C-w C-y")], ["$ one two three"], 15),
     ("a yank is popped", ["one two", keys("C-w C-b C-u C-y M-y")], ["$ two"], 5),
-    ("an undo takes back a word", ["one", " zwölf", keys("C-_")], ["$ one"], 5),
+    ("an undo takes back what was typed", ["one ", keys("C-a C-e"), "zwölf elf", keys("C-_")], ["$ one"], 6),
     ("the ring of the line before", [": a b", keys("C-w"), ENTER, keys("C-y")], ["$ : a", "$ b"], 3),
     ("an undo stays in a line of before", [": one", ENTER, "two", UP, keys("C-_")], ["$ : one", "$ : one"], 7),
     ("what was typed comes back", [": one", ENTER, "two", keys("C-p Down")], ["$ : one", "$ two"], 5),

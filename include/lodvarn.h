@@ -148,6 +148,12 @@ enum lodvarn_indentation {
     LODVARN_DEDENT = 71  /* deletes leading blanks */
 };
 
+/* The side of a place on which it stays. */
+enum lodvarn_side {
+    LODVARN_BEFORE = 80, /* with the text before it: what is inserted at the place goes after it */
+    LODVARN_AFTER = 81   /* with the text after it: what is inserted at the place goes before it */
+};
+
 /* A text that is lent: len bytes from at on. If len is 0, at is no pointer to read from. */
 typedef struct lodvarn_view {
     const char *at;
@@ -208,10 +214,12 @@ typedef struct lodvarn_options {
     size_t max_entries;    /* how many entries the record may have, */
     size_t max_bytes;      /* and they how many bytes of text. See lodvarn_set_options */
     size_t max_ring_bytes; /* how many bytes the texts of the ring may have together */
+    bool limit_holds;      /* whether no call makes the text longer than the limit: see lodvarn_set_options */
 } lodvarn_options;
 
-#define LODVARN_OPTIONS                                                                                               \
-    { sizeof(lodvarn_options), LODVARN_UNICODE, 0, 4096, 60, LODVARN_NO_BOUND, LODVARN_NO_BOUND, LODVARN_NO_BOUND }
+#define LODVARN_OPTIONS                                                                                            \
+    { sizeof(lodvarn_options), LODVARN_UNICODE, 0, 4096, 60, LODVARN_NO_BOUND, LODVARN_NO_BOUND, LODVARN_NO_BOUND, \
+      false }
 
 /* The kinds of movements. No program needs them: it calls the functions below. */
 enum lodvarn_movement_kind {
@@ -318,7 +326,8 @@ void lodvarn_close(lodvarn **s);
 /* Begins anew with a text, with the cursor at its end, as an editor does with the next line. The record is empty then.
  * The kill ring keeps its texts; a kill begins a new one, and lodvarn_yank_pop finds nothing until a yank. The limit
  * rises if the text is longer, and the options stay. The reports tell that all the old text gave way to the new one.
- * Errors: NOT_UTF8, and NO_MEMORY only if the text needs more room; they leave the whole session. */
+ * Errors: NOT_UTF8, NO_ROOM if the limit holds, and NO_MEMORY only if the text needs more room; they leave the whole
+ * session. */
 int lodvarn_restart(lodvarn *s, const char *text, size_t len);
 
 /* Sets what may be chosen. A kill after it still goes on from the kill before it. The limit becomes the text's length
@@ -327,8 +336,11 @@ int lodvarn_restart(lodvarn *s, const char *text, size_t len);
  * oldest change or closed group, which can't be undone then. A group that is open stays, with all after its begin, and
  * so does what was undone. Numbers of entries that were told before count what is gone. Likewise the ring drops its
  * oldest text as long as all have more than max_ring_bytes bytes together. If that was the current one, the newest is
- * current then, and a kill begins a new text. Errors: NO_SUCH_NUMBER, also if size is none that this version knows, or
- * ring_size is not the session's. */
+ * current then, and a kill begins a new text. Where limit_holds is set, no command makes the text longer than limit,
+ * nor does a step of one: what would returns NO_ROOM and changes nothing. Else lodvarn_insert_at, lodvarn_replace,
+ * lodvarn_change_case, lodvarn_indent, lodvarn_transpose_words, lodvarn_undo, lodvarn_redo and lodvarn_restart raise
+ * the limit. Errors: NO_SUCH_NUMBER, also if size is none that this version knows, or ring_size is not the
+ * session's. */
 int lodvarn_set_options(lodvarn *s, const lodvarn_options *options);
 
 /* Writes what is chosen to *options, whose size the caller has set. A read. Errors: NO_SUCH_NUMBER if size is none that
@@ -365,12 +377,13 @@ int lodvarn_yank_pop(lodvarn *s);
  * is no boundary of the text that was passed, NO_MEMORY. */
 int lodvarn_set_text(lodvarn *s, size_t pos, const char *text, size_t len);
 
-/* Inserts a text at a place, whatever the limit, which rises if the text is longer then. The cursor's place keeps its
- * number. Errors: BAD_PLACE also if the cursor would come to stand inside a character, NO_MEMORY. */
+/* Inserts a text at a place. The limit rises if the text is longer then, or, where it holds, nothing goes in. The
+ * cursor's place keeps its number. Errors: BAD_PLACE also if the cursor would come to stand inside a character,
+ * NO_ROOM, NO_MEMORY. */
 int lodvarn_insert_at(lodvarn *s, size_t place, const char *text, size_t len);
 
-/* Replaces what stands in a range by a text, whatever the limit, which rises if the text is longer then. The cursor
- * goes after the text. Errors: BAD_PLACE, NO_MEMORY. */
+/* Replaces what stands in a range by a text. The limit rises if the text is longer then, or, where it holds, nothing
+ * changes. The cursor goes after the text. Errors: BAD_PLACE, NO_ROOM, NO_MEMORY. */
 int lodvarn_replace(lodvarn *s, lodvarn_range range, const char *text, size_t len);
 
 /* Deletes what stands in a range. The cursor goes to its start. Errors: BAD_PLACE, NO_MEMORY. */
@@ -395,11 +408,13 @@ int lodvarn_transpose_chars(lodvarn *s);
 
 /* Exchanges the word that ends n-th after the cursor with the word n words before it. The cursor goes after both.
  * Returns NOTHING if there are not two; the cursor may have moved then. These are four changes, see
- * lodvarn_transpose_chars. Errors: NO_MEMORY. */
+ * lodvarn_transpose_chars. Errors: NO_ROOM if between them the text has no room for the first word in the place of the
+ * second, NO_MEMORY. */
 int lodvarn_transpose_words(lodvarn *s, size_t n);
 
 /* Changes the letter case of the rest of the word at the cursor, or of the next word. The cursor goes after the word.
- * Returns NOTHING if there is none. These are two changes, see lodvarn_transpose_chars. Errors: NO_MEMORY. */
+ * Returns NOTHING if there is none. These are two changes, see lodvarn_transpose_chars. Errors: NO_ROOM,
+ * NO_MEMORY. */
 int lodvarn_change_case(lodvarn *s, enum lodvarn_case to);
 
 /* Deletes what a movement covers. The ring keeps it, except by lodvarn_chars_back and lodvarn_chars_forward.
@@ -429,13 +444,17 @@ int lodvarn_clear_ring(lodvarn *s);
 int lodvarn_copy(lodvarn *s, lodvarn_movement movement, char *out, size_t cap, size_t *len);
 
 /* Inserts amount spaces at the start of each line that a movement covers, or deletes up to amount bytes of blanks
- * there. Each line is a change or more, see lodvarn_transpose_chars. Errors: NO_MEMORY. */
+ * there. Each line is a change or more, see lodvarn_transpose_chars. Errors: NO_ROOM, NO_MEMORY. */
 int lodvarn_indent(lodvarn *s, lodvarn_movement movement, uint8_t amount, enum lodvarn_indentation indentation);
 
 /* Parts what comes from what was done: the next change joins no other, so that it is undone alone, the next kill begins
  * a new text of the ring, and lodvarn_yank_pop finds nothing. Text, cursor, groups and what was undone stay. A change
  * of nothing leaves it so; an undo, a redo, lodvarn_truncate and the begin or end of a group take it back. */
 int lodvarn_part(lodvarn *s);
+
+/* Says that the text is saved as it is. The next change is undone alone, so that an undo may come back to it. No
+ * command: text, cursor and ring stay. A session begins unsaved, also after lodvarn_restart. */
+int lodvarn_set_saved(lodvarn *s);
 
 /* Begins an undo group: once it is closed, one undo takes back all its changes. Groups may be nested. What was undone
  * is forgotten, also if nothing changes in the group: begin one only if a change is to come. Errors: NO_MEMORY. */
@@ -457,10 +476,12 @@ int lodvarn_reopen_group(lodvarn *s);
  * - the deletion or kill of one letter or digit, and the last change a deletion at that place, to either side;
  * - a text by lodvarn_replace, and the last change one whose new text ends at its place.
  * Motions between them do not matter; nothing joins right after lodvarn_part, or over where a group begins or ends.
- * Returns NOTHING if there was no change. Errors: NO_MEMORY. */
+ * Returns NOTHING if there was no change. Errors: NO_ROOM if a text on the way back is longer than a limit that holds,
+ * NO_MEMORY. */
 int lodvarn_undo(lodvarn *s, size_t n);
 
-/* Redoes what was undone last, one change or group. Returns NOTHING if there is none. Errors: NO_MEMORY. */
+/* Redoes what was undone last, one change or group. Returns NOTHING if there is none. Errors: NO_ROOM as for an
+ * undo, NO_MEMORY. */
 int lodvarn_redo(lodvarn *s);
 
 /* Keeps the first entries of the record, as many as the argument says, and forgets the others and what was undone. The
@@ -576,6 +597,11 @@ size_t lodvarn_level(lodvarn *s);
 bool lodvarn_can_undo(lodvarn *s);
 bool lodvarn_can_redo(lodvarn *s);
 
+/* Returns whether the text is the one for which lodvarn_set_saved was called last, by the record: it was not changed
+ * since, or undos and redos came back to it. It is false for good once a change that was made before the save is
+ * dropped, since something else was done after it was undone, or forgotten. */
+bool lodvarn_is_saved(lodvarn *s);
+
 /* Returns how many texts the kill ring has. */
 size_t lodvarn_ring_count(lodvarn *s);
 
@@ -636,6 +662,14 @@ int lodvarn_place_at(const lodvarn_screen *screen, lodvarn_position cell, const 
  * begins. Lay out the lines that are on the screen alone, by lodvarn_find_line and lodvarn_slice, with their prompt.
  * Errors: NO_SUCH_NUMBER also if the screen has no columns. */
 int lodvarn_rows(const lodvarn_screen *screen, const char *text, size_t len, size_t *starts, size_t cap, size_t *count);
+
+/* Moves a place by a change: tells in *moved where a place of the text before the change stands in the text after it.
+ * So a mark, or the end of a selection without the cursor, stays with its text. A place inside of what went goes to the
+ * start of what came, or for LODVARN_AFTER to its end. Move each place by each report in order, whose change is
+ * {at, at + old_len, at + new_len}, or by the one change that lodvarn_take_change tells. If several were made since,
+ * or one of several steps, that one takes in what stands between them, and a place there goes to an end of it; only
+ * the reports tell more. Errors: BAD_PLACE if old_to or new_to is before from, or *moved would be past SIZE_MAX. */
+int lodvarn_moved(const lodvarn_splice *change, size_t place, enum lodvarn_side side, size_t *moved);
 
 #ifdef __cplusplus
 }

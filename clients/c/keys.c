@@ -33,6 +33,16 @@ static int change_case(enum lodvarn_case to) {
     return answer;
 }
 
+/* Goes to the n-th character c after the cursor in its line, or stays if there are fewer, as f of Vi. */
+static int find_in_line(uint32_t c, size_t n) {
+    size_t place = lodvarn_pos(s), line = 0, found = 0;
+    lodvarn_line_at(s, place, &line);
+    for (; n; n--)
+        if (lodvarn_destination(s, place, lodvarn_search_for(LODVARN_TO, c, 1), &place) <= 0) return LODVARN_NOTHING;
+    lodvarn_line_at(s, place, &found);
+    return found == line ? lodvarn_set_pos(s, place) : LODVARN_NOTHING;
+}
+
 /* Types a UTF-8 text, with one call for each character. */
 static int type(const char *word) {
     int answer = LODVARN_NOTHING;
@@ -63,6 +73,7 @@ static int press(const char *word) {
     if (IS("DEL")) return lodvarn_backspace(s, 1);
     if (IS("SPC")) return lodvarn_insert(s, ' ', 1);
     if (IS("RET")) return accept_line();
+    if (!strncmp(word, "C-]", 3)) return find_in_line((unsigned char)word[3], 1);
     if (*word == '"') return lodvarn_paste(s, word + 1, strlen(word + 1), 1);
     return type(word);
 }

@@ -65,8 +65,19 @@ static int end_line(int is_accepted) {
     return lodvarn_restart(s, "", 0);
 }
 
-/* Does what a key says, or inserts the character that it is. */
+/* Types a character. All that is typed with no other key between is one undo, as in GNU readline. */
+static int type(uint32_t c, int goes_on) {
+    if (!goes_on || lodvarn_reopen_group(s) <= 0) lodvarn_begin_group(s);
+    int answer = lodvarn_insert(s, c, 1);
+    lodvarn_end_group(s);
+    return answer;
+}
+
+/* Does what a key says, or types the character that it is. */
 static int press(const char *key, uint32_t c) {
+    static int is_typed;
+    int goes_on = is_typed;
+    is_typed = *key != 0x1b && ' ' <= c && (c < 0x7f || 0xa0 <= c);
 #define IS(bytes) !strcmp(key, bytes)
     if (IS("\x01")) return lodvarn_move(s, lodvarn_to_line_start());
     if (IS("\x05")) return lodvarn_move(s, lodvarn_to_line_end());
@@ -87,7 +98,7 @@ static int press(const char *key, uint32_t c) {
     if (IS("\x0e") || IS("\x1b[B")) return recall(0);
     if (IS("\x03")) return end_line(0);
     if (IS("\n") || IS("\r")) return end_line(1);
-    return *key == 0x1b || c < ' ' || (0x7f <= c && c < 0xa0) ? LODVARN_NOTHING : lodvarn_insert(s, c, 1);
+    return is_typed ? type(c, goes_on) : LODVARN_NOTHING;
 }
 
 /* Takes a byte. The last one of a key does what this says, and the last one of a character inserts it. */

@@ -326,6 +326,8 @@ static int frugal_step(unsigned which) {
     CALL(-!(lodvarn_ring_count(s) && lodvarn_count_reports(s) && lodvarn_version() && lodvarn_answer_name(0)));
     CALL(lodvarn_ring_text(s, 0, &view));
     CALL(lodvarn_clear_ring(s));
+    CALL(lodvarn_set_saved(s));
+    CALL(-(int)lodvarn_is_saved(s));
     CALL(lodvarn_find_line(s, 1, &covered));
     CALL(lodvarn_find_cursor(s, &position));
     CALL(lodvarn_line_at(s, 1, &n));
@@ -347,6 +349,7 @@ static int frugal_step(unsigned which) {
     CALL(lodvarn_place_at(&screen, position, text, LEN, &n));
     CALL(lodvarn_rows(&screen, text, LEN, NULL, 0, &n));
     CALL(lodvarn_clusters(LODVARN_UNICODE, text, LEN, &cluster, 1, &n));
+    CALL(lodvarn_moved(&(lodvarn_splice){0, 1, 2}, 1, LODVARN_AFTER, &n));
     CALL(lodvarn_row_above(s, &screen, 1, &column, &n));
     CALL(lodvarn_row_below(s, &screen, 1, &column, &n));
     CALL(lodvarn_line_text(l, &view));

@@ -153,14 +153,15 @@ static int has_chosen(const lodvarn_options *wanted) {
     lodvarn_options now = chosen();
     return now.size == sizeof now && now.mode == wanted->mode && now.prompt == wanted->prompt
         && now.limit == wanted->limit && now.ring_size == wanted->ring_size && now.max_entries == wanted->max_entries
-        && now.max_bytes == wanted->max_bytes && now.max_ring_bytes == wanted->max_ring_bytes;
+        && now.max_bytes == wanted->max_bytes && now.max_ring_bytes == wanted->max_ring_bytes
+        && now.limit_holds == wanted->limit_holds;
 }
 
 static void options_are_chosen(void) {
     static const lodvarn_options defaults = LODVARN_OPTIONS,
-                                 first = {sizeof first, Z, 65535, 64, 3, 5, 90, 9},
+                                 first = {sizeof first, Z, 65535, 64, 3, 5, 90, 9, true},
                                  second = {sizeof second, W, 0, LODVARN_NO_LIMIT,
-                                           3, LODVARN_NO_BOUND, 0, LODVARN_NO_BOUND};
+                                           3, LODVARN_NO_BOUND, 0, LODVARN_NO_BOUND, false};
     lodvarn_close(&s);
     SEE(defaults.mode == LODVARN_UNICODE && defaults.prompt == 0 && defaults.limit == 4096 && defaults.ring_size == 60);
     SEE(defaults.max_entries == LODVARN_NO_BOUND && defaults.max_bytes == LODVARN_NO_BOUND);
@@ -366,6 +367,30 @@ static void the_ring_has_what_was_killed_and_kept(void) {
     DOES(DONE, lodvarn_kill(s, WORD_BACK), "|#b#d#c#b#a");
 }
 
+static void a_saved_text_comes_back(void) {
+    open_at("|", 64);
+    SEE(!lodvarn_is_saved(s) && lodvarn_set_saved(s) == LODVARN_DONE && lodvarn_is_saved(s));
+    lodvarn_insert(s, 'a', 1);
+    SEE(!lodvarn_is_saved(s) && lodvarn_set_saved(s) == LODVARN_DONE && lodvarn_is_saved(s) && lodvarn_entries(s) == 1);
+    lodvarn_insert(s, 'b', 1);
+    SEE(!lodvarn_is_saved(s) && lodvarn_entries(s) == 2);
+    DOES(DONE, lodvarn_undo(s, 1), "a|");
+    SEE(lodvarn_is_saved(s) && lodvarn_redo(s) == LODVARN_DONE && !lodvarn_is_saved(s));
+    DOES(DONE, lodvarn_undo(s, 2), "|");
+    DOES(DONE, lodvarn_redo(s), "a|");
+    SEE(lodvarn_is_saved(s));
+    lodvarn_insert(s, 'c', 1);
+    DOES(DONE, lodvarn_undo(s, 1), "a|");
+    SEE(lodvarn_is_saved(s));
+    lodvarn_undo(s, 1);
+    lodvarn_insert(s, 'a', 1);
+    SEE(!lodvarn_is_saved(s) && lodvarn_set_saved(s) == LODVARN_DONE);
+    SEE(SET(max_entries, 0) == LODVARN_DONE && lodvarn_is_saved(s));
+    lodvarn_insert(s, 'b', 1);
+    SEE(lodvarn_undo(s, 1) == LODVARN_NOTHING && !lodvarn_is_saved(s));
+    SEE(lodvarn_set_saved(s) == LODVARN_DONE && lodvarn_restart(s, "", 0) == LODVARN_DONE && !lodvarn_is_saved(s));
+}
+
 static void groups_are_closed(void) {
     open_at("|one", 64);
     SEE(lodvarn_end_group(s) == LODVARN_NOTHING && lodvarn_end_all_groups(s) == LODVARN_NOTHING && !lodvarn_level(s));
@@ -425,6 +450,23 @@ static void options_take_effect(void) {
     DOES(DONE_AT_END, lodvarn_yank_pop(s), "abcdw|#w#yz");
     DOES(DONE, lodvarn_kill(s, WORD_BACK), "|");
     DOES(DONE, SET(max_ring_bytes, LODVARN_NO_BOUND), "|");
+}
+
+static void a_limit_holds(void) {
+    open_at("abc|", 4);
+    DOES(DONE, SET(limit_holds, true), "abc|");
+    DOES(NO_ROOM, lodvarn_insert_at(s, 0, "xy", 2), "abc|");
+    DOES(NO_ROOM, lodvarn_replace(s, (lodvarn_range){0, 1}, "xyz", 3), "abc|");
+    DOES(DONE, lodvarn_replace(s, (lodvarn_range){0, 1}, "xy", 2), "xy|bc");
+    DOES(BAD_PLACE, lodvarn_insert_at(s, 9, "z", 1), "xy|bc");
+    DOES(DONE, lodvarn_delete_range(s, (lodvarn_range){0, 2}), "|bc");
+    DOES(DONE, SET(limit, 2), "|bc");
+    DOES(NO_ROOM, lodvarn_undo(s, 1), "|bc");
+    DOES(DONE, SET(limit, 4), "|bc");
+    DOES(DONE, lodvarn_undo(s, 1), "xy|bc");
+    DOES(NO_ROOM, lodvarn_restart(s, "12345", 5), "xy|bc");
+    DOES(DONE, lodvarn_restart(s, "1234", 4), "1234|");
+    SEE(chosen().limit == 4);
 }
 
 static void widths_are_measured(void) {
@@ -827,8 +869,14 @@ static int has_left_all(int yanked, int parts) {
 
 /* Options that differ from the session's, but in the size of the ring if that is 60. */
 static const lodvarn_options *other_options(size_t size, int mode, size_t ring_size) {
-    options = (lodvarn_options){size, (enum lodvarn_mode)mode, 7, 99, ring_size, 1, 1, 1};
+    options = (lodvarn_options){size, (enum lodvarn_mode)mode, 7, 99, ring_size, 1, 1, 1, true};
     return &options;
+}
+
+static const lodvarn_splice *change_of(size_t from, size_t old_to, size_t new_to) {
+    static lodvarn_splice change;
+    change = (lodvarn_splice){from, old_to, new_to};
+    return &change;
 }
 
 static const lodvarn_screen *screen_of(uint16_t columns, int mode) {
@@ -865,6 +913,8 @@ static void numbers_outside_of_their_enums(void) {
     }
     EACH_OUTSIDE(LODVARN_FORWARD, LODVARN_BACKWARD)
         LEAVES(NO_SUCH_NUMBER, lodvarn_kill_range(s, range(0, 1), (enum lodvarn_direction)number));
+    EACH_OUTSIDE(LODVARN_BEFORE, LODVARN_AFTER)
+        LEAVES(NO_SUCH_NUMBER, lodvarn_moved(change_of(1, 2, 2), 1, (enum lodvarn_side)number, &out.number));
     EACH_OUTSIDE(LODVARN_CAPITALIZE, LODVARN_UPPERCASE)
         LEAVES(NO_SUCH_NUMBER, lodvarn_change_case(s, (enum lodvarn_case)number));
     EACH_OUTSIDE(LODVARN_INDENT, LODVARN_DEDENT)
@@ -973,6 +1023,10 @@ static void places_that_are_none(void) {
     }
     refuse_range(3, 1);
     refuse_range(6, 0);
+    LEAVES(BAD_PLACE, lodvarn_moved(change_of(2, 1, 2), 0, LODVARN_BEFORE, &out.number));
+    LEAVES(BAD_PLACE, lodvarn_moved(change_of(2, 2, 1), 0, LODVARN_AFTER, &out.number));
+    LEAVES(BAD_PLACE, lodvarn_moved(change_of(1, 1, 2), SIZE_MAX, LODVARN_AFTER, &out.number));
+    LEAVES(BAD_PLACE, lodvarn_moved(change_of(0, SIZE_MAX - 1, SIZE_MAX), SIZE_MAX, LODVARN_BEFORE, &out.number));
     PARTS(BAD_PLACE, lodvarn_insert_at(s, 0, "12345漢", 8));
     PARTS(NOT_REPLAYING, lodvarn_truncate(s, 0));
     PARTS(NOT_REPLAYING, lodvarn_truncate(s, 1));
@@ -1104,6 +1158,55 @@ static int changed_is(size_t from, size_t old_to, size_t new_to) {
     lodvarn_splice splice = {NO, NO, NO};
     return lodvarn_take_change(s, &splice) == (from != NO) && splice.from == from && splice.old_to == old_to
         && splice.new_to == new_to;
+}
+
+/* Where a change moves a place, on each side. */
+static int moves_to(const lodvarn_splice *change, size_t place, size_t before, size_t after) {
+    size_t to_before = NO, to_after = NO;
+    return lodvarn_moved(change, place, LODVARN_BEFORE, &to_before) == LODVARN_DONE && to_before == before
+        && lodvarn_moved(change, place, LODVARN_AFTER, &to_after) == LODVARN_DONE && to_after == after;
+}
+
+static void places_move(void) {
+    static const struct { lodvarn_splice change; size_t place, before, after; } table[] = {
+        {{3, 3, 5}, 2, 2, 2}, {{3, 3, 5}, 3, 3, 5}, {{3, 3, 5}, 4, 6, 6}, {{2, 6, 2}, 2, 2, 2}, {{2, 6, 2}, 4, 2, 2},
+        {{2, 6, 2}, 6, 2, 2}, {{2, 6, 2}, 7, 3, 3}, {{2, 6, 5}, 2, 2, 2}, {{2, 6, 5}, 3, 2, 5}, {{2, 6, 5}, 6, 5, 5},
+        {{2, 5, 6}, 7, 8, 8}, {{0, 0, 0}, 9, 9, 9}, {{0, SIZE_MAX, 1}, SIZE_MAX, 1, 1},
+        {{0, 0, 1}, SIZE_MAX - 1, SIZE_MAX, SIZE_MAX}, {{0, 0, 0}, SIZE_MAX, SIZE_MAX, SIZE_MAX},
+    };
+    for (size_t i = 0; i < COUNT(table); i++)
+        if (!SEE(moves_to(&table[i].change, table[i].place, table[i].before, table[i].after)))
+            printf("  in row %zu\n", i);
+}
+
+/* Marks before the é of "one é two" follow each line in turn: by the reports, on both sides, and by what changed at
+ * once, on that of the text before. */
+static void marks_follow(void) {
+    static const struct { const char *line; size_t before, after, at_once; } table[] = {
+        {"str 0 語", 7, 7, 7},  {"str 7 x", 7, 8, 7}, {"undo 1", 7, 7, 7}, {"range 6 9", 6, 6, 6}, {"undo 1", 6, 9, 6},
+        {"undo 1", 3, 6, 3},    {"begin", 3, 6, 3},   {"str 0 a", 4, 7, 4}, {"str 11 b", 4, 7, 4}, {"end", 4, 7, 4},
+        {"undo 1", 3, 6, 0},    {"redo", 4, 7, 0},
+    };
+    size_t before = 4, after = 4, at_once = 4;
+    lodvarn_report r;
+    lodvarn_splice change;
+    begin_script();
+    run("limit 64");
+    run("text one é two");
+    must(lodvarn_watch(s, 8, 64) == LODVARN_DONE);
+    lodvarn_take_change(s, &change);
+    for (size_t i = 0; i < COUNT(table); i++) {
+        run(table[i].line);
+        for (; lodvarn_next_report(s, &r) > 0; lodvarn_forget_report(s)) {
+            change = (lodvarn_splice){r.at, r.at + r.old_len, r.at + r.new_len};
+            must(lodvarn_moved(&change, before, LODVARN_BEFORE, &before) == LODVARN_DONE);
+            must(lodvarn_moved(&change, after, LODVARN_AFTER, &after) == LODVARN_DONE);
+        }
+        if (lodvarn_take_change(s, &change) > 0)
+            must(lodvarn_moved(&change, at_once, LODVARN_BEFORE, &at_once) == LODVARN_DONE);
+        if (!see(table[i].line, before == table[i].before && after == table[i].after && at_once == table[i].at_once))
+            printf("  in row %zu: %zu, %zu, %zu\n", i, before, after, at_once);
+    }
 }
 
 /* What changed by each line in turn, from "one two" on, if it is asked. */
@@ -1302,12 +1405,14 @@ int main(void) {
     versions_and_answers_have_names();
     sessions_open_and_close();
     options_are_chosen();
+    a_limit_holds();
     reads_read();
     movements_are_asked();
     clusters_of_a_session_are_measured();
     insertions_return_where_they_went();
     a_yank_is_popped();
     the_ring_has_what_was_killed_and_kept();
+    a_saved_text_comes_back();
     groups_are_closed();
     options_take_effect();
     widths_are_measured();
@@ -1328,6 +1433,8 @@ int main(void) {
     texts_are_lent();
     great_input_is_met();
     what_changed_is_told();
+    places_move();
+    marks_follow();
     changes_are_reported();
     reports_wait();
     asking_what_changed_parts_nothing();

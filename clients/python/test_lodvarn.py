@@ -16,7 +16,8 @@ from unittest import mock
 
 import lodvarn
 from lodvarn import (
-    Case, Direction, Mode, Movement, Report, ReportKind, Screen, Search, Session, Splice, Stop, Word, lib,
+    Case, Direction, Mode, Movement, Report, ReportKind, Screen, Search, Session, Side, Splice, Stop, Word,
+    lib,
 )
 from typed import MOVEMENTS, NAMES, WORDS, Typed, do
 
@@ -163,11 +164,11 @@ class Places(Scripts):
 class Values(Scripts):
     def test_options_are_read_and_set(self):
         given = {"limit_bytes": 4096, "ring_size": 60, "mode": Mode.UNICODE, "prompt": 0}
-        given.update(max_entries=None, max_bytes=None, max_ring_bytes=None)
+        given.update(max_entries=None, max_bytes=None, max_ring_bytes=None, limit_holds=False)
         session = Session()
         self.assertEqual({name: getattr(session, name) for name in given}, given)
         chosen = [("limit_bytes", None), ("mode", Mode.NO_ZWJ), ("prompt", 3), ("max_entries", 0), ("max_bytes", 1)]
-        chosen.append(("max_ring_bytes", 2))
+        chosen += [("max_ring_bytes", 2), ("limit_holds", True)]
         for name, value in chosen:
             given[name] = value
             setattr(session, name, value)
@@ -222,6 +223,20 @@ class Values(Scripts):
 
 
 class Groups(Scripts):
+    def test_a_saved_text_comes_back(self):
+        session = Session()
+        self.assertFalse(session.is_saved)
+        session.insert("é")
+        session.set_saved()
+        self.assertTrue(session.is_saved)
+        session.insert("b")
+        self.assertFalse(session.is_saved)
+        session.undo()
+        self.assertEqual((session.text, session.is_saved), ("é", True))
+        session.undo()
+        session.insert("é")
+        self.assertEqual((session.text, session.is_saved), ("é", False))
+
     def test_a_group_is_one_undo(self):
         for fault in (None, KeyError):
             session = Session("")
@@ -442,6 +457,44 @@ class Changes(Scripts):
         session.undo()
         session.replace(0, 2, "x")
         self.assertEqual(session.take_change(), Splice(0, 3, 1))
+
+    def test_a_place_moves_by_a_change(self):
+        for change, place, before, after in [
+            (Splice(1, 1, 3), 0, 0, 0),
+            (Splice(1, 1, 3), 1, 1, 3),
+            (Splice(1, 1, 3), 2, 4, 4),
+            (Splice(1, 4, 1), 1, 1, 1),
+            (Splice(1, 4, 1), 2, 1, 1),
+            (Splice(1, 4, 1), 5, 2, 2),
+            (Splice(1, 4, 3), 1, 1, 1),
+            (Splice(1, 4, 3), 2, 1, 3),
+            (Splice(1, 4, 3), 4, 3, 3),
+        ]:
+            with self.subTest(change=change, place=place):
+                self.assertEqual((change.moved(place), change.moved(place, Side.AFTER)), (before, after))
+        session, mark = opened("é漢字é", 1), 3
+        session.watch()
+        for call, given, wanted in [
+            (session.insert, ("é",), 4),
+            (session.replace, (0, 2, "x"), 3),
+            (session.undo, (), 4),
+            (session.delete_range, (1, 4), 1),
+            (session.undo, (), 1),
+        ]:
+            call(*given)
+            for it in session.changes():
+                mark = it.moved(mark)
+            self.assertEqual(mark, wanted)
+        for refused, numbers in [
+            (lodvarn.BadPlaceError, (2, 1, 2, 0)),
+            (lodvarn.BadPlaceError, (2, 2, 1, 0)),
+            (lodvarn.BadPlaceError, (0, 0, 1, 2**64 - 1)),
+            (lodvarn.NoSuchNumberError, (0, 0, 1, -1)),
+        ]:
+            with self.subTest(numbers=numbers), self.assertRaises(refused):
+                Splice(*numbers[:3]).moved(numbers[3])
+        with self.assertRaises(TypeError):
+            Splice(0, 0, 1).moved(0, Direction.FORWARD)
 
     def test_reports_count_characters(self):
         kind, session = ReportKind, opened("éb", 1)

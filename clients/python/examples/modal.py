@@ -1,7 +1,8 @@
 """A small vi in a terminal: PYTHONPATH=clients/python python3 clients/python/examples/modal.py [TEXT]
 
-h j k l 0 ^ $ w b move. i and a type, up to ESC. x kills a character, d what a motion covers in the line. v selects by
-motions; then d kills, y keeps. p puts what came last. u undoes, C-r redoes. RET ends and prints the text, C-c ends.
+h j k l 0 ^ $ w b move, f goes to a character. i and a type, up to ESC. x kills a character, d what a motion covers in
+the line. v selects by motions; then d kills, y keeps. p puts what came last. m and a letter set a mark, ` and it go
+there. u undoes, C-r redoes. RET ends and prints the text, C-c ends.
 """
 
 import os
@@ -9,7 +10,7 @@ import re
 import sys
 from typing import Callable, Dict, Iterator, Tuple
 
-from lodvarn import Movement, Screen, Session, Stop, Word, cell, rows
+from lodvarn import Movement, Report, Screen, Search, Session, Stop, Word, cell, rows
 from raw_terminal import RawTerminal
 
 ESC, TAB, VISUAL, CONTROL = "\x1b", 8, "-- VISUAL --", re.compile("[\0-\x08\x0b-\x1f\x7f-\x9f\ud800-\udfff]")
@@ -24,6 +25,7 @@ ENDS = {"h": MOTIONS["0"], "l": MOTIONS["$"]}  # Past which these two do not go.
 class Vi(Session):
     """A session on a text that ends with a newline, as those of vi do, and what its keys do."""
     state, anchor = "", 0  # What the last row shows, and where the selection began.
+    marks: Dict[str, int] = {}
 
     def draw(self) -> None:
         """Draws the rows that fit, the cursor's among them, with the selection, and then the mode."""
@@ -50,6 +52,28 @@ class Vi(Session):
             return False
         self.pos = place
         return True
+
+    def find(self, c: str) -> bool:
+        """Goes to a character after the cursor in its line."""
+        place = self.destination(Movement.search_for(Search.TO, c))
+        if place is None or self.line_at(place) != self.line_at(self.pos):
+            return False
+        self.pos = place
+        return True
+
+    def follow(self, change: Report) -> None:
+        """Moves the marks with a change."""
+        self.marks = {name: change.moved(place) for name, place in self.marks.items()}
+
+    def mark(self, name: str) -> bool:
+        """Sets a mark at the cursor."""
+        self.marks = {**self.marks, name: self.pos}
+        return True
+
+    def jump(self, name: str) -> bool:
+        """Goes to a mark."""
+        self.pos = self.marks.get(name, self.pos)
+        return name in self.marks
 
     def take(self, key: str) -> bool:
         """Kills what a motion covers in the line."""
@@ -85,11 +109,13 @@ KEYS: Dict[str, Callable[[Vi, Iterator[str]], object]] = {
     "i": Vi.type, "v": Vi.select, ESC: lambda *_: True, "u": lambda it, _: it.undo(), "\x12": lambda it, _: it.redo(),
     "a": lambda it, keys: (it.go("l"), it.type(keys)), "d": lambda it, keys: it.take(next(keys, ESC)),
     "p": lambda it, _: it.ring_count and (it.go("l"), it.yank(), it.move(MOTIONS["h"])),
-    "x": lambda it, _: it.take("l"),
+    "x": lambda it, _: it.take("l"), "f": lambda it, keys: it.find(next(keys, ESC)),
+    "m": lambda it, keys: it.mark(next(keys, ESC)), "`": lambda it, keys: it.jump(next(keys, ESC)),
 }
 
 if __name__ == "__main__":
     (vi := Vi(CONTROL.sub("", " ".join(sys.argv[1:])).rstrip("\n") + "\n", limit_bytes=None)).pos = 0
+    vi.on_change = vi.follow
     with RawTerminal(has_screen=True) as terminal:
         keys = terminal.keys(vi.draw)
         while (key := next(keys, "\x03")) not in ("\r", "\x03"):

@@ -5,7 +5,7 @@ import re
 from typing import Callable, Dict, Iterator
 
 from arithmetic import LIMIT, evaluate
-from lodvarn import Movement, NoRoomError, Screen, Session, Stop, Word, cell, first_cluster, width
+from lodvarn import Movement, NoRoomError, Screen, Session, Stop, Word, cell, clusters
 from raw_terminal import RawTerminal
 
 PROMPT, SECONDS = "> ", 0.2  # The seconds are those to wait for the rest of a key.
@@ -34,11 +34,12 @@ KEYS: Dict[str, Callable[[Session], object]] = {
 def draw(session: Session) -> None:
     """Draws the row. Of a text that is too wide it shows a window, which slides by half of its columns."""
     half = max(((os.get_terminal_size(1).columns or 80) - len(PROMPT)) // 2, 1)
-    text, column, (_, cursor) = session.text, 0, cell(Screen(65535), session.pos, session.text)
+    column, (_, cursor) = 0, cell(Screen(65535), session.pos, session.text)
     row, first = f"\r\x1b[K{PROMPT}", max(cursor // half - 1, 0) * half
-    while (cluster := first_cluster(text)) and column + width(cluster) <= first + 2 * half:
-        row += cluster if column >= first else ""
-        text, column = text[len(cluster) :], column + width(cluster)
+    for cluster, columns in clusters(session.text):
+        if (column := column + columns) > first + 2 * half:
+            break
+        row += cluster if column - columns >= first else ""
         if column > first and not cluster.isascii():  # Terminals differ in the widths of these.
             row += f"\x1b[{len(PROMPT) + column - first + 1}G"
     print(f"{row}\x1b[{len(PROMPT) + cursor - first + 1}G", end="", flush=True)

@@ -29,7 +29,7 @@ from ._lodvarn import ffi, lib
 __all__ = [
     "BadPlaceError", "BadYankSizeError", "Case", "ClosedError", "Cluster", "Direction", "IsWatchedError",
     "LodvarnError", "Mode", "Movement", "NoMemoryError", "NoRoomError", "NoSuchNumberError", "NotReplayingError",
-    "Report", "ReportKind", "Screen", "Search", "Session", "Splice", "Stop", "Word", "cell", "clusters",
+    "Report", "ReportKind", "Screen", "Search", "Session", "Side", "Splice", "Stop", "Word", "cell", "clusters",
     "first_cluster", "last_cluster", "place_at", "rows", "run_script", "width",
 ]
 
@@ -218,6 +218,14 @@ class Direction(Enum):
     BACKWARD = lib.LODVARN_BACKWARD
 
 
+class Side(Enum):
+    """The side of a place on which it stays: with the text before it, so that what is inserted at the place goes after
+    it, or with the text after it."""
+
+    BEFORE = lib.LODVARN_BEFORE
+    AFTER = lib.LODVARN_AFTER
+
+
 class Case(Enum):
     """The letter case that a word gets."""
 
@@ -361,6 +369,16 @@ class Splice(NamedTuple):
     old_end: int
     new_end: int
 
+    def moved(self, place: int, side: Side = Side.BEFORE) -> int:
+        """Returns where a place of the text before the change stands in the text after it.
+
+        So a mark, or the end of a selection without the cursor, stays with its text. A place inside of what went goes
+        to the start of what came, or for AFTER to its end. Of several changes the reports are exact, one after another:
+        in the one splice that `take_change` makes of them, a place between them goes to an end of it. Raises
+        BadPlaceError if `old_end` or `new_end` is before `start`, and NoSuchNumberError if a number is below 0.
+        """
+        return _size(lib.lodvarn_moved, [self], place, _of(Side, side).value)
+
 
 class Report(NamedTuple):
     """At a place `old_len` characters went and `new_len` came, and the cursor went from one place to another.
@@ -377,6 +395,10 @@ class Report(NamedTuple):
     pos_after: int
     old_text: Optional[str]
     new_text: Optional[str]
+
+    def moved(self, place: int, side: Side = Side.BEFORE) -> int:
+        """Returns where a place of the text before the change stands in the text after it, as `Splice.moved` does."""
+        return Splice(self.at, self.at + self.old_len, self.at + self.new_len).moved(place, side)
 
 
 class Screen(NamedTuple):
@@ -424,6 +446,7 @@ class Session:
         max_entries: Optional[int] = None,
         max_bytes: Optional[int] = None,
         max_ring_bytes: Optional[int] = None,
+        limit_holds: bool = False,
     ) -> None:
         """Opens a session on a text, with the cursor at its end.
 
@@ -434,7 +457,7 @@ class Session:
             "size": ffi.sizeof("lodvarn_options"), "mode": _of(Mode, mode).value, "prompt": prompt,
             "limit": _or_most(limit_bytes), "ring_size": ring_size,
             "max_entries": _or_most(max_entries), "max_bytes": _or_most(max_bytes),
-            "max_ring_bytes": _or_most(max_ring_bytes),
+            "max_ring_bytes": _or_most(max_ring_bytes), "limit_holds": limit_holds,
         }
         it = ffi.gc(_new("session *"), lib.py_close)
         _asked(lib.py_open, it, [options], *_sent(text))
@@ -655,6 +678,10 @@ class Session:
         Returns False if there is nothing to do.
         """
         return self._do(lib.py_indent, _of(Movement, movement)._in_c, amount, lib.LODVARN_DEDENT)
+
+    def set_saved(self) -> None:
+        """Says that the text is saved as it is. The next change is undone alone. A session begins unsaved."""
+        self._do(lib.py_set_saved)
 
     def part(self) -> None:
         """Parts what comes from what was done: the next change is undone alone, and the next kill begins a new text.
@@ -892,6 +919,14 @@ class Session:
         return _asked(lib.py_can_redo, self._it) > 0
 
     @property
+    def is_saved(self) -> bool:
+        """Whether the text is the one for which `set_saved` was called last, also after undos and redos.
+
+        It is False for good once a change from before the save is dropped or forgotten.
+        """
+        return _asked(lib.py_is_saved, self._it) > 0
+
+    @property
     def ring(self) -> list[str]:
         """The texts of the ring: the one that a yank gives, and then those that yank_pop after yank_pop would give."""
         texts = map(self.ring_text, range(self.ring_count))
@@ -990,6 +1025,15 @@ class Session:
     @max_ring_bytes.setter
     def max_ring_bytes(self, size: Optional[int]) -> None:
         self._choose("max_ring_bytes", _or_most(size))
+
+    @property
+    def limit_holds(self) -> bool:
+        """Whether no command makes the text longer than the limit: what would raises NoRoomError."""
+        return bool(self._options().limit_holds)
+
+    @limit_holds.setter
+    def limit_holds(self, holds: bool) -> None:
+        self._choose("limit_holds", holds)
 
 
 def run_script(script: bytes) -> bytes:

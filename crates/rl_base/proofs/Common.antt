@@ -42,7 +42,7 @@ pub use Rattle.rl_base.specs.Lines.{bytes_of, end_of_line, is_newline, last_line
 pub use Rattle.rl_base.specs.Notes.{Cuts, KeepsRoom, Notes, bytes_kept, notes}
 pub use Rattle.rl_base.specs.Reports.{AsOne, HasTexts, IsChange, IsLineText, IsQueue, LacksTexts, Leads, LeadsBy, Noted, Queue, ReadsTexts, ReadsWhole, Stand, Tells, WaitLeads, Waiting, Whole, after_texts, apart, as_one, forgotten, has_room_in, is_change, joined_cursors, kept, new_queue, noted, nothing_joined, noting, oldest, on_last, queue_step, reports_of, splice_of, taken_in, text_bytes, told_cursors, told_note, told_whole, waiting_of, with_cursors, with_note}
 pub use Rattle.rl_base.specs.Search.{HitLies, char_places, chosen_hit, hit_ahead, hit_back, hits, nth_or_last, place_of_last, places_of, sought}
-pub use Rattle.rl_base.specs.Splice.{Covers, Splices, capped, folded, spliced, told, untouched}
+pub use Rattle.rl_base.specs.Splice.{Covers, Outlasts, Splices, capped, folded, inverse, moved, spliced, told, untouched}
 pub use Rattle.rl_base.specs.Text.{fits_at, greatest_boundary, stands_at}
 pub use Rattle.rl_base.specs.Widths.{char_columns, is_joiner, width}
 pub use Rattle.rl_base.specs.Words.{PlacedCluster, first_member, last_place, last_stop, looked_at, neighbours, nth, placed_clusters, prev_word, stop_between, stops}
@@ -64,6 +64,7 @@ pub use Rattle.rl_base.specs.declared.motion.Word.TheVariants.{Big, Emacs, Vi}
 pub use Rattle.rl_base.specs.declared.reports.Joined.{Joined}
 pub use Rattle.rl_base.specs.declared.reports.Report.{Report}
 pub use Rattle.rl_base.specs.declared.reports.ReportKind.{ReportKind}
+pub use Rattle.rl_base.specs.declared.splice.Side.{Side}
 pub use Rattle.rl_base.specs.declared.splice.Splice.{Splice}
 pub use Rattle.ucd_category.specs.GeneralCategory.{general_category}
 pub use Rattle.ucd_derived.specs.Binary.{is_alphabetic}

@@ -1,6 +1,8 @@
 -- All that changed in a text, told as one splice.
-use Rattle.std.specs.Prelude.{◌≡◌, ℕ, ◌+◌, ◌-◌, ◌^◌, ◌<◌, ◌≤◌, min, max, List, length, take, drop, encode_utf8, nat_lt, ◌⊎◌, Option, Some, None, if◌then◌else◌}
+use Rattle.std.specs.Prelude.{◌≡◌, ℕ, ◌+◌, ◌-◌, ◌^◌, ◌<◌, ◌≤◌, min, max, List, length, take, drop, encode_utf8, nat_le, nat_lt, ◌⊎◌, Option, Some, None, if◌then◌else◌}
 use Rattle.std.specs.Str.{IsCharBoundary, IsUtf8}
+use Rattle.rl_base.specs.declared.splice.Side.{Side}
+use Rattle.rl_base.specs.declared.splice.Side.TheVariants.{Before, After}
 use Rattle.rl_base.specs.declared.splice.Splice.{Splice}
 use Rattle.rl_base.specs.Event.{Event, InsertChar, InsertStr, Delete, Replace, Start, Stop, Cursors}
 
@@ -48,3 +50,17 @@ pub record Covers (s : Splice) (old new : List ℕ) : Type 0 where
   pub utf8 : IsUtf8 old
   pub fits : length old < 2 ^ 64
   pub differ : ((s ≡ untouched) × (new ≡ old)) ⊎ Splices s old new
+
+-- where a place of the old text stands in the new one, by the side on which it stays
+abbrev pub moved : Splice → Side → ℕ → ℕ
+moved s Before place = if nat_le place s.from then place else if nat_lt place s.old_end then s.from else s.new_end + (place - s.old_end)
+moved s After place = if nat_lt place s.old_end then (if nat_le place s.from then place else s.new_end) else s.new_end + (place - s.old_end)
+
+-- a place is neither inside of what went, nor at the end of it where its side is what went
+abbrev pub Outlasts : Splice → Side → ℕ → Type 0
+Outlasts s Before place = (place ≤ s.from) ⊎ (s.old_end < place)
+Outlasts s After place = (place < s.from) ⊎ (s.old_end ≤ place)
+
+-- the splice that leads back
+abbrev pub inverse : Splice → Splice
+inverse s = record { from = s.from; old_end = s.new_end; new_end = s.old_end }

@@ -11,7 +11,7 @@ use crate::layout::{GraphemeClusterMode, Position};
 use crate::listeners::{Direction, Refusal};
 use crate::motion::{Anchor, At, CharSearch, Movement, Word, WordAction};
 use crate::reports::{Report, ReportKind};
-use crate::splice::Splice;
+use crate::splice::{Side, Splice};
 pub use crate::testing::{RefuseAt, TextEvent};
 use crate::watch::WatchFault;
 
@@ -31,6 +31,7 @@ pub fn equal_values_are_the_same()
     ensures widths { IsSameness ⟦<GraphemeClusterMode as PartialEq>⟧.eq }
     ensures positions { IsSameness ⟦<Position as PartialEq>⟧.eq }
     ensures splices { IsSameness ⟦<Splice as PartialEq>⟧.eq }
+    ensures sides { IsSameness ⟦<Side as PartialEq>⟧.eq }
     ensures kinds { IsSameness ⟦<ReportKind as PartialEq>⟧.eq }
     ensures reports { IsSameness ⟦<Report as PartialEq>⟧.eq }
     ensures faults { IsSameness ⟦<WatchFault as PartialEq>⟧.eq }
@@ -52,6 +53,7 @@ pub fn clones_are_the_value()
     ensures widths { IsCopying ⟦<GraphemeClusterMode as Clone>⟧.is_clone ⟦<GraphemeClusterMode as Clone>⟧.is_infallible }
     ensures positions { IsCopying ⟦<Position as Clone>⟧.is_clone ⟦<Position as Clone>⟧.is_infallible }
     ensures splices { IsCopying ⟦<Splice as Clone>⟧.is_clone ⟦<Splice as Clone>⟧.is_infallible }
+    ensures sides { IsCopying ⟦<Side as Clone>⟧.is_clone ⟦<Side as Clone>⟧.is_infallible }
     ensures kinds { IsCopying ⟦<ReportKind as Clone>⟧.is_clone ⟦<ReportKind as Clone>⟧.is_infallible }
     ensures reports { IsCopying ⟦<Report as Clone>⟧.is_clone ⟦<Report as Clone>⟧.is_infallible }
     ensures faults { IsCopying ⟦<WatchFault as Clone>⟧.is_clone ⟦<WatchFault as Clone>⟧.is_infallible }

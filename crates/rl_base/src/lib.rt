@@ -23,6 +23,6 @@ pub use motion::{Anchor, At, CharSearch, Movement, RepeatCount, Word, WordAction
 pub use notes::Notes;
 pub use reports::{Report, ReportKind, Reports};
 pub use screen::Screen;
-pub use splice::Splice;
+pub use splice::{Side, Splice};
 pub use testing::{RefuseAt, TextEvent};
 pub use watch::{Watch, WatchFault};

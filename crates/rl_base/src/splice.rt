@@ -1,9 +1,11 @@
 //! All that changed in a text, told as one splice.
-ghost use Rattle.std.specs.Prelude.{◌≡◌, ◌++◌, ◌^◌, ◌<◌, List, ℕ, Some, MatchOption, drop, length, slice_range, take};
-ghost use Rattle.std.specs.Str.{IsUtf8};
+ghost use Rattle.std.specs.Prelude.{◌≡◌, ◌++◌, ◌^◌, ◌<◌, ◌≤◌, List, ℕ, Some, MatchOption, drop, length, slice_range, take};
+ghost use Rattle.std.specs.Str.{IsCharBoundary, IsUtf8};
 ghost use Rattle.rl_base.specs.Event.{Event, apply};
 ghost use Rattle.rl_base.specs.declared.splice.Splice.{Splice};
-ghost use Rattle.rl_base.specs.Splice.{Covers, Splices, spliced, told, untouched};
+ghost use Rattle.rl_base.specs.declared.splice.Side.{Side};
+ghost use Rattle.rl_base.specs.declared.splice.Side.TheVariants.{Before, After};
+ghost use Rattle.rl_base.specs.Splice.{Covers, Outlasts, Splices, inverse, moved, spliced, told, untouched};
 
 /// What changed, as one: the bytes `from..old_end` of the old text gave way to the bytes `from..new_end` of the new one.
 #[derive(Clone, Copy, Debug, PartialEq, Eq)]
@@ -16,8 +18,34 @@ pub struct Splice {
     pub new_end: usize,
 }
 
+/// The side of a place on which it stays.
+#[derive(Clone, Copy, Debug, PartialEq, Eq)]
+pub enum Side {
+    /// With the text before it: what is put in at the place goes after it.
+    Before,
+    /// With the text after it: what is put in at the place goes before it.
+    After,
+}
+
 impl Splice {
-    ghost use Rattle.rl_base.specs.Splice.{folded};
+    ghost use Rattle.rl_base.specs.Splice.{capped, folded};
+
+    /// Where a byte place of the old text stands in the new one, as a mark or the anchor of a selection does. A place
+    /// inside of what went goes to the end, on its side, of what came. No place of a text reaches the greatest `usize`,
+    /// at which the result is cut.
+    pub fn moved(self, place: usize, side: Side) -> usize
+        ensures { result ≡ capped (moved self side place) }
+    {
+        let after = place.saturating_sub(self.old_end);
+        // Of a place inside of what went this is the end of what came.
+        let past = self.new_end.saturating_add(after);
+        match side {
+            Side::Before if place <= self.from => place,
+            Side::Before if place < self.old_end => self.from,
+            Side::After if place < self.old_end && place <= self.from => place,
+            Side::Before | Side::After => past,
+        }
+    }
 
     // Takes in that `gone` bytes at a place gave way to `come` bytes. No place of a text reaches the greatest `usize`, so
     // the sums are cut there only if an event fits no text.
@@ -75,4 +103,18 @@ pub fn a_splice_makes_each_text_of_the_other()
         → take splice.from old ++ slice_range new splice.from splice.new_end ++ drop splice.old_end old ≡ new }
     ensures old { (splice : Splice) (old new : List ℕ) → Splices splice old new
         → take splice.from new ++ slice_range old splice.from splice.old_end ++ drop splice.new_end new ≡ old }
+{}
+
+/// A place that moves by a splice stays with the text on its side. The inverse splice, as an undo of the change tells
+/// it, brings each place back that outlasted the change.
+#[tactic(auto, using(crate::proofs::Texts::SpliceLemmas::moving))]
+pub fn a_place_stays_with_the_text_on_its_side()
+    ensures stands { (splice : Splice) (side : Side) (old new : List ℕ) (place : ℕ) → Splices splice old new → IsCharBoundary old place
+        → IsCharBoundary new (moved splice side place) }
+    ensures before { (splice : Splice) (old new : List ℕ) (place : ℕ) → Splices splice old new → place ≤ splice.from
+        → take (moved splice Before place) new ≡ take place old }
+    ensures after { (splice : Splice) (old new : List ℕ) (place : ℕ) → Splices splice old new → splice.old_end ≤ place
+        → drop (moved splice After place) new ≡ drop place old }
+    ensures back { (splice : Splice) (side : Side) (old new : List ℕ) (place : ℕ) → Splices splice old new → Outlasts splice side place
+        → moved (inverse splice) side (moved splice side place) ≡ place }
 {}

@@ -50,6 +50,7 @@ of_fault fault.NoMemory = NoMemory
 of_fault fault.BadPlace = BadPlace
 of_fault fault.BadYankSize = BadYankSize
 of_fault fault.NotReplaying = NotReplaying
+of_fault fault.TooLong = NoRoom
 
 abbrev pub of_watch_fault : WatchFault → Answer
 of_watch_fault unwatched.NoMemory = NoMemory

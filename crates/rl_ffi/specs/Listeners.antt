@@ -5,8 +5,7 @@ use Rattle.rl_base.specs.Event.{Event}
 use Rattle.rl_base.specs.KillRing.{KeepsText, Ring, new_ring, ring_step}
 use Rattle.rl_base.specs.declared.listeners.Refusal.{Refusal}
 use Rattle.rl_base.specs.declared.listeners.Refusal.TheVariants.{NoMemory}
-use Rattle.rl_line.specs.declared.change.Freshness.TheVariants.{Stale}
-use Rattle.rl_line.specs.Record.{IsRecorded, Record, record_step}
+use Rattle.rl_line.specs.Record.{IsRecorded, Record, no_changes, record_step}
 use Rattle.rl_ffi.specs.Answers.{number}
 use Rattle.rl_ffi.specs.Calls.{Effect}
 use Rattle.rl_ffi.specs.ReportLog.{ReportLog, heard_step, nothing_heard}
@@ -25,7 +24,7 @@ abbrev pub fresh_listeners : Listeners
 fresh_listeners = record {
   heard = nothing_heard;
   reports = true;
-  changes = record { recorded = []; pending = []; fresh = Stale };
+  changes = no_changes;
   tells_record = false;
   ring = new_ring 0;
   tells_ring = false;

@@ -15,6 +15,8 @@ use Rattle.rl_base.specs.declared.motion.WordAction.{WordAction}
 use Rattle.rl_base.specs.declared.motion.WordAction.TheVariants.{Capitalize, Lowercase, Uppercase}
 use Rattle.rl_base.specs.declared.reports.ReportKind.{ReportKind}
 use Rattle.rl_base.specs.declared.reports.ReportKind.TheVariants as kind
+use Rattle.rl_base.specs.declared.splice.Side.{Side}
+use Rattle.rl_base.specs.declared.splice.Side.TheVariants as side
 use Rattle.rl_ffi.specs.declared.answers.Answer.{Answer}
 use Rattle.rl_ffi.specs.declared.answers.Answer.TheVariants.{NoSuchNumber, Nothing}
 use Rattle.rl_ffi.specs.declared.shapes.CMovement.{CMovement}
@@ -63,6 +65,10 @@ dedents_of k = if k == 70 then Ok false else if k == 71 then Ok true else Err No
 -- the direction of a kill
 abbrev pub direction_of : ℕ → Result Direction Answer
 direction_of k = if k == 50 then Ok told.Forward else if k == 51 then Ok told.Backward else Err NoSuchNumber
+
+-- the side on which a place stays
+abbrev pub side_of : ℕ → Result Side Answer
+side_of k = if k == 80 then Ok side.Before else if k == 81 then Ok side.After else Err NoSuchNumber
 
 -- a movement, by the number of its kind, how often it is repeated, and the number of a search's character
 abbrev pub movement_by : ℕ → ℕ → ℕ → Option Movement

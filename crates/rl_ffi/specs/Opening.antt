@@ -1,15 +1,15 @@
 -- What opening a session, a line, a record and a ring does, choosing a session's options, and beginning anew in it.
-use Rattle.std.specs.Prelude.{◌≡◌, ◌⊎◌, ℕ, Bool, List, length, max, Option, Some}
+use Rattle.std.specs.Prelude.{◌≡◌, ◌<◌, ◌≤◌, ◌⊎◌, ℕ, Bool, true, List, length, max, Option, Some}
 use Rattle.rl_base.specs.KillRing.{cleared, new_ring, ruled}
 use Rattle.rl_base.specs.declared.kill_ring.NewKill.TheVariants.{AfterNewest}
 use Rattle.rl_base.specs.declared.layout.GraphemeClusterMode.{GraphemeClusterMode}
 use Rattle.rl_line.specs.Line.{NeedsRoom}
 use Rattle.rl_session.specs.Forgetting.{bounded_by, within_bound}
-use Rattle.rl_session.specs.State.{State, fresh, limited, prompted, restarted, with_mode, with_ring}
+use Rattle.rl_session.specs.State.{State, fresh, holding, limited, prompted, restarted, with_mode, with_ring}
 use Rattle.rl_ffi.specs.Calls.{Effect, leaves, of_named, of_text, only_where}
 use Rattle.rl_ffi.specs.Listeners.{fresh_listeners}
 use Rattle.rl_ffi.specs.Numbers.{mode_number, mode_of}
-use Rattle.rl_ffi.specs.declared.answers.Answer.TheVariants.{Done, NoMemory, NoSuchNumber}
+use Rattle.rl_ffi.specs.declared.answers.Answer.TheVariants.{Done, NoMemory, NoRoom, NoSuchNumber}
 use Rattle.rl_ffi.specs.declared.held.Held.{Held}
 use Rattle.rl_ffi.specs.declared.held.Held.TheVariants as holds
 use Rattle.rl_ffi.specs.declared.held.LineAndListeners.{LineAndListeners}
@@ -21,7 +21,7 @@ Opens fresh old n new = ((n ≡ Done) × (new ≡ Some fresh)) ⊎ ((n ≡ NoMem
 
 -- a session with other options; its ring keeps its size
 abbrev pub chosen : GraphemeClusterMode → COptions → State → State
-chosen mode o s = within_bound (bounded_by (record { entries = o.max_entries; bytes = o.max_bytes; ring_bytes = o.max_ring_bytes }) (limited o.limit (prompted o.prompt (with_mode mode s))))
+chosen mode o s = within_bound (bounded_by (record { entries = o.max_entries; bytes = o.max_bytes; ring_bytes = o.max_ring_bytes }) (limited o.limit (holding o.limit_holds (prompted o.prompt (with_mode mode s)))))
 
 -- a new session on a text, with the cursor at its end, whose new kills go after the newest
 abbrev pub begun : GraphemeClusterMode → COptions → List ℕ → State
@@ -57,13 +57,17 @@ options_shape size s =
       max_entries = s.options.bound.entries;
       max_bytes = s.options.bound.bytes;
       max_ring_bytes = s.options.bound.ring_bytes;
+      limit_holds = s.options.holds;
     }
 
 -- the texts of the ring go
 abbrev pub without_killed : State → State
 without_killed s = with_ring (cleared s.pair.ring) s
 
--- a session begins anew, or memory is out, which only a text needs that needs more room
+-- a session begins anew, or memory is out, which only a text needs that needs more room, or the text is longer than a limit
+-- that holds
 abbrev pub restarts : List ℕ → Effect State
 restarts text = of_text text (λ s n new.
-    ((n ≡ Done) × (new ≡ restarted text (length text) s)) ⊎ (NeedsRoom s.line.text text × leaves NoMemory s n new))
+    ((s.options.holds ≡ true → length text ≤ s.line.limit) × (n ≡ Done) × (new ≡ restarted text (length text) s))
+    ⊎ (NeedsRoom s.line.text text × leaves NoMemory s n new)
+    ⊎ ((s.options.holds ≡ true) × (s.line.limit < length text) × leaves NoRoom s n new))

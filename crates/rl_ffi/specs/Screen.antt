@@ -48,17 +48,14 @@ TellsRows screen text = where_named (screen_of screen) (λ (on : Screen). of_byt
 abbrev pub column_of : ℕ → Option ℕ
 column_of number = if number == 2 ^ 64 - 1 then None else Some number
 
--- the place to which a motion by rows leads, and the column that it keeps to
-abbrev pub WritesRow : Option (ℕ × ℕ) → Tale (ℕ × ℕ)
-WritesRow told = Writes told
-
--- a motion by so many rows from the cursor, up or down, to the column that was handed in
+-- a motion by so many rows from the cursor, up or down, to the column that was handed in: the place to which it leads, and the
+-- column that it keeps to
 abbrev pub TellsRow : (Screen → List ℕ → ℕ → ℕ → ℕ → Option (ℕ × ℕ) → Type 0) → CScreen → ℕ → Telling Line (ℕ × ℕ)
 TellsRow Comes screen n line answer out out' =
     where_named (screen_of screen) (λ (on : Screen). where_named (count_of n) (λ (k : ℕ) answer out out'.
     (told : Option (ℕ × ℕ)) × motion.Tells on line.text (Comes on line.text (line_number line.text line.cursor) (own_cell on line.text line.cursor).0 k)
     (kept_column on line.text (column_of out.1) line.cursor) told
-    × WritesRow told answer out out')) answer out out'
+    × Writes told answer out out')) answer out out'
 
 abbrev pub TellsRowAbove : CScreen → ℕ → Telling Line (ℕ × ℕ)
 TellsRowAbove = TellsRow Above

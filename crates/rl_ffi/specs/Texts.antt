@@ -1,18 +1,22 @@
 -- What the calls that need no session answer.
-use Rattle.std.specs.Prelude.{◌≡◌, ◌⊎◌, ℕ, ℤ, ◌+◌, ◌*◌, List, [], ◌∷◌, length, reverse, Option, Some, None}
+use Rattle.std.specs.Prelude.{◌≡◌, ◌⊎◌, ℕ, ℤ, ◌+◌, ◌*◌, ◌^◌, ◌<◌, ◌≤◌, List, [], ◌∷◌, length, reverse, Option, Some, None}
 use Rattle.std.specs.Str.{IsUtf8}
 use Rattle.rl_base.specs.Clusters.{clusters}
 use Rattle.rl_base.specs.Screen.{filled}
+use Rattle.rl_base.specs.Splice.{moved}
 use Rattle.rl_base.specs.Widths.{width}
 use Rattle.rl_base.specs.declared.layout.GraphemeClusterMode.{GraphemeClusterMode}
+use Rattle.rl_base.specs.declared.splice.Side.{Side}
+use Rattle.rl_base.specs.declared.splice.Splice.{Splice}
 use Rattle.rl_session.specs.Script.{Ran, StoppedBy}
 use Rattle.rl_session.specs.declared.script.ScriptFault.{ScriptFault}
 use Rattle.rl_ffi.specs.Answers.{number}
 use Rattle.rl_ffi.specs.Calls.{Tale, Writes, told_where, where_named}
-use Rattle.rl_ffi.specs.Numbers.{mode_of}
+use Rattle.rl_ffi.specs.Numbers.{mode_of, side_of}
 use Rattle.rl_ffi.specs.declared.answers.Answer.{Answer}
 use Rattle.rl_ffi.specs.declared.shapes.CCluster.{CCluster}
-use Rattle.rl_ffi.specs.declared.answers.Answer.TheVariants.{Done, NoMemory, NotUtf8}
+use Rattle.rl_ffi.specs.declared.shapes.CSplice.{CSplice}
+use Rattle.rl_ffi.specs.declared.answers.Answer.TheVariants.{BadPlace, Done, NoMemory, NotUtf8}
 
 -- the number of what is answered
 abbrev pub Answers : {A : Type 0} → Tale A → ℤ → A → A → Type 0
@@ -49,6 +53,19 @@ Fills values n out out' = (n ≡ Done) × (out' ≡ (filled values out.0, length
 -- the clusters of a text
 abbrev pub TellsClusters : ℕ → List ℕ → Tale (List CCluster × ℕ)
 TellsClusters mode text = where_named (mode_of mode) (λ (m : GraphemeClusterMode). of_bytes text (Fills (measured m 0 (clusters text))))
+
+-- a change of C
+abbrev pub splice_by : CSplice → Splice
+splice_by c = record { from = c.from; old_end = c.old_to; new_end = c.new_to }
+
+-- a change has its ends in order, and leads a place to one that C has a number for
+abbrev pub Moves : Splice → Side → ℕ → Type 0
+Moves s side place = (s.from ≤ s.old_end) × (s.from ≤ s.new_end) × (moved s side place < 2 ^ 64)
+
+-- where a place stands after a change
+abbrev pub TellsMoved : CSplice → ℕ → ℕ → Tale ℕ
+TellsMoved change place side = where_named (side_of side) (λ (on : Side).
+    told_where (Moves (splice_by change) on place) BadPlace (Writes (Some (moved (splice_by change) on place))))
 
 -- the version 0.1.0 in one number
 abbrev pub version : ℕ

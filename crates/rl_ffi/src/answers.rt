@@ -96,6 +96,7 @@ pub(crate) fn of_fault(fault: Fault) -> Answer
         Fault::BadPlace => Answer::BadPlace,
         Fault::BadYankSize => Answer::BadYankSize,
         Fault::NotReplaying => Answer::NotReplaying,
+        Fault::TooLong => Answer::NoRoom,
     }
 }
 

@@ -1,12 +1,12 @@
 //! What the numbers of the calls stand for. Each function answers `NoSuchNumber` for a number that stands for nothing, and
 //! `Nothing` for a count of 0.
 ghost use Rattle.std.specs.Prelude.{◌≡◌};
-ghost use Rattle.rl_ffi.specs.Numbers.{case_of, char_of, count_of, dedents_of, direction_of, kind_number, mode_number, mode_of, movement_by, movement_of, named};
+ghost use Rattle.rl_ffi.specs.Numbers.{case_of, char_of, count_of, dedents_of, direction_of, kind_number, mode_number, mode_of, movement_by, movement_of, named, side_of};
 
 use crate::answers::Answer;
 use crate::shapes::CMovement;
 use rl_base::{
-    At, CharSearch, Direction, GraphemeClusterMode, Movement, RepeatCount, ReportKind, Word,
+    At, CharSearch, Direction, GraphemeClusterMode, Movement, RepeatCount, ReportKind, Side, Word,
     WordAction,
 };
 
@@ -94,6 +94,16 @@ pub(crate) fn dedents_of(number: u32) -> Result<bool, Answer>
     match number {
         70 => Ok(false),
         71 => Ok(true),
+        _ => Err(Answer::NoSuchNumber),
+    }
+}
+
+pub(crate) fn side_of(number: u32) -> Result<Side, Answer>
+    ensures { result ≡ side_of number }
+{
+    match number {
+        80 => Ok(Side::Before),
+        81 => Ok(Side::After),
         _ => Err(Answer::NoSuchNumber),
     }
 }

@@ -3,7 +3,8 @@
 ghost use Rattle.std.specs.Prelude.{◌≡◌, [], false, None, IfOk, length, max};
 ghost use Rattle.std.specs.Str.{IsCharBoundary};
 ghost use Rattle.rl_base.specs.KillRing.{new_ring};
-ghost use Rattle.rl_session.specs.State.{State, no_changes};
+ghost use Rattle.rl_line.specs.Record.{no_changes};
+ghost use Rattle.rl_session.specs.State.{State, saved_now};
 ghost use Rattle.rl_ffi.specs.Answers.{merged, number};
 ghost use Rattle.rl_ffi.specs.Calls.{Tells, Through, becomes};
 ghost use Rattle.rl_ffi.specs.Held.{a_session};
@@ -21,7 +22,7 @@ use crate::shapes::COptions;
 use crate::texts::text_of;
 use rl_base::{GraphemeClusterMode, KillRing, NewKill, NoListener, Refusal};
 use rl_line::{Changeset, LineBuffer};
-use rl_session::{Bound, Session};
+use rl_session::{Bound, Fault, Session};
 use std::alloc::Global;
 
 // What a handle holds from now on, unless memory is out.
@@ -44,6 +45,7 @@ fn choose(session: &mut Session, mode: GraphemeClusterMode, options: &COptions)
 {
     session.set_mode(mode);
     session.set_prompt(options.prompt);
+    session.set_limit_holds(options.limit_holds);
     session.set_limit(options.limit);
     session.set_bound(Bound {
         entries: options.max_entries,
@@ -196,6 +198,7 @@ fn get_options(session: &Session, options: &mut COptions) -> Outcome
         max_entries: chosen.bound.entries,
         max_bytes: chosen.bound.bytes,
         max_ring_bytes: chosen.bound.ring_bytes,
+        limit_holds: chosen.holds,
     };
     Ok(Answer::Done)
 }
@@ -215,6 +218,7 @@ fn restart(session: &mut Session, text: &[u8]) -> Outcome
     let text = text_of(text)?;
     match session.restart(text, text.len()) {
         Ok(()) => Ok(Answer::Done),
+        Err(Fault::TooLong) => Err(Answer::NoRoom),
         // The end of a text is a boundary of it.
         Err(_) => Err(Answer::NoMemory),
     }
@@ -227,6 +231,17 @@ pub extern "C" fn lodvarn_clear_ring(alloc: Global, s: &mut Handle) -> i32
 {
     of!(s, alloc, Held::Session(session) => {
         session.clear_ring();
+        Ok(Answer::Done)
+    })
+}
+
+/// `lodvarn_set_saved`.
+#[unsafe(no_mangle)]
+pub extern "C" fn lodvarn_set_saved(alloc: Global, s: &mut Handle) -> i32
+    ensures { Through a_session (becomes saved_now) s.old.value result s.new.value }
+{
+    of!(s, alloc, Held::Session(session) => {
+        session.set_saved();
         Ok(Answer::Done)
     })
 }

@@ -4,6 +4,7 @@ ghost use Rattle.std.specs.Option.{option_map, option_map_or};
 ghost use Rattle.rl_base.specs.KillRing.{text_back, yank_size};
 ghost use Rattle.rl_base.specs.Lines.{lines};
 ghost use Rattle.rl_line.specs.LineRanges.{range_of_line};
+ghost use Rattle.rl_line.specs.Record.{is_saved};
 ghost use Rattle.rl_line.specs.Units.{has_change, last_of, level, redo_of};
 ghost use Rattle.rl_session.specs.State.{State};
 ghost use Rattle.rl_ffi.specs.Answers.{merged};
@@ -115,6 +116,15 @@ pub extern "C" fn lodvarn_can_undo(alloc: Global, s: &mut Handle) -> bool
     ensures kept { s.new.value ≡ s.old.value }
 {
     of!(s, alloc, Held::Session(session) => session.can_undo(), false)
+}
+
+/// `lodvarn_is_saved`.
+#[unsafe(no_mangle)]
+pub extern "C" fn lodvarn_is_saved(alloc: Global, s: &mut Handle) -> bool
+    ensures value { result ≡ option_map_or (λ (s : State). is_saved s.pair.changes) (session_of s.old.value) false }
+    ensures kept { s.new.value ≡ s.old.value }
+{
+    of!(s, alloc, Held::Session(session) => session.is_saved(), false)
 }
 
 /// `lodvarn_can_redo`.

@@ -1,9 +1,9 @@
 //! The calls that lay a text out on a screen.
 ghost use Rattle.std.specs.Prelude.{◌≡◌};
 ghost use Rattle.rl_ffi.specs.Answers.{merged};
-ghost use Rattle.rl_ffi.specs.Calls.{Tells};
+ghost use Rattle.rl_ffi.specs.Calls.{Tells, Writes};
 ghost use Rattle.rl_ffi.specs.Held.{a_session};
-ghost use Rattle.rl_ffi.specs.Screen.{TellsCell, TellsPlace, TellsRowAbove, TellsRowBelow, TellsRows, WritesRow, column_of, screen_of};
+ghost use Rattle.rl_ffi.specs.Screen.{TellsCell, TellsPlace, TellsRowAbove, TellsRowBelow, TellsRows, column_of, screen_of};
 ghost use Rattle.rl_ffi.specs.Texts.{Answers};
 
 use crate::answers::{Answer, Outcome, merged};
@@ -115,7 +115,7 @@ fn column_of(number: usize) -> Option<usize>
 
 // Writes the place to which a motion by rows leads, and the column that it keeps to, if it leads anywhere.
 fn write_row(told: Option<(usize, usize)>, place: &mut usize, column: &mut usize) -> Outcome
-    ensures { WritesRow told (merged result) (place.old, column.old) (place.new, column.new) }
+    ensures { Writes told (merged result) (place.old, column.old) (place.new, column.new) }
 {
     match told {
         Some(row) => {

@@ -5,14 +5,14 @@ ghost use Rattle.rl_base.specs.Clusters.{clusters};
 ghost use Rattle.rl_base.specs.Screen.{filled};
 ghost use Rattle.rl_ffi.specs.Answers.{merged, number};
 ghost use Rattle.rl_ffi.specs.Buffers.{written};
-ghost use Rattle.rl_ffi.specs.Texts.{Answers, Printed, TellsClusters, TellsFirst, TellsLast, TellsWidth, measured, version};
+ghost use Rattle.rl_ffi.specs.Texts.{Answers, Printed, TellsClusters, TellsFirst, TellsLast, TellsMoved, TellsWidth, measured, version};
 ghost use Rattle.rl_ffi.specs.declared.answers.Answer.TheVariants.{NotUtf8};
 
 use crate::answers::{Answer, Outcome, merged};
 use crate::buffers::write;
-use crate::numbers::mode_of;
-use crate::shapes::CCluster;
-use rl_base::GraphemeClusterMode;
+use crate::numbers::{mode_of, side_of};
+use crate::shapes::{CCluster, CSplice};
+use rl_base::{GraphemeClusterMode, Splice};
 use rl_session::run_script;
 use std::alloc::Global;
 use unicode_segmentation::UnicodeSegmentation;
@@ -145,6 +145,34 @@ pub extern "C" fn lodvarn_clusters(
     ensures { Answers (TellsClusters mode text.now) result (out.old, count.old) (out.new, count.new) }
 {
     merged(find_clusters(mode, text, out, count)).number()
+}
+
+fn find_moved(change: &CSplice, place: usize, side: u32, moved: &mut usize) -> Outcome
+    ensures { TellsMoved change.now place side (merged result) moved.old moved.new }
+{
+    let side = side_of(side)?;
+    let splice = Splice {
+        from: change.from,
+        old_end: change.old_to,
+        new_end: change.new_to,
+    };
+    let after = place.saturating_sub(splice.old_end);
+    if splice.old_end < splice.from
+        || splice.new_end < splice.from
+        || usize::MAX - after < splice.new_end
+    {
+        return Err(Answer::BadPlace);
+    }
+    *moved = splice.moved(place, side);
+    Ok(Answer::Done)
+}
+
+/// `lodvarn_moved`.
+#[unsafe(no_mangle)]
+pub extern "C" fn lodvarn_moved(change: &CSplice, place: usize, side: u32, moved: &mut usize) -> i32
+    ensures { Answers (TellsMoved change.now place side) result moved.old moved.new }
+{
+    merged(find_moved(change, place, side, moved)).number()
 }
 
 /// `lodvarn_version`.

@@ -6,4 +6,5 @@ pub mod EditLemmas
 pub mod KillLemmas
 pub mod TranspositionLemmas
 pub mod LetterCaseLemmas
+pub mod LimitLemmas
 pub mod IndentLemmas

@@ -3,6 +3,7 @@ pub mod PatchLemmas
 pub mod RecordLemmas
 pub mod EntryLemmas
 pub mod LastLemmas
+pub mod SavedLemmas
 pub mod JoinLemmas
 pub mod PartLemmas
 pub mod LeadLemmas

@@ -56,6 +56,14 @@ abbrev pub greatest_back_over : List Entry → ℕ → ℕ
 greatest_back_over [] n = n
 greatest_back_over (e ∷ es) n = max (greatest_back_over es n) (length_back_over (e ∷ es) n)
 
+-- the greatest length when they are made again, the first first
+abbrev pub greatest_ahead_over : List Entry → ℕ → ℕ
+greatest_ahead_over es n = greatest_back_over (map inverse (reverse es)) n
+
+abbrev pub longest_over : Way → List Entry → ℕ → ℕ
+longest_over Back es n = greatest_back_over es n
+longest_over Ahead es n = greatest_ahead_over es n
+
 -- on the way over entries a text of n bytes gets longer
 abbrev pub Outgrows : List Entry → ℕ → Type 0
 Outgrows es n = n < greatest_back_over es n

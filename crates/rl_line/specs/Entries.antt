@@ -1,25 +1,25 @@
 -- What the private functions of a record's entries say of them.
-use Rattle.std.specs.Prelude.{◌≡◌, ℕ, suc, ◌-◌, Bool, true, false, List, [], ◌∷◌, ◌++◌, take, drop}
+use Rattle.std.specs.Prelude.{◌≡◌, ℕ, suc, ◌-◌, Bool, true, false, List, [], ◌∷◌, ◌++◌, take, drop, Option}
 use Rattle.rl_base.specs.Event.{Event}
-use Rattle.rl_line.specs.Record.{Entry, Begin, End, Record, entries_of, freshness_added, record_step}
+use Rattle.rl_line.specs.Record.{Entry, Begin, End, Record, entries_of, freshness_added, point_kept, record_step}
 use Rattle.rl_line.specs.declared.change.Freshness.{Freshness}
 
 -- a list of entries, read as a record: the first n are recorded, and those after them wait to be redone
-abbrev pub cut_at : ℕ → List Entry → Freshness → Record
-cut_at n es fresh = record { recorded = take n es; pending = drop n es; fresh = fresh }
+abbrev pub cut_at : ℕ → List Entry → Freshness → Option ℕ → Record
+cut_at n es fresh saved = record { recorded = take n es; pending = drop n es; fresh = fresh; saved = saved }
 
 -- a record once what was undone is dropped, and once an entry was added
 abbrev pub settled : Freshness → Record → Record
-settled fresh r = record { recorded = r.recorded; pending = []; fresh = fresh }
+settled fresh r = record { recorded = r.recorded; pending = []; fresh = fresh; saved = point_kept r }
 
 abbrev pub added : Entry → Freshness → Record → Record
-added e fresh r = record { recorded = r.recorded ++ e ∷ []; pending = []; fresh = fresh }
+added e fresh r = record { recorded = r.recorded ++ e ∷ []; pending = []; fresh = fresh; saved = point_kept r }
 
 -- what a try to join an event to the last recorded entry does: it joins, or the record stays and the event adds its entries
 abbrev pub Joins : Event → Record → Record → Bool → Type 0
 Joins event old new true = new ≡ record_step old event
 Joins event old new false =
-    (new ≡ old) × (record_step old event ≡ record { recorded = old.recorded ++ entries_of event; pending = []; fresh = freshness_added old.fresh (entries_of event) })
+    (new ≡ old) × (record_step old event ≡ record { recorded = old.recorded ++ entries_of event; pending = []; fresh = freshness_added old.fresh (entries_of event); saved = point_kept old })
 
 -- how many groups are open after the entries, if d are open before them
 abbrev pub deep : ℕ → List Entry → ℕ

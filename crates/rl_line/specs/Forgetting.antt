@@ -1,6 +1,6 @@
 -- Forgetting: the oldest units of a record go if more of it is kept than is wanted.
 use Rattle.std.specs.Prelude.{◌≡◌, ℕ, ◌+◌, ◌-◌, ◌^◌, ◌≤◌, ◌&&◌, ◌||◌, nat_le, Bool, List, [], ◌∷◌, length, take, drop, reverse, if◌then◌else◌}
-use Rattle.rl_line.specs.Record.{Entry, Record, new_text, old_text}
+use Rattle.rl_line.specs.Record.{Entry, Record, new_text, old_text, point_past}
 use Rattle.rl_line.specs.Units.{UndoUnit, Open, Whole, together, units}
 
 -- how many bytes of text entries hold: what their changes took out, and what they put in
@@ -35,9 +35,10 @@ kept_within most bytes es = together (reverse (units_kept most bytes (reverse (u
 abbrev pub gone_within : ℕ → ℕ → List Entry → List Entry
 gone_within most bytes es = take (length es - length (kept_within most bytes es)) es
 
--- the record once its oldest units were forgotten. What was undone stays
+-- the record once its oldest units were forgotten. What was undone stays, and a save point that has them before it
 abbrev pub forgotten : ℕ → ℕ → Record → Record
-forgotten most bytes r = record r { recorded = kept_within most bytes r.recorded }
+forgotten most bytes r =
+    record r { recorded = kept_within most bytes r.recorded; saved = point_past (length r.recorded - length (kept_within most bytes r.recorded)) r.saved }
 
 -- what private functions say of it: from the place k on entries fit, and from none before it
 pub record FitsFrom (most bytes : ℕ) (es : List Entry) (k : ℕ) : Type 0 where

@@ -1,5 +1,5 @@
 -- What an edit does: its steps, each one event and the cursor after it, the cursor at the end, and its answer.
-use Rattle.std.specs.Prelude.{◌≡◌, ℕ, ◌<◌, map, List, [], ◌∷◌, ◌++◌, length, encode_utf8, ◌+◌, Option, Some, option_and_then, ◌⊎◌, Result, MatchResult}
+use Rattle.std.specs.Prelude.{◌≡◌, ℕ, ◌<◌, map, max, List, [], ◌∷◌, ◌++◌, length, encode_utf8, ◌+◌, ◌-◌, Option, Some, option_and_then, ◌⊎◌, Result, MatchResult}
 use Rattle.rl_base.specs.Event.{Event, InsertChar, InsertStr, Delete, Replace, Cursors, replay}
 use Rattle.rl_base.specs.declared.listeners.Refusal.{Refusal}
 use Rattle.rl_base.specs.declared.listeners.Refusal.TheVariants.{NoMemory}
@@ -90,6 +90,23 @@ bytes_told _ = 0
 abbrev pub bytes_of : List Step → ℕ
 bytes_of [] = 0
 bytes_of (s ∷ ss) = bytes_told s.0 + bytes_of ss
+
+-- how long a text of n bytes is after an event
+abbrev pub resized : Event → ℕ → ℕ
+resized (InsertChar i c) n = n + length (encode_utf8 c)
+resized (InsertStr i s) n = n + length s
+resized (Delete i s side) n = n - length s
+resized (Replace i s t) n = (n - length s) + length t
+resized _ n = n
+
+-- how long it is at most on the way over steps
+abbrev pub longest : List Step → ℕ → ℕ
+longest [] n = n
+longest (s ∷ ss) n = max n (longest ss (resized s.0 n))
+
+-- how long the text of a line is at most on the way over the steps of a plan
+abbrev pub longest_by : {A : Type 0} → Line → Plan A → ℕ
+longest_by line plan = longest plan.steps (length line.text)
 
 -- an edit may not have begun: there is something of which it makes a copy
 abbrev pub unbegun : {A : Type 0} → Takes → Plan A → Type 0

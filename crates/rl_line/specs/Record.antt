@@ -1,5 +1,5 @@
 -- The record of the changes of a line.
-use Rattle.std.specs.Prelude.{◌≡◌, Bool, true, false, ℕ, ◌+◌, not, ◌==◌, ◌&&◌, ◌<◌, List, [], ◌∷◌, ◌++◌, length, map, take, reverse, encode_utf8, Option, Some, None, option_and_then, if◌then◌else◌}
+use Rattle.std.specs.Prelude.{◌≡◌, ◌≤◌, ◌⊎◌, Bool, true, false, ℕ, ◌+◌, not, ◌==◌, ◌&&◌, ◌<◌, ◌-◌, nat_le, List, [], ◌∷◌, ◌++◌, length, map, take, reverse, encode_utf8, Option, Some, None, option_and_then, if◌then◌else◌}
 use Rattle.std.specs.Option.{option_map_or}
 use Rattle.std.specs.Str.{bytes_eq}
 use Rattle.std.specs.String.{string_bytes}
@@ -54,11 +54,40 @@ IsOfKind (Changed Deletion swap) = swap.new ≡ []
 IsOfKind _ = Unit {0}
 
 -- what was recorded, the oldest first; what was undone and waits to be redone, in the order in which it was made; and whether
--- the cursors of the last recorded change may still be told, and the next change may join it
+-- the cursors of the last recorded change may still be told, and the next change may join it; and how many entries were recorded
+-- when the text was saved, as long as these are there
 pub record Record : Type 0 where
   pub recorded : List Entry
   pub pending : List Entry
   pub fresh : Freshness
+  pub saved : Option ℕ
+
+-- an empty record
+abbrev pub no_changes : Record
+no_changes = record { recorded = []; pending = []; fresh = is.Stale; saved = None }
+
+-- a save point, if no more than `len` entries stand before it
+abbrev pub kept_point : ℕ → Option ℕ → Option ℕ
+kept_point len None = None
+kept_point len (Some n) = if nat_le n len then Some n else None
+
+-- a save point once the first k entries are gone
+abbrev pub point_past : ℕ → Option ℕ → Option ℕ
+point_past k None = None
+point_past k (Some n) = if nat_le k n then Some (n - k) else None
+
+-- whether so many entries stand before a save point
+abbrev pub is_at : ℕ → Option ℕ → Bool
+is_at len None = false
+is_at len (Some n) = n == len
+
+-- a record that came to so many entries is parted at its save point, so that no change joins what was saved
+abbrev pub freshness_at : ℕ → Option ℕ → Freshness
+freshness_at len point = if is_at len point then is.Parted else is.Stale
+
+-- a record that came to these entries
+abbrev pub arrived : List Entry → List Entry → Option ℕ → Record
+arrived es pending point = record { recorded = es; pending = pending; fresh = freshness_at (length es) point; saved = point }
 
 -- a change that has no cursors yet
 abbrev pub untold : ℕ → List ℕ → List ℕ → Swap
@@ -181,13 +210,43 @@ pending_after Stop pending = pending
 pending_after (Cursors _ _) pending = pending
 pending_after _ pending = []
 
+-- the save point of a record that drops what was undone
+abbrev pub point_kept : Record → Option ℕ
+point_kept r = kept_point (length r.recorded) r.saved
+
+-- the save point after an event, which drops what was undone unless a kill starts or stops or cursors are told
+abbrev pub saved_after : Event → Record → Option ℕ
+saved_after Start r = r.saved
+saved_after Stop r = r.saved
+saved_after (Cursors _ _) r = r.saved
+saved_after _ r = point_kept r
+
 -- the record after an event
 unfoldable pub record_step : Record → Event → Record
-record_step r event = record { recorded = recorded_after event r; pending = pending_after event r.pending; fresh = freshness_after event r }
+record_step r event = record { recorded = recorded_after event r; pending = pending_after event r.pending; fresh = freshness_after event r; saved = saved_after event r }
 
 -- the same record, in which the next change joins nothing
 abbrev pub parted : Record → Record
 parted r = record r { fresh = is.Parted }
+
+-- the same record, whose text is saved here
+abbrev pub saved_here : Record → Record
+saved_here r = record r { fresh = is.Parted; saved = Some (length r.recorded) }
+
+-- whether a record stands where its text was saved
+abbrev pub is_saved : Record → Bool
+is_saved r = is_at (length r.recorded) r.saved
+
+-- a save point that is there has these entries before it: those that were recorded at the save. Once they alone are recorded
+-- no change joins them; and while the last of them is not recorded no cursors are told
+pub record SavedAt (es : List Entry) (r : Record) : Type 0 where
+  pub point : r.saved ≡ Some (length es)
+  pub begins : take (length es) (r.recorded ++ r.pending) ≡ es
+  pub apart : length r.recorded ≡ length es → r.fresh ≡ is.Parted
+  pub told : length r.recorded ≤ length es → freshness_told r.fresh ≡ r.fresh
+
+abbrev pub StaysSaved : List Entry → Record → Type 0
+StaysSaved es r = (r.saved ≡ None) ⊎ SavedAt es r
 
 -- an event that adds an entry or joins one: what is put in or taken out is not an empty text
 abbrev pub IsRecorded : Event → Type 0

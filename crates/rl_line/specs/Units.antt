@@ -2,7 +2,7 @@
 use Rattle.std.specs.Prelude.{◌≡◌, ℕ, zero, suc, ◌-◌, max, min, not, ◌||◌, Bool, true, false, List, [], ◌∷◌, ◌++◌, length, map, take, drop, reverse, Option, Some, None, IsSome, IsTrue, option_and_then, if◌then◌else◌}
 use Rattle.rl_base.specs.Event.{Event}
 use Rattle.rl_line.specs.declared.change.Freshness.TheVariants.{Stale}
-use Rattle.rl_line.specs.Record.{Entry, Begin, End, Changed, Record, record_step}
+use Rattle.rl_line.specs.Record.{Entry, Begin, End, Changed, Record, arrived, kept_point, point_kept, record_step}
 
 -- a unit: the Begin of an open group, or entries that come and go as one, which are a change or a closed group
 pub data UndoUnit : Type 0 where
@@ -112,11 +112,16 @@ adds_end (suc n) es = not (ends_in_begin es) || adds_end n (end_one es)
 
 -- the record after each call
 abbrev pub begun : Record → Record
-begun r = record { recorded = r.recorded ++ Begin ∷ []; pending = []; fresh = Stale }
+begun r = record { recorded = r.recorded ++ Begin ∷ []; pending = []; fresh = Stale; saved = point_kept r }
+
+-- a save point after n groups were closed: it is gone with a Begin before it that was removed
+abbrev pub point_closed : ℕ → List Entry → Option ℕ → Option ℕ
+point_closed zero es point = point
+point_closed (suc n) es point = point_closed n (end_one es) (kept_point (length (end_one es)) point)
 
 -- after n groups were closed, the one that was opened last first; after all were; after one was, if one is open
 abbrev pub with_closed : ℕ → Record → Record
-with_closed n r = record { recorded = end_times n r.recorded; pending = []; fresh = Stale }
+with_closed n r = arrived (end_times n r.recorded) [] (point_closed n r.recorded (point_kept r))
 
 abbrev pub ended : Record → Record
 ended r = with_closed (level r.recorded) r
@@ -125,13 +130,13 @@ abbrev pub ended_one : Record → Record
 ended_one r = with_closed (min 1 (level r.recorded)) r
 
 abbrev pub undone : ℕ → Record → Record
-undone n r = record { recorded = kept_of n r.recorded; pending = last_of n r.recorded ++ r.pending; fresh = Stale }
+undone n r = arrived (kept_of n r.recorded) (last_of n r.recorded ++ r.pending) r.saved
 
 abbrev pub redone : Record → Record
-redone r = record { recorded = r.recorded ++ redo_of r.pending; pending = drop (length (redo_of r.pending)) r.pending; fresh = Stale }
+redone r = arrived (r.recorded ++ redo_of r.pending) (drop (length (redo_of r.pending)) r.pending) r.saved
 
 abbrev pub truncated : ℕ → Record → Record
-truncated len r = record { recorded = take len r.recorded; pending = []; fresh = Stale }
+truncated len r = arrived (take len r.recorded) [] (kept_point (length (take len r.recorded)) r.saved)
 
 -- the group that ends the record is taken up again, if one does: its End is taken off
 abbrev pub reopened : Record → Record

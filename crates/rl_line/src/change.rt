@@ -1,5 +1,5 @@
 //! An entry of a record, and how a text goes over it.
-ghost use Rattle.std.specs.Prelude.{◌≡◌, [], ◌∷◌, None, Some, true, false, OnErr, OnOk, IfOk, IfErr, ◌+◌, ◌-◌, ◌<◌, ◌≤◌, IsSome, IfSome, get_or, is_some, length};
+ghost use Rattle.std.specs.Prelude.{◌≡◌, [], ◌∷◌, None, Some, true, false, OnErr, OnOk, IfOk, IfErr, ◌+◌, ◌-◌, ◌<◌, ◌≤◌, IsSome, IfSome, get_or, is_some, length, nat_le};
 ghost use Rattle.std.specs.Option.{option_map};
 ghost use Rattle.std.specs.String.{string_bytes};
 ghost use Rattle.std.specs.Str.{IsUtf8};
@@ -390,6 +390,25 @@ fn growth_over(changes: &[Change], way: Way, len: usize) -> Result<usize, Refusa
         longest = longest.max(long);
     }
     Ok(longest - len)
+}
+
+/// Whether a text of `len` bytes keeps to a limit all the way over the changes.
+pub(crate) fn keeps_to(changes: &[Change], way: Way, len: usize, limit: usize) -> bool
+    requires { len ≤ limit }
+    ensures { result ≡ nat_le (greatest_back_over (entries_to_undo way changes.now) len) limit }
+{
+    let mut long = len;
+    let mut left = changes.len();
+    while left > 0 {
+        left -= 1;
+        let (going, coming) = nth_on(way, changes, left).texts(way);
+        long = long.saturating_sub(going.len());
+        if coming.len() > limit - long {
+            return false;
+        }
+        long += coming.len();
+    }
+    true
 }
 
 /// A text that went over the changes. None if one of them does not fit, or if `asks` is set and a cursor that was told

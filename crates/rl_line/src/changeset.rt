@@ -1,22 +1,21 @@
 //! The record of the changes of a line, which undoes them, in groups where they were made in groups, and redoes them.
-ghost use Rattle.std.specs.Prelude.{◌≡◌, ◌<◌, ◌≤◌, ℕ, [], ◌∷◌, map, min, true, false, is_some, length, All, IsSome, Some, IfOk, IfErr, IfSome, OnOk, OnErr};
+ghost use Rattle.std.specs.Prelude.{◌≡◌, ◌<◌, ◌≤◌, ℕ, [], ◌∷◌, map, min, nat_le, true, false, is_some, length, All, IsSome, Some, IfOk, IfErr, IfSome, OnOk, OnErr};
 ghost use Rattle.std.specs.Option.{option_map};
 ghost use Rattle.std.specs.String.{string_bytes};
 ghost use Rattle.rl_base.specs.Event.{InsertChar, InsertStr, Delete, Replace};
 ghost use Rattle.rl_base.specs.Text.{HasText};
 ghost use Rattle.rl_base.specs.declared.listeners.Direction.TheVariants.{Forward};
 ghost use Rattle.rl_base.specs.declared.listeners.Refusal.TheVariants.{NoMemory};
-ghost use Rattle.rl_line.specs.declared.change.Freshness.TheVariants.{Stale};
 ghost use Rattle.rl_line.specs.Forgetting.{forgotten};
-ghost use Rattle.rl_line.specs.Change.{entries_to_undo};
+ghost use Rattle.rl_line.specs.Change.{entries_to_undo, greatest_ahead_over, greatest_back_over, longest_over};
 ghost use Rattle.rl_line.specs.Plan.{NeverRefuses};
-ghost use Rattle.rl_line.specs.Record.{IsOfKind, Record, entry_of, last_insert, parted, record_step, replays_to};
+ghost use Rattle.rl_line.specs.Record.{IsOfKind, Record, entry_of, is_saved, last_insert, no_changes, parted, record_step, replays_to, saved_here};
 ghost use Rattle.rl_line.specs.Undo.{CopiesBack, GoesOver, LineOutOfRoom, OutOfRoom, Redone, StandsStill, TriesAhead, TriesBack, Undone, line_ahead, line_back, line_over, listener_ahead, listener_back, listener_over, texts_ahead, texts_back, texts_over, unit_of};
 ghost use Rattle.rl_line.specs.Units.{BothMatched, IsMatched, adds_end, begun, ended, ended_one, ends_in_end, has_change, is_change, last_of, level, redo_of, reopened, truncated, with_closed};
 
 mod foretelling;
 
-use crate::change::{Change, Freshness, Way, count_over, text_over};
+use crate::change::{Change, Freshness, Way, count_over, keeps_to, text_over};
 use crate::entries::{self, Entries};
 use crate::forgetting::oldest_len;
 use crate::line_buffer::LineBuffer;
@@ -54,7 +53,7 @@ impl Model for Changeset {
 impl Changeset {
     /// An empty record.
     pub fn new(alloc: Global) -> Self
-        ensures { result ≡ record { recorded = []; pending = []; fresh = Stale } }
+        ensures { result ≡ no_changes }
     {
         Changeset {
             entries: Entries::new(alloc),
@@ -158,11 +157,27 @@ impl Changeset {
 
     /// Parts the changes that come from those before: the next change joins nothing, so that it is an entry of its own, also
     /// if what is recorded meanwhile is empty. What was undone stays. Undoing, redoing, beginning or ending a group, and
-    /// `truncate` take it back.
+    /// `truncate` take it back, unless they come to the save point.
     pub fn part(&mut self)
         ensures { self.new ≡ parted self.old }
     {
         self.entries.part();
+    }
+
+    /// Marks the text as saved at the present point of the record, and parts the changes that come, as `part` does, so that
+    /// none of them joins what was saved. One point is kept, the last that was marked.
+    pub fn set_saved(&mut self)
+        ensures { self.new ≡ saved_here self.old }
+    {
+        self.entries.set_saved();
+    }
+
+    /// Whether the record stands where its text was saved, also after undos and redos. It does no more once an entry from
+    /// before that point is dropped or forgotten, and in an empty record it does only if it was marked.
+    pub fn is_saved(&self) -> bool
+        ensures { result ≡ is_saved self.now }
+    {
+        self.entries.is_saved()
     }
 
     /// Records that `c` was inserted at the byte place `idx`: an alphanumeric character joins the last entry, where
@@ -277,6 +292,26 @@ impl Changeset {
         ensures kept { OnErr result (listener.new ≡ listener.old) }
     {
         self.go_over(line, Way::Ahead, 1, listener)
+    }
+
+    /// Whether an undo of `n` would leave the line's limit as it is: whether the text keeps to it all the way.
+    pub fn undo_fits(&self, line: &LineBuffer, n: RepeatCount) -> bool
+        ensures { result ≡ nat_le (greatest_back_over (last_of n self.now.recorded) (length line.now.text)) line.now.limit }
+    {
+        self.way_fits(line, Way::Back, n)
+    }
+
+    /// Whether a redo would, as `undo_fits` tells it of an undo.
+    pub fn redo_fits(&self, line: &LineBuffer) -> bool
+        ensures { result ≡ nat_le (greatest_ahead_over (redo_of self.now.pending) (length line.now.text)) line.now.limit }
+    {
+        self.way_fits(line, Way::Ahead, 1)
+    }
+
+    fn way_fits(&self, line: &LineBuffer, way: Way, n: RepeatCount) -> bool
+        ensures { result ≡ nat_le (longest_over way (unit_of way n self.now) (length line.now.text)) line.now.limit }
+    {
+        keeps_to(self.unit(way, n), way, line.len(), line.limit())
     }
 
     // Undoes the last `n` units, or redoes the next one.

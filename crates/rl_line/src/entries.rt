@@ -9,12 +9,12 @@ ghost use Rattle.rl_base.specs.Text.{HasText};
 ghost use Rattle.rl_base.specs.declared.listeners.Direction.TheVariants.{Forward};
 ghost use Rattle.rl_base.specs.declared.listeners.Refusal.TheVariants.{NoMemory};
 ghost use Rattle.rl_line.specs.declared.change.Freshness.TheVariants.{Added, Stale};
-ghost use Rattle.rl_line.specs.Record.{Changed, Insertion, IsOfKind, untold, entry_of, freshness_told, last_insert, parted, record_step};
+ghost use Rattle.rl_line.specs.Record.{Changed, Insertion, IsOfKind, untold, entry_of, freshness_at, freshness_told, is_at, is_saved, kept_point, last_insert, no_changes, parted, point_past, record_step, saved_here};
 ghost use Rattle.rl_line.specs.Undo.{Tries, line_over};
-ghost use Rattle.rl_line.specs.Units.{adds_end, end_one, end_times, ends_in_begin, ends_in_end, has_change, truncated, with_closed};
+ghost use Rattle.rl_line.specs.Units.{adds_end, end_one, end_times, ends_in_begin, ends_in_end, has_change, point_closed, truncated, with_closed};
 ghost use Rattle.rl_line.specs.Entries.{Joins, added, cut_at, settled};
 
-use crate::change::{Change, Freshness, Texts, Way, copied, patch_over};
+use crate::change::{Change, Freshness, Texts, Way, copied, patch_over, seldom};
 use crate::inserted::Inserted;
 use crate::line_buffer::LineBuffer;
 use crate::units::has_change;
@@ -31,28 +31,31 @@ pub(crate) struct Entries {
     recorded: usize,
     // Whether the last recorded change may still be told its cursors, and joined.
     fresh: Freshness,
+    // How many were recorded when the text was saved, while these are in the list.
+    saved: Option<usize>,
 }
 
 impl Model for Entries {
-    ghost use Rattle.std.specs.Prelude.{◌≤◌, length, map};
-    ghost use Rattle.rl_line.specs.Record.{Record, entry_of};
+    ghost use Rattle.std.specs.Prelude.{◌≡◌, ◌≤◌, length, map};
+    ghost use Rattle.rl_line.specs.Record.{Record, entry_of, kept_point};
     ghost use Rattle.rl_line.specs.Entries.{cut_at};
 
     ghost Value = { Record };
 
-    ghost view = { λ e. cut_at e.recorded (map entry_of e.list.items) e.fresh };
+    ghost view = { λ e. cut_at e.recorded (map entry_of e.list.items) e.fresh e.saved };
 
-    ghost invariant = { λ e. e.recorded ≤ length e.list.items };
+    ghost invariant = { λ e. (e.recorded ≤ length e.list.items) × (kept_point (length e.list.items) e.saved ≡ e.saved) };
 }
 
 impl Entries {
     pub(crate) fn new(alloc: Global) -> Self
-        ensures { result ≡ record { recorded = []; pending = []; fresh = Stale } }
+        ensures { result ≡ no_changes }
     {
         Entries {
             list: Vec::new(alloc),
             recorded: 0,
             fresh: Freshness::Stale,
+            saved: None,
         }
     }
 
@@ -190,9 +193,11 @@ impl Entries {
         ensures err { IfErr result (λ r. (r ≡ NoMemory) × (self.new ≡ self.old)) }
     {
         if self.recorded == 0 {
+            seldom();
             return Ok(false);
         }
         if self.fresh.is_parted() {
+            seldom();
             return Ok(false);
         }
         let alloc = self.allocator();
@@ -246,6 +251,21 @@ impl Entries {
         self.fresh = Freshness::Parted;
     }
 
+    /// Marks the text as saved here, and parts what comes from it.
+    pub(crate) fn set_saved(&mut self)
+        ensures { self.new ≡ saved_here self.old }
+    {
+        self.saved = Some(self.recorded);
+        self.fresh = Freshness::Parted;
+    }
+
+    /// Whether the record stands where its text was saved.
+    pub(crate) fn is_saved(&self) -> bool
+        ensures { result ≡ is_saved self.now }
+    {
+        is_at(self.recorded, self.saved)
+    }
+
     /// Adds an entry to the recorded ones. If it replaces one that was undone, there is room for it. Inlined, so that
     /// the entry is built in place.
     #[inline(always)]
@@ -256,6 +276,7 @@ impl Entries {
     {
         if self.recorded < self.list.len() {
             self.list.truncate(self.recorded);
+            self.saved = kept_point(self.saved, self.recorded);
             match self.list.push(entry) {
                 Ok(()) => {}
                 Err(_) => unreachable!(),
@@ -275,7 +296,7 @@ impl Entries {
     fn settle(&mut self, fresh: Freshness)
         ensures { self.new ≡ settled fresh self.old }
     {
-        keep(&mut self.list, self.recorded);
+        keep(&mut self.list, &mut self.saved, self.recorded);
         self.fresh = fresh;
     }
 
@@ -293,10 +314,10 @@ impl Entries {
     {
         let adds = adds_end(self.recorded(), count);
         find_ends(&mut self.list, adds, count)?;
-        keep(&mut self.list, self.recorded);
-        close_groups(&mut self.list, count);
+        keep(&mut self.list, &mut self.saved, self.recorded);
+        close_groups(&mut self.list, &mut self.saved, count);
         self.recorded = self.list.len();
-        self.fresh = Freshness::Stale;
+        self.fresh = freshness_at(self.recorded, self.saved);
         Ok(adds)
     }
 
@@ -304,44 +325,85 @@ impl Entries {
     #[inline(always)]
     pub(crate) fn cut(&mut self, recorded: usize)
         requires { recorded ≤ length self.old.recorded + length self.old.pending }
-        ensures { self.new ≡ cut_at recorded (self.old.recorded ++ self.old.pending) Stale }
+        ensures { self.new ≡ cut_at recorded (self.old.recorded ++ self.old.pending) (freshness_at recorded self.old.saved) self.old.saved }
     {
         self.recorded = recorded;
-        self.fresh = Freshness::Stale;
+        self.fresh = freshness_at(recorded, self.saved);
     }
 
     /// Keeps the first `len` of the recorded entries alone.
     pub(crate) fn truncate(&mut self, len: usize)
         ensures { self.new ≡ truncated len self.old }
     {
-        keep(&mut self.list, len.min(self.recorded));
+        keep(&mut self.list, &mut self.saved, len.min(self.recorded));
         self.recorded = self.list.len();
-        self.fresh = Freshness::Stale;
+        self.fresh = freshness_at(self.recorded, self.saved);
     }
 
     /// Drops the first `count` entries. The others move once.
     pub(crate) fn drop_first(&mut self, count: usize)
         requires { count ≤ length self.old.recorded }
-        ensures { self.new ≡ record self.old { recorded = drop count self.old.recorded } }
+        ensures { self.new ≡ record self.old { recorded = drop count self.old.recorded; saved = point_past count self.old.saved } }
     {
         if count > 0 {
             self.list.drain(..count);
             self.recorded -= count;
+            self.saved = point_past(self.saved, count);
         }
     }
 }
 
-/// Keeps the first `len` entries. Mostly these are all, and then it costs no call.
+/// Keeps the first `len` entries, and the save point if it is in them. Mostly these are all, and then it costs no call.
 #[inline(always)]
 #[tactic(auto, using(crate::proofs::Records::EntryLemmas::at_the_end))]
-fn keep(entries: &mut Vec<Change>, len: usize)
+fn keep(entries: &mut Vec<Change>, saved: &mut Option<usize>, len: usize)
+    requires { kept_point (length entries.old.items) saved.old ≡ saved.old }
     ensures items { map entry_of entries.new.items ≡ take len (map entry_of entries.old.items) }
+    ensures saved { saved.new ≡ kept_point len saved.old }
     ensures len { vec_len entries.new ≤ vec_len entries.old }
     ensures capacity { vec_capacity entries.new ≡ vec_capacity entries.old }
 {
     if len < entries.len() {
         entries.truncate(len);
+        *saved = kept_point(*saved, len);
     }
+}
+
+/// The save point, if no more than `len` entries stand before it.
+fn kept_point(saved: Option<usize>, len: usize) -> Option<usize>
+    ensures { result ≡ kept_point len saved }
+{
+    match saved {
+        Some(at) if at <= len => saved,
+        _ => None,
+    }
+}
+
+/// The save point once the first `count` entries are gone.
+fn point_past(saved: Option<usize>, count: usize) -> Option<usize>
+    ensures { result ≡ point_past count saved }
+{
+    saved?.checked_sub(count)
+}
+
+/// Whether so many entries stand before the save point.
+fn is_at(len: usize, saved: Option<usize>) -> bool
+    ensures { result ≡ is_at len saved }
+{
+    match saved {
+        Some(at) => at == len,
+        None => false,
+    }
+}
+
+/// How a record that came to so many entries may go on: at its save point no change joins what was saved.
+fn freshness_at(len: usize, saved: Option<usize>) -> Freshness
+    ensures { result ≡ freshness_at len saved }
+{
+    if is_at(len, saved) {
+        return Freshness::Parted;
+    }
+    Freshness::Stale
 }
 
 /// The first entries, all if there are fewer.
@@ -386,12 +448,16 @@ fn find_ends(entries: &mut Vec<Change>, adds: bool, count: usize) -> Result<(), 
 }
 
 /// Closes `count` groups in a list that has room for as many Ends, if one is added.
-fn close_groups(entries: &mut Vec<Change>, count: usize)
-    requires { adds_end count (map entry_of entries.old.items) ≡ true → vec_len entries.old + count ≤ vec_capacity entries.old }
-    ensures { map entry_of entries.new.items ≡ end_times count (map entry_of entries.old.items) }
+fn close_groups(entries: &mut Vec<Change>, saved: &mut Option<usize>, count: usize)
+    requires room { adds_end count (map entry_of entries.old.items) ≡ true → vec_len entries.old + count ≤ vec_capacity entries.old }
+    requires within { kept_point (length entries.old.items) saved.old ≡ saved.old }
+    ensures entries { map entry_of entries.new.items ≡ end_times count (map entry_of entries.old.items) }
+    ensures saved { saved.new ≡ point_closed count (map entry_of entries.old.items) saved.old }
+    ensures within { kept_point (length entries.new.items) saved.new ≡ saved.new }
 {
     for _ in 0..count {
         close_last(entries);
+        *saved = kept_point(*saved, entries.len());
     }
 }
 

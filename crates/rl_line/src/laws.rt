@@ -1,16 +1,16 @@
 //! The laws of the record: what undo, redo, groups and forgetting come to, over any entries.
 #![tactic(auto, using(crate::proofs::Records::Laws::laws))]
 
-ghost use Rattle.std.specs.Prelude.{◌≡◌, ◌≤◌, ◌↔◌, ℕ, List, Bool, [], ◌∷◌, ◌++◌, min, suc, true, false, drop, length, IsSome, Some};
+ghost use Rattle.std.specs.Prelude.{◌≡◌, ◌≤◌, ◌↔◌, ℕ, List, Bool, [], ◌∷◌, ◌++◌, ◌-◌, min, suc, true, false, drop, length, IsSome, Some};
 ghost use Rattle.std.specs.Str.{IsCharBoundary, IsUtf8};
 ghost use Rattle.rl_base.specs.Event.{Event};
-ghost use Rattle.rl_line.specs.Forgetting.{fits, gone_within, kept_within};
+ghost use Rattle.rl_line.specs.Forgetting.{fits, forgotten, gone_within, kept_within};
 ghost use Rattle.rl_line.specs.Line.{Line};
 ghost use Rattle.rl_line.specs.Plan.{after};
-ghost use Rattle.rl_line.specs.Record.{Begin, Entry, End, IsRecorded, Record, entries_of, parted, record_step, replay_entries, unwind};
-ghost use Rattle.rl_line.specs.declared.change.Freshness.TheVariants.{Parted, Stale};
+ghost use Rattle.rl_line.specs.Record.{Begin, Entry, End, IsRecorded, Record, SavedAt, StaysSaved, arrived, entries_of, is_saved, parted, point_kept, record_step, saved_here, replay_entries, unwind};
+ghost use Rattle.rl_line.specs.declared.change.Freshness.TheVariants.{Parted};
 ghost use Rattle.rl_line.specs.Undo.{Redone, Redos, StandAfter, StandBefore, Undone, line_ahead, line_back, steps_ahead, steps_back};
-ghost use Rattle.rl_line.specs.Units.{BothMatched, GroupAt, InGroup, IsMatched, adds_end, after_in_group, begun, ended, ended_one, group_of, has_change, in_group, kept_of, last_of, last_units, level, opens, redo_of, reopened};
+ghost use Rattle.rl_line.specs.Units.{BothMatched, GroupAt, InGroup, IsMatched, adds_end, after_in_group, begun, ended, ended_one, group_of, has_change, in_group, kept_of, last_of, last_units, level, opens, redo_of, redone, reopened, truncated, undone, with_closed};
 
 /// Where entries lead from one text to another, unwinding them leads back from that to the first, and conversely.
 pub fn unwinding_is_replaying()
@@ -84,7 +84,26 @@ pub fn group_is_closed_alone()
 /// Where the end of a group added an End, `reopen` right after it gives back what was recorded before that end.
 pub fn reopen_takes_back_an_end()
     ensures { (r : Record) → adds_end (min 1 (level r.recorded)) r.recorded ≡ true
-        → reopened (ended_one r) ≡ record { recorded = r.recorded; pending = []; fresh = Stale } }
+        → reopened (ended_one r) ≡ arrived r.recorded [] (point_kept r) }
+{}
+
+/// A save point stays as long as the entries that were recorded at the save begin the record, recorded and undone ones
+/// together: no call changes them and leaves the point, and one that drops one of them, or forgets the one before the first,
+/// takes the point away. So if the record says that it is saved, those entries are recorded, no more and no fewer.
+pub fn save_point_stays()
+    ensures marked { (r : Record) → SavedAt r.recorded (saved_here r) }
+    ensures saved { (es : List Entry) (r : Record) → StaysSaved es r → is_saved r ≡ true → r.recorded ≡ es }
+    ensures back { (es : List Entry) (r : Record) → SavedAt es r → r.recorded ≡ es → is_saved r ≡ true }
+    ensures event { (es : List Entry) (r : Record) (event : Event) → StaysSaved es r → StaysSaved es (record_step r event) }
+    ensures parted { (es : List Entry) (r : Record) → StaysSaved es r → StaysSaved es (parted r) }
+    ensures begun { (es : List Entry) (r : Record) → StaysSaved es r → StaysSaved es (begun r) }
+    ensures closed { (es : List Entry) (r : Record) (n : ℕ) → StaysSaved es r → StaysSaved es (with_closed n r) }
+    ensures reopened { (es : List Entry) (r : Record) → StaysSaved es r → StaysSaved es (reopened r) }
+    ensures undone { (es : List Entry) (r : Record) (n : ℕ) → StaysSaved es r → StaysSaved es (undone n r) }
+    ensures redone { (es : List Entry) (r : Record) → StaysSaved es r → StaysSaved es (redone r) }
+    ensures truncated { (es : List Entry) (r : Record) (len : ℕ) → StaysSaved es r → StaysSaved es (truncated len r) }
+    ensures forgotten { (most bytes : ℕ) (es : List Entry) (r : Record) → StaysSaved es r
+        → StaysSaved (drop (length r.recorded - length (kept_within most bytes r.recorded)) es) (forgotten most bytes r) }
 {}
 
 /// After a part an event that records a change adds an entry of its own, whatever was recorded before: an undo of one unit

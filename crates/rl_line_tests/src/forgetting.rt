@@ -49,6 +49,29 @@ fn the_oldest_changes_are_forgotten(rt: HostRuntime) -> Result<(), Fail> {
 }
 
 #[test]
+fn a_save_is_forgotten(rt: HostRuntime) -> Result<(), Fail> {
+    const ANY: usize = usize::MAX;
+    const STEPS: &[Step] = &[
+        (Call::Yank("a"), 1, "a", 1, 1, 0),
+        (Call::Yank("b"), 1, "ab", 2, 2, 0),
+        (Call::SetSaved, 1, "ab", 2, 2, 0),
+        (Call::Yank("c"), 1, "abc", 3, 3, 0),
+        (Call::Forget(2, ANY), 1, "abc", 3, 2, 0),
+        (Call::Undo(1), 1, "ab", 2, 1, 0),
+        (Call::IsSaved, 1, "ab", 2, 1, 0),
+        // all before the save is gone, and an undo comes back to it still
+        (Call::Forget(0, ANY), 1, "ab", 2, 0, 0),
+        (Call::IsSaved, 1, "ab", 2, 0, 0),
+        (Call::Redo, 1, "abc", 3, 1, 0),
+        (Call::IsSaved, 0, "abc", 3, 1, 0),
+        // what came after it is gone too
+        (Call::Forget(0, ANY), 1, "abc", 3, 0, 0),
+        (Call::IsSaved, 0, "abc", 3, 0, 0),
+    ];
+    goes(&rt, rt.alloc(), "", STEPS)
+}
+
+#[test]
 fn no_part_of_a_group_is_forgotten(rt: HostRuntime) -> Result<(), Fail> {
     const ANY: usize = usize::MAX;
     const CLOSED: &[Step] = &[

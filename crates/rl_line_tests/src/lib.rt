@@ -37,6 +37,8 @@ mod motions;
 #[cfg(test)]
 mod places;
 #[cfg(test)]
+mod splice;
+#[cfg(test)]
 mod told;
 #[cfg(test)]
 mod undo;

@@ -65,6 +65,8 @@ pub(crate) enum Call {
     Limit,
     Told(Event),
     Part,
+    SetSaved,
+    IsSaved,
     Begin,
     End,
     EndOne,
@@ -159,6 +161,11 @@ pub(crate) fn make(
             record.part();
             Ok(1)
         }
+        Call::SetSaved => {
+            record.set_saved();
+            Ok(1)
+        }
+        Call::IsSaved => Ok(usize::from(record.is_saved())),
         Call::Begin => record.begin(),
         Call::End => truth(record.end()),
         Call::EndOne => truth(record.end_one()),
@@ -227,6 +234,82 @@ fn a_group_comes_and_goes_as_one(rt: HostRuntime) -> Result<(), Fail> {
         (Call::Insert('d', 1), 1, "abcd", 4, 5, 0),
     ];
     goes(&rt, rt.alloc(), "", STEPS)
+}
+
+#[test]
+fn a_record_comes_back_to_its_save(rt: HostRuntime) -> Result<(), Fail> {
+    const TYPED: &[Step] = &[
+        (Call::IsSaved, 0, "", 0, 0, 0),
+        (Call::SetSaved, 1, "", 0, 0, 0),
+        (Call::IsSaved, 1, "", 0, 0, 0),
+        (Call::Insert('a', 1), 1, "a", 1, 1, 0),
+        (Call::IsSaved, 0, "a", 1, 1, 0),
+        (Call::Undo(1), 1, "", 0, 0, 0),
+        (Call::IsSaved, 1, "", 0, 0, 0),
+        (Call::Redo, 1, "a", 1, 1, 0),
+        (Call::IsSaved, 0, "a", 1, 1, 0),
+        // in the middle of a word: what comes is an undo of its own
+        (Call::SetSaved, 1, "a", 1, 1, 0),
+        (Call::Insert('b', 1), 1, "ab", 2, 2, 0),
+        (Call::Insert('c', 1), 1, "abc", 3, 2, 0),
+        (Call::IsSaved, 0, "abc", 3, 2, 0),
+        (Call::Undo(1), 1, "a", 1, 1, 0),
+        (Call::IsSaved, 1, "a", 1, 1, 0),
+        (Call::Redo, 1, "abc", 3, 2, 0),
+        (Call::IsSaved, 0, "abc", 3, 2, 0),
+        // an undo and a redo that come to the save part it from what comes
+        (Call::Undo(1), 1, "a", 1, 1, 0),
+        (Call::Told(Event::Cursors(0, 0)), 1, "a", 1, 1, 0),
+        (Call::Insert('d', 1), 1, "ad", 2, 2, 0),
+        (Call::Undo(2), 1, "", 0, 0, 0),
+        (Call::IsSaved, 0, "", 0, 0, 0),
+        (Call::Redo, 1, "a", 1, 1, 0),
+        (Call::IsSaved, 1, "a", 1, 1, 0),
+        (Call::Insert('e', 1), 1, "ae", 2, 2, 0),
+        // what the save was made of is gone for good
+        (Call::Undo(2), 1, "", 0, 0, 0),
+        (Call::Insert('a', 1), 1, "a", 1, 1, 0),
+        (Call::IsSaved, 0, "a", 1, 1, 0),
+        (Call::Insert('-', 1), 1, "a-", 2, 2, 0),
+        (Call::SetSaved, 1, "a-", 2, 2, 0),
+        (Call::Undo(1), 1, "a", 1, 1, 0),
+        (Call::Insert('b', 1), 1, "ab", 2, 1, 0),
+        (Call::Insert('-', 1), 1, "ab-", 3, 2, 0),
+        (Call::IsSaved, 0, "ab-", 3, 2, 0),
+    ];
+    goes(&rt, rt.alloc(), "", TYPED)?;
+    const GROUPS: &[Step] = &[
+        (Call::Insert('a', 1), 1, "a", 1, 1, 0),
+        (Call::SetSaved, 1, "a", 1, 1, 0),
+        (Call::Begin, 1, "a", 1, 2, 1),
+        (Call::IsSaved, 0, "a", 1, 2, 1),
+        (Call::End, 0, "a", 1, 1, 0),
+        (Call::IsSaved, 1, "a", 1, 1, 0),
+        (Call::Insert('b', 1), 1, "ab", 2, 2, 0),
+        (Call::Undo(1), 1, "a", 1, 1, 0),
+        // the begin before a save is removed
+        (Call::Begin, 1, "a", 1, 2, 1),
+        (Call::SetSaved, 1, "a", 1, 2, 1),
+        (Call::IsSaved, 1, "a", 1, 2, 1),
+        (Call::End, 0, "a", 1, 1, 0),
+        (Call::IsSaved, 0, "a", 1, 1, 0),
+        // an end comes in its place
+        (Call::Begin, 1, "a", 1, 2, 1),
+        (Call::Insert('b', 1), 1, "ab", 2, 3, 1),
+        (Call::Begin, 3, "ab", 2, 4, 2),
+        (Call::SetSaved, 1, "ab", 2, 4, 2),
+        (Call::End, 1, "ab", 2, 4, 0),
+        (Call::IsSaved, 0, "ab", 2, 4, 0),
+        (Call::SetSaved, 1, "ab", 2, 4, 0),
+        (Call::Insert('c', 1), 1, "abc", 3, 5, 0),
+        (Call::Back(1), 1, "ab", 2, 6, 0),
+        (Call::Truncate(4), 1, "ab", 2, 4, 0),
+        (Call::IsSaved, 1, "ab", 2, 4, 0),
+        (Call::Reopen, 1, "ab", 2, 3, 1),
+        (Call::EndOne, 1, "ab", 2, 4, 0),
+        (Call::IsSaved, 0, "ab", 2, 4, 0),
+    ];
+    goes(&rt, rt.alloc(), "", GROUPS)
 }
 
 #[test]

@@ -57,7 +57,7 @@ pub use Rattle.rl_session.specs.Replies.{replied}
 pub use Rattle.rl_session.specs.Run.{AfterEach, Leads, Row, Run, before_last, commands_of, held, held_by, held_of, replies_of, reports, reports_of, steps_done, steps_in, texts_of_steps}
 pub use Rattle.rl_session.specs.Script.{CutOutputs, HasNext, IsCut, Leaves, LineOut, Outputs, Ran, Stopped, StoppedBy, started}
 pub use Rattle.rl_session.specs.Spelling.{Escapes, NamesChar, Numbered, NumberedText, Spells, SpellsChar, SpellsRest, are_digits, braced, hex_digit, hex_from, letter, letter_of, number_of, plain, rest, value_from, word}
-pub use Rattle.rl_session.specs.State.{AtRest, ChangedFrom, Ends, Follows, IsBounded, Replays, ReportedFrom, Stands, State, no_changes, origin, restarted, with_ring, with_watch}
+pub use Rattle.rl_session.specs.State.{AtRest, ChangedFrom, Ends, Follows, IsBounded, Replays, ReportedFrom, Stands, State, origin, restarted, with_ring, with_watch}
 pub use Rattle.rl_session.specs.Writes.{ArePlain, is_special}
 pub use Rattle.rl_session.specs.declared.grammar.ScriptLine.{ScriptLine}
 pub use Rattle.rl_session.specs.declared.options.Bound.{Bound}

@@ -9,3 +9,4 @@ pub mod RestartLemmas
 pub mod WatchLemmas
 pub mod QuietLemmas
 pub mod StepLemmas
+pub mod LimitLemmas

@@ -1,5 +1,5 @@
 -- How a session measures columns, and how much its record and its ring may hold.
-use Rattle.std.specs.Prelude.{◌^◌, ◌-◌}
+use Rattle.std.specs.Prelude.{◌^◌, ◌-◌, false}
 use Rattle.rl_base.specs.Widths.{blank_layout, origin}
 use Rattle.rl_base.specs.declared.layout.GraphemeClusterMode.{GraphemeClusterMode}
 use Rattle.rl_base.specs.declared.layout.Layout.{Layout}
@@ -10,9 +10,9 @@ use Rattle.rl_session.specs.declared.options.Options.{Options}
 abbrev pub no_bound : Bound
 no_bound = record { entries = 2 ^ 64 - 1; bytes = 2 ^ 64 - 1; ring_bytes = 2 ^ 64 - 1 }
 
--- the options of a new session: a prompt that ends at column 0, and no bound
+-- the options of a new session: a prompt that ends at column 0, no bound, and a limit that does not hold
 abbrev pub plain : GraphemeClusterMode → Options
-plain mode = record { mode = mode; prompt = 0; bound = no_bound }
+plain mode = record { mode = mode; prompt = 0; bound = no_bound; holds = false }
 
 -- the layout by which motions over lines go: the prompt ends at its column
 abbrev pub layout_of : Options → Layout

@@ -4,7 +4,7 @@ use Rattle.std.specs.Fmt.{decimal}
 use Rattle.std.specs.String.{string_bytes}
 use Rattle.rl_session.specs.State.{State}
 use Rattle.rl_session.specs.declared.session.Fault.{Fault}
-use Rattle.rl_session.specs.declared.session.Fault.TheVariants.{NoMemory, BadPlace, BadYankSize, NotReplaying}
+use Rattle.rl_session.specs.declared.session.Fault.TheVariants.{NoMemory, BadPlace, BadYankSize, NotReplaying, TooLong}
 use Rattle.rl_session.specs.declared.session.Reply.{Reply}
 use Rattle.rl_session.specs.declared.session.Reply.TheVariants.{Done, Answer, Inserted, Text, Mark, At, Refused}
 
@@ -28,6 +28,7 @@ number_of_fault NoMemory = 1
 number_of_fault BadPlace = 2
 number_of_fault BadYankSize = 3
 number_of_fault NotReplaying = 4
+number_of_fault TooLong = 5
 
 -- backslash, newline, carriage return and tab, and in a text among words also the space, are printed by two bytes each,
 -- any other byte as it is

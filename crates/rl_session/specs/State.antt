@@ -1,5 +1,5 @@
 -- What a session holds.
-use Rattle.std.specs.Prelude.{◌≡◌, ℕ, ◌^◌, ◌<◌, ◌≤◌, max, false, true, IsSome, List, [], length, Option, Some, Result, Ok, Err}
+use Rattle.std.specs.Prelude.{◌≡◌, ℕ, ◌^◌, ◌<◌, ◌≤◌, max, Bool, false, true, IsSome, List, [], length, Option, Some, Result, Ok, Err}
 use Rattle.std.specs.Str.{IsCharBoundary, IsUtf8}
 use Rattle.rl_base.specs.Event.{Cursors, Replace}
 use Rattle.rl_base.specs.KillRing.{Ring, IsRing, new_ring, reset}
@@ -7,16 +7,15 @@ use Rattle.rl_base.specs.Reports.{IsLineText}
 use Rattle.rl_base.specs.Splice.{Covers}
 use Rattle.rl_base.specs.Watch.{Watched, ReportsLead, new_watch, watch_step}
 use Rattle.rl_base.specs.declared.layout.GraphemeClusterMode.{GraphemeClusterMode}
-use Rattle.rl_line.specs.declared.change.Freshness.TheVariants.{Stale}
 use Rattle.rl_line.specs.Line.{Line, NeedsRoom}
-use Rattle.rl_line.specs.Record.{Record, replay_entries, unwind}
+use Rattle.rl_line.specs.Record.{Record, no_changes, replay_entries, saved_here, unwind}
 use Rattle.rl_line.specs.Undo.{line_ahead, line_back}
 use Rattle.rl_line.specs.Walk.{Walks}
 use Rattle.rl_session.specs.Options.{plain}
 use Rattle.rl_session.specs.declared.options.Options.{Options}
 use Rattle.rl_session.specs.declared.pair.Pair.{Pair}
 use Rattle.rl_session.specs.declared.session.Fault.{Fault}
-use Rattle.rl_session.specs.declared.session.Fault.TheVariants.{NoMemory, BadPlace}
+use Rattle.rl_session.specs.declared.session.Fault.TheVariants.{NoMemory, BadPlace, TooLong}
 
 pub record State : Type 0 where
   pub line : Line
@@ -64,6 +63,16 @@ with_ring ring s = record s { pair = record s.pair { ring = ring } }
 abbrev pub limited : ℕ → State → State
 limited limit s = record s { line = record s.line { limit = max limit (length s.line.text) } }
 
+-- the same with a limit that holds, or does not
+abbrev pub holding : Bool → State → State
+holding holds s = record s { options = record s.options { holds = holds } }
+
+-- a session whose limit holds, and whose line has no leave to grow past it, as that of no session has
+pub record HoldsLimit (s : State) : Type 0 where
+  pub stands : Stands s
+  pub holds : s.options.holds ≡ true
+  pub grows_not : s.line.grow ≡ false
+
 -- the same with a prompt that ends at another column
 abbrev pub prompted : ℕ → State → State
 prompted column s = record s { options = record s.options { prompt = column } }
@@ -72,9 +81,9 @@ prompted column s = record s { options = record s.options { prompt = column } }
 abbrev pub with_mode : GraphemeClusterMode → State → State
 with_mode mode s = record s { options = record s.options { mode = mode } }
 
--- nothing is recorded, and nothing was undone
-abbrev pub no_changes : Record
-no_changes = record { recorded = []; pending = []; fresh = Stale }
+-- the same, whose text is saved as it is
+abbrev pub saved_now : State → State
+saved_now s = record s { pair = record s.pair { changes = saved_here s.pair.changes } }
 
 -- the state of a new session
 abbrev pub fresh : List ℕ → ℕ → ℕ → ℕ → GraphemeClusterMode → State
@@ -107,9 +116,11 @@ restarted text pos s = record {
   options = s.options;
 }
 
--- why a session is not restarted: the place is no boundary of the text, or memory is out for a text that needs more room
+-- why a session is not restarted: the place is no boundary of the text, the text is longer than a limit that holds, or memory
+-- is out for a text that needs more room
 abbrev pub RefusesRestart : Fault → List ℕ → ℕ → State → Type 0
 RefusesRestart BadPlace text pos s = ¬ (IsCharBoundary text pos)
+RefusesRestart TooLong text pos s = IsCharBoundary text pos × (s.options.holds ≡ true) × (s.line.limit < length text)
 RefusesRestart NoMemory text pos s = IsCharBoundary text pos × NeedsRoom s.line.text text
 RefusesRestart _ text pos s = ⊥
 

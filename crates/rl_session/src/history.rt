@@ -3,11 +3,11 @@
 //! restarted begin one (`record_is_placed`), and each run goes on with it. After `forget` it is that of the texts from the one
 //! on with which the record then begins (`what_is_left_replays`).
 ghost use Rattle.std.specs.Prelude.{◌≡◌, ◌++◌, ◌∷◌, [], ℕ, List, IsSome, drop, length, suc, true};
-ghost use Rattle.rl_line.specs.Record.{Entry, replay_entries};
+ghost use Rattle.rl_line.specs.Record.{Entry, StaysSaved, is_saved, replay_entries};
 ghost use Rattle.rl_line.specs.Units.{BothMatched, has_change, last_of, last_units, level, opens, undone};
 ghost use Rattle.rl_session.specs.History.{AllRedone, AllStandInGroup, ClosesGroup, Holds, IsEdit, WasHeld, WasRefused};
 ghost use Rattle.rl_session.specs.Run.{Row, Run, held_of};
-ghost use Rattle.rl_session.specs.State.{Begins, Stands, State};
+ghost use Rattle.rl_session.specs.State.{Begins, Stands, State, saved_now};
 ghost use Rattle.rl_session.specs.declared.session.Command.{Command};
 ghost use Rattle.rl_session.specs.declared.session.Command.TheVariants.{Begin, Redo, Undo};
 ghost use Rattle.rl_session.specs.declared.session.Reply.{Reply};
@@ -81,6 +81,16 @@ pub fn undo_gives_back_the_cursor()
         → row.after.pair.changes.recorded ≡ row.before.pair.changes.recorded ++ e ∷ []
         → back.command ≡ Undo 1 → ¬ (WasRefused back.reply) → again.command ≡ Redo → ¬ (WasRefused again.reply)
         → (again.after.line.text ≡ row.after.line.text) × (again.after.line.cursor ≡ row.after.line.cursor) }
+{}
+
+/// Once a text was saved (`Session::set_saved`), a run that ends with a record which says so ends with that text, whatever
+/// was done on the way. No command leaves a save point with other entries before it.
+pub fn a_saved_text_comes_back()
+    ensures stays { (es : List Entry) (old new : State) (commands : List Command) (replies : List Reply)
+        → Run old commands replies new → StaysSaved es old.pair.changes → StaysSaved es new.pair.changes }
+    ensures text { (start : List ℕ) (held : List (List ℕ)) (old new : State) (commands : List Command) (replies : List Reply)
+        → Holds start held old → Run (saved_now old) commands replies new → is_saved new.pair.changes ≡ true
+        → new.line.text ≡ old.line.text }
 {}
 
 /// Right after an undo, as many redos as it took units give back the text, the recorded entries and the undone ones

@@ -37,10 +37,12 @@ pub struct Options {
     pub prompt: Unit,
     /// How much the record and the ring may hold.
     pub bound: Bound,
+    /// Whether the limit on the text's length holds: no command makes the text longer, and what would is refused.
+    pub holds: bool,
 }
 
 impl Options {
-    /// The options of a new session: a prompt that ends at column 0, and no bound.
+    /// The options of a new session: a prompt that ends at column 0, no bound, and a limit that does not hold.
     pub fn new(mode: GraphemeClusterMode) -> Self
         ensures { result ≡ plain mode }
     {
@@ -48,6 +50,7 @@ impl Options {
             mode,
             prompt: 0,
             bound: Bound::none(),
+            holds: false,
         }
     }
 

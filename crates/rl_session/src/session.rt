@@ -8,7 +8,7 @@ ghost use Rattle.rl_base.specs.KillRing.{reset};
 ghost use Rattle.rl_base.specs.Reports.{HasTexts, LacksTexts, Noted, Stand, TellsByTexts, after_numbers, after_texts, new_queue, texts_of};
 ghost use Rattle.rl_base.specs.Splice.{Splices, told, untouched};
 ghost use Rattle.rl_base.specs.Watch.{RefusesQueue, next_note, past_next, text_room, waiting_count};
-ghost use Rattle.rl_session.specs.State.{State, ChangedFrom, Follows, IsBounded, ReportedFrom, Ends, Stands, with_ring, with_watch, Replays, origin};
+ghost use Rattle.rl_session.specs.State.{State, ChangedFrom, Follows, HoldsLimit, IsBounded, ReportedFrom, Ends, Stands, with_ring, with_watch, Replays, origin};
 ghost use Rattle.rl_session.specs.Commands.{Step};
 ghost use Rattle.rl_session.specs.Run.{Row, Run, AfterEach, commands_of, held_of, replies_of, reports, reports_of};
 ghost use Rattle.rl_session.specs.declared.session.Command.{Command};
@@ -131,6 +131,9 @@ pub enum Fault {
     /// The entries to keep do not lead to the present text.
     #[error("the kept entries do not reproduce the text")]
     NotReplaying = 4,
+    /// The limit holds, and the text would get longer.
+    #[error("the text would get longer than its limit")]
+    TooLong = 5,
 }
 
 // The numbers are part of the interface: a refusal is printed with the number of its fault.
@@ -141,6 +144,8 @@ const _: () = prove!(Fault::BadPlace as u8 == 2);
 const _: () = prove!(Fault::BadYankSize as u8 == 3);
 
 const _: () = prove!(Fault::NotReplaying as u8 == 4);
+
+const _: () = prove!(Fault::TooLong as u8 == 5);
 
 /// What a session answers.
 #[derive(Debug, Drop, PartialEq, Eq)]
@@ -487,4 +492,13 @@ pub fn what_changed_is_told()
         → ChangedFrom asked old → ChangedFrom asked new }
     ensures reported_over { (read : List ℕ) (old new : State) (commands : List Command) (replies : List Reply) (run : Run old commands replies new)
         → ReportedFrom read old → ReportedFrom read new }
+{}
+
+/// Where the limit holds, no command makes the text longer than it: each leaves the limit as it was, to which the text
+/// keeps (`Stands`), and what would raise it is refused. So over a run.
+pub fn a_limit_that_holds_stays()
+    ensures step { (old new : State) (command : Command) (reply : Reply) → Step old command reply new → HoldsLimit old
+        → HoldsLimit new × (new.line.limit ≡ old.line.limit) }
+    ensures run { (old new : State) (commands : List Command) (replies : List Reply) (run : Run old commands replies new)
+        → HoldsLimit old → HoldsLimit new × (new.line.limit ≡ old.line.limit) }
 {}

@@ -558,19 +558,20 @@ pub(crate) fn is_so(rt: &impl Abort, is_so: bool, what: &str) {
 #[test]
 fn faults_have_words_and_numbers(rt: HostRuntime) -> Result<(), Fail> {
     let said = format!(in rt.alloc();
-        "{}, {}, {}, {}, {}, {}, {}",
+        "{}, {}, {}, {}, {}, {}, {}, {}",
         ScriptFault::Read,
         ScriptFault::Write,
         ScriptFault::NoMemory,
         Fault::NoMemory,
         Fault::BadPlace,
         Fault::BadYankSize,
-        Fault::NotReplaying
+        Fault::NotReplaying,
+        Fault::TooLong
     )?;
     is_so(
         &rt,
         said.as_str()
-            == "read failed, write failed, no memory, out of memory, no such place in the text, the text before the cursor was not just yanked, the kept entries do not reproduce the text",
+            == "read failed, write failed, no memory, out of memory, no such place in the text, the text before the cursor was not just yanked, the kept entries do not reproduce the text, the text would get longer than its limit",
         "the faults' words",
     );
     let read_or_written = ScriptFault::Read as u8 == 1 && ScriptFault::Write as u8 == 2;
@@ -578,6 +579,11 @@ fn faults_have_words_and_numbers(rt: HostRuntime) -> Result<(), Fail> {
     is_so(&rt, numbered, "the numbers of a script's faults");
     let first = Fault::NoMemory as u8 == 1 && Fault::BadPlace as u8 == 2;
     let last = Fault::BadYankSize as u8 == 3 && Fault::NotReplaying as u8 == 4;
+    is_so(
+        &rt,
+        Fault::TooLong as u8 == 5,
+        "the number of a limit's fault",
+    );
     is_so(&rt, first && last, "the numbers of a session's faults");
     Ok(())
 }

@@ -1,6 +1,6 @@
 //! Rows of sessions.
 use crate::script::is_so;
-use rl_base::{At, GraphemeClusterMode, Movement, RepeatCount, Unit, Word};
+use rl_base::{At, GraphemeClusterMode, Movement, RepeatCount, Unit, Word, WordAction};
 use rl_session::{Bound, Command, Fault, Reply, Session};
 use std::alloc::Global;
 use std::process::Abort;
@@ -292,6 +292,81 @@ fn kills_on(rt: &impl Abort, session: &mut Session) -> Result<(), Fail> {
     session.set_limit(7);
     replies(rt, session, &yank, &Reply::Inserted(Some(true)));
     shows(rt, session, "\nxab cd", 7);
+    Ok(())
+}
+
+// Applies a command that is refused for the limit, and changes nothing.
+fn is_too_long(rt: &impl Abort, session: &mut Session, command: &Command, text: &str, pos: usize) {
+    let limit = session.line().limit();
+    replies(rt, session, command, &Reply::Refused(Fault::TooLong));
+    shows(rt, session, text, pos);
+    is_so(rt, session.line().limit() == limit, text);
+}
+
+// A limit that holds: what fits goes in, and a byte more does not.
+fn holds_its_limit(rt: &impl Abort, alloc: Global, session: &mut Session) -> Result<(), Fail> {
+    session.set_limit_holds(true);
+    let more = Command::Replace(0, 1, String::from_str(alloc, "xyz")?);
+    is_too_long(rt, session, &more, "a\n ŉ", 5);
+    let fits = Command::Replace(0, 1, String::from_str(alloc, "xy")?);
+    replies(rt, session, &fits, &Reply::Done);
+    shows(rt, session, "xy\n ŉ", 2);
+    let one = Command::InsertStr(0, String::from_str(alloc, "1")?);
+    is_too_long(rt, session, &one, "xy\n ŉ", 2);
+    let bad = Command::InsertStr(9, String::from_str(alloc, "1")?);
+    replies(rt, session, &bad, &Reply::Refused(Fault::BadPlace));
+    let indent = Command::Indent(Movement::WholeBuffer, 1, false);
+    is_too_long(rt, session, &indent, "xy\n ŉ", 2);
+    replies(rt, session, &Command::SetPos(3), &Reply::Done);
+    is_too_long(
+        rt,
+        session,
+        &Command::EditWord(WordAction::Uppercase),
+        "xy\n ŉ",
+        3,
+    );
+    replies(rt, session, &Command::SetPos(2), &Reply::Done);
+    let dedent = Command::Indent(Movement::WholeBuffer, 1, true);
+    replies(rt, session, &dedent, &Reply::Answer(true));
+    shows(rt, session, "xy\nŉ", 2);
+    session.set_limit(0);
+    is_too_long(rt, session, &Command::Undo(1), "xy\nŉ", 2);
+    session.set_limit(6);
+    replies(rt, session, &Command::Undo(1), &Reply::Answer(true));
+    shows(rt, session, "xy\n ŉ", 2);
+    replies(rt, session, &Command::Undo(1), &Reply::Answer(true));
+    session.set_limit(5);
+    is_too_long(rt, session, &Command::Redo, "a\n ŉ", 5);
+    session.set_limit(6);
+    replies(rt, session, &Command::Redo, &Reply::Answer(true));
+    shows(rt, session, "xy\n ŉ", 2);
+    let is_long = session.restart("1234567", 0) == Err(Fault::TooLong);
+    is_so(rt, is_long, "a restart past the limit");
+    shows(rt, session, "xy\n ŉ", 2);
+    session.restart("123456", 6)?;
+    session.set_limit_holds(false);
+    replies(rt, session, &one, &Reply::Answer(false));
+    is_so(
+        rt,
+        session.line().limit() == 7,
+        "a limit that does not hold",
+    );
+    Ok(())
+}
+
+#[test]
+fn a_limit_holds(rt: HostRuntime) -> Result<(), Fail> {
+    let mode = GraphemeClusterMode::Unicode;
+    let mut session = Session::open(rt.alloc(), "a\n ŉ", 5, 6, 60, mode)?;
+    holds_its_limit(&rt, rt.alloc(), &mut session)?;
+    // On the way the first word stands twice.
+    let mut words = Session::open(rt.alloc(), "three one", 6, 9, 60, mode)?;
+    words.set_limit_holds(true);
+    let exchange = Command::TransposeWords(1);
+    is_too_long(&rt, &mut words, &exchange, "three one", 6);
+    words.set_limit(11);
+    replies(&rt, &mut words, &exchange, &Reply::Answer(true));
+    shows(&rt, &words, "one three", 9);
     Ok(())
 }
 

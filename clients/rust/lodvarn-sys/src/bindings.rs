@@ -48,6 +48,9 @@ pub type lodvarn_case = ::std::os::raw::c_uint;
 pub const LODVARN_INDENT: lodvarn_indentation = 70;
 pub const LODVARN_DEDENT: lodvarn_indentation = 71;
 pub type lodvarn_indentation = ::std::os::raw::c_uint;
+pub const LODVARN_BEFORE: lodvarn_side = 80;
+pub const LODVARN_AFTER: lodvarn_side = 81;
+pub type lodvarn_side = ::std::os::raw::c_uint;
 #[repr(C)]
 #[derive(Debug, Copy, Clone)]
 pub struct lodvarn_view {
@@ -108,6 +111,7 @@ pub struct lodvarn_options {
     pub max_entries: usize,
     pub max_bytes: usize,
     pub max_ring_bytes: usize,
+    pub limit_holds: bool,
 }
 pub const LODVARN_WHOLE_LINE_: lodvarn_movement_kind = 100;
 pub const LODVARN_TO_LINE_START_: lodvarn_movement_kind = 101;
@@ -264,6 +268,9 @@ extern "C" {
 }
 extern "C" {
     pub fn lodvarn_part(s: *mut lodvarn) -> ::std::os::raw::c_int;
+}
+extern "C" {
+    pub fn lodvarn_set_saved(s: *mut lodvarn) -> ::std::os::raw::c_int;
 }
 extern "C" {
     pub fn lodvarn_begin_group(s: *mut lodvarn) -> ::std::os::raw::c_int;
@@ -429,6 +436,9 @@ extern "C" {
     pub fn lodvarn_can_redo(s: *mut lodvarn) -> bool;
 }
 extern "C" {
+    pub fn lodvarn_is_saved(s: *mut lodvarn) -> bool;
+}
+extern "C" {
     pub fn lodvarn_ring_count(s: *mut lodvarn) -> usize;
 }
 extern "C" {
@@ -517,6 +527,14 @@ extern "C" {
         starts: *mut usize,
         cap: usize,
         count: *mut usize,
+    ) -> ::std::os::raw::c_int;
+}
+extern "C" {
+    pub fn lodvarn_moved(
+        change: *const lodvarn_splice,
+        place: usize,
+        side: lodvarn_side,
+        moved: *mut usize,
     ) -> ::std::os::raw::c_int;
 }
 #[repr(C)]

@@ -31,6 +31,7 @@ pub const LODVARN_OPTIONS: lodvarn_options = lodvarn_options {
     max_entries: LODVARN_NO_BOUND,
     max_bytes: LODVARN_NO_BOUND,
     max_ring_bytes: LODVARN_NO_BOUND,
+    limit_holds: false,
 };
 
 #[cfg(test)]

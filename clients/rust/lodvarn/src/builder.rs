@@ -89,6 +89,13 @@ impl<'t> SessionBuilder<'t> {
         self
     }
 
+    /// Lets no command make the text longer than the limit: what would is refused with
+    /// [`Fault::NoRoom`](crate::Fault::NoRoom).
+    pub fn limit_holds(mut self, limit_holds: bool) -> Self {
+        self.options.limit_holds = limit_holds;
+        self
+    }
+
     /// Opens the session. No room is found for the limit before it is needed.
     ///
     /// # Errors

@@ -14,10 +14,12 @@ mod parts;
 pub use parts::Known;
 pub(crate) use parts::{Line, RawLine, Record, Ring};
 
-use crate::changes::Report;
+use crate::changes::{Report, Splice};
 use crate::ffi::*;
 use crate::found;
-use crate::words::{Case, Direction, Fault, Mode, Movement, Options, Position, ReportKind, Screen};
+use crate::words::{
+    Case, Direction, Fault, Mode, Movement, Options, Position, ReportKind, Screen, Side,
+};
 use std::ffi::CStr;
 use std::mem::MaybeUninit;
 use std::ops::Range;
@@ -189,6 +191,7 @@ impl Handle<lodvarn> {
     calls! {
         fn part(&mut self) = lodvarn_part();
         fn clear_ring(&mut self) = lodvarn_clear_ring();
+        fn set_saved(&mut self) = lodvarn_set_saved();
         fn copy(&mut self, movement: Movement, out: &mut [u8], len: &mut usize)
             = lodvarn_copy(movement.passed(), out.as_mut_ptr().cast(), out.len(), len);
         fn watch(&mut self, reports: usize, text_bytes: usize)
@@ -304,6 +307,12 @@ pub(crate) fn clusters(
     let (at, len) = (start_of(text), text.len());
     let (to, cap) = (clusters.as_mut_ptr(), clusters.len());
     written(|out| unsafe { lodvarn_clusters(mode as u32, at, len, to, cap, out) })
+}
+
+pub(crate) fn moved(change: Splice, place: usize, side: Side) -> Result<Option<usize>, Fault> {
+    let Splice { from, old_to, new_to } = change;
+    let change = lodvarn_splice { from, old_to, new_to };
+    written(|out| unsafe { lodvarn_moved(&change, place, side as u32, out) })
 }
 
 pub(crate) fn answer_name(answer: i32) -> &'static str {

@@ -1,8 +1,8 @@
 //! What changed in the text of a session: as one splice, as reports, or told to a listener.
 use crate::calls::methods;
 use crate::listeners::ChangeListener;
-use crate::words::{Direction, Fault, ReportKind};
-use crate::{done, is_done, told, Session};
+use crate::words::{Direction, Fault, ReportKind, Side};
+use crate::{calls, done, is_done, told, Session};
 use std::error::Error;
 use std::fmt;
 
@@ -16,6 +16,34 @@ pub struct Splice {
     pub old_to: usize,
     /// Where it ends in the new text.
     pub new_to: usize,
+}
+
+impl Splice {
+    /// Where a place of the text before the change stands in the text after it. So a mark, or the end of a selection
+    /// without the cursor, stays with its text. A place inside of what went goes to the start of what came, or for
+    /// [`Side::After`] to its end. Of several changes the reports are exact, one after another, by [`Report::splice`]: in
+    /// the one splice that [`Session::take_change`] makes of them, a place between them goes to an end of it.
+    ///
+    /// ```
+    /// # use lodvarn::{Fault, Session, Side};
+    /// # fn main() -> Result<(), Fault> {
+    /// let mut session = Session::builder().text("one two").pos(0).open()?;
+    /// let mut mark = 4;
+    /// session.replace(0..3, "three")?;
+    /// if let Some(change) = session.take_change() {
+    ///     mark = change.moved(mark, Side::Before)?;
+    /// }
+    /// assert_eq!(&session.text()[mark..], "two");
+    /// # Ok(())
+    /// # }
+    /// ```
+    ///
+    /// # Errors
+    ///
+    /// [`Fault::BadPlace`] if `old_to` or `new_to` is before `from`, or the place would be past the greatest `usize`.
+    pub fn moved(self, place: usize, side: Side) -> Result<usize, Fault> {
+        Ok(calls::moved(self, place, side)?.unwrap_or(place))
+    }
 }
 
 /// A report of a change. Its place is one of the text that the reports before it have led to. Places and lengths are in

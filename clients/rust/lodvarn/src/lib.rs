@@ -50,7 +50,7 @@ pub use record::Group;
 pub use texts::{clusters, first_cluster, last_cluster, run_script, width};
 pub use words::{
     At, Case, CharSearch, Cluster, Direction, Fault, Inserted, Mode, Movement, Options, Position,
-    ReportKind, Screen, Word,
+    ReportKind, Screen, Side, Word,
 };
 
 use calls::Handle;

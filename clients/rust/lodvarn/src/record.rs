@@ -105,6 +105,27 @@ impl Session {
         let answer = self.handle.part();
         debug_assert!(answer >= 0);
     }
+
+    /// Says that the text is saved as it is. The next change is undone alone, so that an undo may come back to it. A session
+    /// begins unsaved.
+    ///
+    /// ```
+    /// # use lodvarn::{Fault, Session};
+    /// # fn main() -> Result<(), Fault> {
+    /// let mut session = Session::builder().open()?;
+    /// session.insert('a', 1)?;
+    /// session.set_saved();
+    /// session.insert('b', 1)?;
+    /// assert!(!session.is_saved());
+    /// session.undo(1)?;
+    /// assert_eq!((session.text(), session.is_saved()), ("a", true));
+    /// # Ok(())
+    /// # }
+    /// ```
+    pub fn set_saved(&mut self) {
+        let answer = self.handle.set_saved();
+        debug_assert!(answer >= 0);
+    }
 }
 
 methods! {
@@ -196,6 +217,10 @@ methods! {
 
     /// Whether a redo would find a change.
     pub fn can_redo(&self) -> bool = lodvarn_can_redo();
+
+    /// Whether the text is the one for which [`set_saved`](Session::set_saved) was called last, also after undos and redos.
+    /// It is false for good once a change from before the save is dropped or forgotten.
+    pub fn is_saved(&self) -> bool = lodvarn_is_saved();
 
     /// How many entries the record has: changes, and the marks where groups begin and end.
     pub fn entries(&self) -> usize = lodvarn_entries();

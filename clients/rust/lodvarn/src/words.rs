@@ -209,6 +209,16 @@ pub enum Direction {
     Backward = ffi::LODVARN_BACKWARD,
 }
 
+/// The side of a place on which it stays when it moves by a change.
+#[derive(Clone, Copy, Debug, PartialEq, Eq, Hash)]
+#[repr(u32)]
+pub enum Side {
+    /// With the text before it: what is inserted at the place goes after it.
+    Before = ffi::LODVARN_BEFORE,
+    /// With the text after it: what is inserted at the place goes before it.
+    After = ffi::LODVARN_AFTER,
+}
+
 /// What may be chosen of a session. Begin with those of a session, or with [`Options::default`], and change what should
 /// differ.
 #[derive(Clone, Copy, Debug, PartialEq, Eq, Hash)]
@@ -232,6 +242,8 @@ pub struct Options {
     pub max_bytes: Option<usize>,
     /// How many bytes the texts of the kill ring may have together. At first `None`.
     pub max_ring_bytes: Option<usize>,
+    /// Whether no command makes the text longer than the limit: what would is refused with [`Fault::NoRoom`].
+    pub limit_holds: bool,
 }
 
 impl Options {
@@ -245,6 +257,7 @@ impl Options {
             max_entries: self.max_entries.unwrap_or(ffi::LODVARN_NO_BOUND),
             max_bytes: self.max_bytes.unwrap_or(ffi::LODVARN_NO_BOUND),
             max_ring_bytes: self.max_ring_bytes.unwrap_or(ffi::LODVARN_NO_BOUND),
+            limit_holds: self.limit_holds,
             ..ffi::LODVARN_OPTIONS
         }
     }
@@ -262,6 +275,7 @@ impl Options {
             max_entries: bounded(options.max_entries, ffi::LODVARN_NO_BOUND),
             max_bytes: bounded(options.max_bytes, ffi::LODVARN_NO_BOUND),
             max_ring_bytes: bounded(options.max_ring_bytes, ffi::LODVARN_NO_BOUND),
+            limit_holds: options.limit_holds,
         }
     }
 }

@@ -1,7 +1,7 @@
 //! What sessions tell of their changes, with answers that were worked out by hand, and a listener that mirrors a random
 //! session.
 use heard::{panic_of, Heard};
-use lodvarn::{ChangeListener, Fault, Movement, Session, Splice, Untold, Word};
+use lodvarn::{ChangeListener, Fault, Movement, Session, Side, Splice, Untold, Word};
 use random::{command, Random};
 
 #[allow(dead_code)]
@@ -43,6 +43,56 @@ fn reports(session: &mut Session, wanted: &[&str]) {
     }
     assert_eq!((session.next_report(), session.count_reports()), (None, 0));
     assert!(!session.forget_report());
+}
+
+#[test]
+fn a_place_moves_by_a_change() -> Result<(), Fault> {
+    let rows = [
+        (splice(3, 3, 5), [(2, 2, 2), (3, 3, 5), (4, 6, 6)]),
+        (splice(2, 6, 2), [(2, 2, 2), (4, 2, 2), (7, 3, 3)]),
+        (splice(2, 6, 5), [(2, 2, 2), (3, 2, 5), (6, 5, 5)]),
+    ];
+    for (change, places) in rows {
+        for (place, before, after) in places {
+            assert_eq!(
+                change.moved(place, Side::Before),
+                Ok(before),
+                "{place} by {change:?}"
+            );
+            assert_eq!(
+                change.moved(place, Side::After),
+                Ok(after),
+                "{place} by {change:?}"
+            );
+        }
+    }
+    for (bad, place) in [
+        (splice(2, 1, 2), 0),
+        (splice(2, 2, 1), 0),
+        (splice(0, 0, 1), usize::MAX),
+    ] {
+        assert_eq!(bad.moved(place, Side::Before), Err(Fault::BadPlace));
+    }
+    let (mut s, _) = watched("one é two", 4, 0);
+    let mut mark = 4;
+    for (from, to, with, moved) in [(0, 1, "語", 6), (6, 6, "x", 6), (5, 10, "", 5)] {
+        s.replace(from..to, with)?;
+        mark = s
+            .next_report()
+            .expect("a report")
+            .splice()
+            .moved(mark, Side::Before)?;
+        s.forget_report();
+        assert_eq!(mark, moved);
+    }
+    s.take_change();
+    assert!(s.undo(1)?);
+    mark = s
+        .take_change()
+        .expect("a change")
+        .moved(mark, Side::After)?;
+    assert_eq!(mark, 10);
+    Ok(())
 }
 
 #[test]

@@ -59,8 +59,38 @@ fn no_more_goes_in_than_there_is_room_for() {
         ("type 0123456789abcde", "[6789abcde ] 9"),
         ("paste e\u{301}", "[6789abcde ] 9"),
         ("backspace", "[56789abcd ] 9"),
-        ("paste e\u{301}f", "[6789abcde\u{301} ] 9"),
-        ("type f", "[6789abcde\u{301} ] 9"),
+        ("backspace", "[456789abc ] 9"),
+        ("paste e\u{301}f", "[56789abce\u{301} ] 9"),
+        ("type f", "[56789abce\u{301} ] 9"),
+    ]);
+}
+
+#[test]
+fn what_is_selected_gives_way_and_is_selected_again() {
+    shows(&[
+        ("type one two", "[one two   ] 7"),
+        ("select-word-left", "[one two   ] 4 two"),
+        ("type zwölf", "[one zwölf ] 9"),
+        ("undo", "[one two   ] 7 two"),
+        ("redo", "[one zwölf ] 9 zwölf"),
+        ("left", "[one zwölf ] 8"),
+        ("select-home", "[one zwölf ] 0 one zwöl"),
+        ("paste 0123456789abcdefgh", "[6789abcdef] 9"),
+        ("select-jump", "no such key: select-jump"),
+    ]);
+}
+
+#[test]
+fn a_saved_text_is_known_again() {
+    shows(&[
+        ("type one", "[one       ] 3"),
+        ("save", "[one       ] 3*"),
+        ("type s", "[ones      ] 4"),
+        ("undo", "[one       ] 3*"),
+        ("undo", "[          ] 0"),
+        ("redo", "[one       ] 3*"),
+        ("backspace", "[on        ] 2"),
+        ("type e", "[one       ] 3"),
     ]);
 }
 

@@ -47,10 +47,10 @@ fn options_are_those_that_were_set() -> Result<(), Fault> {
     (options.mode, options.prompt) = (Mode::NoZwj, 3);
     (options.limit, options.ring_size) = (Some(20), 1);
     (options.max_entries, options.max_bytes) = (Some(5), Some(50));
-    options.max_ring_bytes = Some(9);
+    (options.max_ring_bytes, options.limit_holds) = (Some(9), true);
     let built = Session::builder().mode(Mode::NoZwj).prompt(3).limit(20);
     let built = built.ring_size(1).max_entries(5).max_bytes(50);
-    let built = built.max_ring_bytes(9);
+    let built = built.max_ring_bytes(9).limit_holds(true);
     let mut session = built.open()?;
     assert_eq!(session.options(), options);
     (options.mode, options.limit, options.max_bytes) = (Mode::WcWidth, None, None);
@@ -87,6 +87,25 @@ fn a_kill_goes_after_the_newest() -> Result<(), Fault> {
     session.clear_ring();
     assert_eq!(session.ring_count(), 0);
     stands(&session, "b", 1);
+    Ok(())
+}
+
+#[test]
+fn a_saved_text_comes_back() -> Result<(), Fault> {
+    let mut session = opened("");
+    assert!(!session.is_saved());
+    session.insert('a', 1)?;
+    session.set_saved();
+    assert!(session.is_saved());
+    session.insert('b', 1)?;
+    assert!(!session.is_saved());
+    session.undo(1)?;
+    stands(&session, "a", 1);
+    assert!(session.is_saved());
+    session.undo(1)?;
+    session.insert('a', 1)?;
+    stands(&session, "a", 1);
+    assert!(!session.is_saved());
     Ok(())
 }
 

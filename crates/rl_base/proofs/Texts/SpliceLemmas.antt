@@ -1,6 +1,7 @@
 -- Splices of texts, one after another.
-use Rattle.rl_base.proofs.Common.{◌≡◌, ℕ, ◌+◌, ◌-◌, ◌^◌, ◌<◌, ◌≤◌, ◌⊎◌, inl, inr, min, max, Bool, true, false, cond, List, [], ◌++◌, length, take, drop, get_or, slice_range, Some, None, MatchOption, refl, sym, ap, subst, ◌∙◌, arith, append_assoc, cases_lt, ltb-true, ltb-false, length-take, length-take-le, length-drop, take-take, drop-drop, get_or-take, get_or-drop, take-append-drop, drop_split, same_Some, encode_utf8, nat_lt, IsCharBoundary, IsUtf8, Splice, Event, InsertChar, InsertStr, Delete, Replace, Stop, Cursors, Covers, Splices, capped, folded, spliced, told, untouched}
+use Rattle.rl_base.proofs.Common.{◌≡◌, ℕ, ◌+◌, ◌-◌, ◌^◌, ◌<◌, ◌≤◌, ◌⊎◌, inl, inr, min, max, Bool, true, false, cond, List, [], ◌++◌, length, take, drop, get_or, slice_range, Some, None, MatchOption, refl, sym, ap, subst, ◌∙◌, arith, append_assoc, cases_lt, ltb-true, ltb-false, length-take, length-take-le, length-drop, take-take, drop-drop, get_or-take, get_or-drop, take-append-drop, drop_split, same_Some, encode_utf8, nat_lt, nat_tests, IsCharBoundary, IsUtf8, Side, Splice, Event, InsertChar, InsertStr, Delete, Replace, Stop, Cursors, Covers, Outlasts, Splices, capped, folded, inverse, moved, spliced, told, untouched}
 use Rattle.rl_base.specs.Event.{Start, apply}
+use Rattle.rl_base.specs.declared.splice.Side.TheVariants.{Before, After}
 use Rattle.rl_base.proofs.Texts.TextLemmas.{drop-middle, take-middle}
 use Rattle.rl_base.proofs.Texts.SwapLemmas.{Swaps, Swaps-Delete, Swaps-InsertChar, Swaps-InsertStr, Swaps-Replace, Swaps-back, Swaps-stands}
 
@@ -163,3 +164,38 @@ Splices-old s old new p =
 
 -- what the theorems on splices say
 pub ruleset splicing = (Covers-apply, told-means, Splices-new, Splices-old)
+
+-- a place that moves with a splice stays between two characters
+pub moved-stands : (s : Splice) (side : Side) (old new : List ℕ) (place : ℕ) → Splices s old new → IsCharBoundary old place → IsCharBoundary new (moved s side place)
+moved-stands s side old new place p b = from side
+  where
+    front : place ≤ s.from → IsCharBoundary new place
+    front l = boundary-before old new s.from place p.before l b p.new_from
+
+    past : s.old_end ≤ place → IsCharBoundary new (s.new_end + (place - s.old_end))
+    past l = boundary-after old new s.old_end s.new_end (place - s.old_end) p.after p.old_to.0 p.new_to.0 (subst (IsCharBoundary old) {x = place} {y = s.old_end + (place - s.old_end)} (omega arith) b)
+
+    from : (side : Side) → IsCharBoundary new (moved s side place)
+    from Before = grind (arith, nat_tests, front, past, p.new_from)
+    from After = grind (arith, nat_tests, front, past, p.new_to)
+
+-- the text on its side is what it was
+pub moved-before : (s : Splice) (old new : List ℕ) (place : ℕ) → Splices s old new → place ≤ s.from → take (moved s Before place) new ≡ take place old
+moved-before s old new place p l =
+    let stays : moved s Before place ≡ place = grind (arith, nat_tests, l) in
+    ap (λ k. take k new) stays ∙ sym (take-take place s.from new l) ∙ ap (take place) (sym p.before) ∙ take-take place s.from old l
+
+pub moved-after : (s : Splice) (old new : List ℕ) (place : ℕ) → Splices s old new → s.old_end ≤ place → drop (moved s After place) new ≡ drop place old
+moved-after s old new place p l =
+    let after = place - s.old_end in
+    let goes : moved s After place ≡ s.new_end + after = grind (arith, nat_tests, l) in
+    let is : s.old_end + after ≡ place = omega arith in
+    ap (λ k. drop k new) goes ∙ sym (drop-drop after s.new_end new) ∙ ap (drop after) (sym p.after) ∙ drop-drop after s.old_end old ∙ ap (λ k. drop k old) is
+
+-- and the inverse splice leads back
+pub moved-back : (s : Splice) (side : Side) (old new : List ℕ) (place : ℕ) → Splices s old new → Outlasts s side place → moved (inverse s) side (moved s side place) ≡ place
+moved-back s Before old new place p o = grind (arith, nat_tests, p.old_order, p.new_order)
+moved-back s After old new place p o = grind (arith, nat_tests, p.old_order, p.new_order)
+
+-- what the theorem on places says
+pub ruleset moving = (moved-stands, moved-before, moved-after, moved-back)

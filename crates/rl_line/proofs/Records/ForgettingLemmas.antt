@@ -1,5 +1,5 @@
 -- Forgetting the oldest units: where entries fit a bound, which units go, and what is left.
-use Rattle.rl_line.proofs.Common.{common_steps, AtLevel, Begin, Bool, Change, Entry, FitsFrom, ForgetsFirst, Freshness, IsMatched, List, Open, Record, Some, UndoUnit, Walk, Walks, Whole, [], after, and-false, ap, append-nil, append_assoc, arith, bytes_held, cond, cut_at, drop, drop-cons, drop-drop, drop-map, drop-take, entry_of, false, fits, forgotten, get_or, gone_within, inl, inr, is_within, kept_within, le-leb, leb, leb-false, leb-true, length, length-append, length-drop, length-map, length-take-le, level, lt-leb, map, nat_le, new_text, old_text, opens, or-true, redo_from, redo_of, refl, remove_range, replay_entries, reverse, reverse-append, reverse-reverse, subst, suc, sym, take, take-map, take_at, together, true, unbounded, units, units_kept, zero, ℕ, ◌++◌, ◌+◌, ◌-◌, ◌<◌, ◌∙◌, ◌∷◌, ◌≡◌, ◌≤◌, ◌⊎◌, take_rest}
+use Rattle.rl_line.proofs.Common.{common_steps, AtLevel, Begin, Bool, Change, Entry, FitsFrom, ForgetsFirst, Freshness, IsMatched, List, None, Open, Option, Record, SavedAt, Some, StaysSaved, UndoUnit, Walk, Walks, Whole, [], after, and-false, ap, append-nil, append_assoc, arith, bytes_held, cond, cut_at, drop, drop-cons, drop-drop, drop-map, drop-take, drop_at, entry_of, false, fits, forgotten, get_or, gone_within, inl, inr, is_within, kept_within, le-leb, leb, leb-false, leb-true, length, length-append, length-drop, length-map, length-take-le, level, lt-leb, map, nat_le, new_text, old_text, opens, or-true, point_past, redo_from, redo_of, refl, remove_range, replay_entries, reverse, reverse-append, reverse-reverse, subst, suc, sym, take, take-append-add, take-map, take_at, together, true, unbounded, units, units_kept, zero, ℕ, ◌++◌, ◌+◌, ◌-◌, ◌<◌, ◌∙◌, ◌∷◌, ◌≡◌, ◌≤◌, ◌⊎◌, take_rest}
 use Rattle.rl_line.proofs.Records.WalkLemmas.{Walk-IsUtf8, Walk-split}
 use Rattle.rl_line.proofs.Records.RecordLemmas.{replay-append, through}
 use Rattle.rl_line.proofs.Records.MatchLemmas.{Redoes-of}
@@ -234,17 +234,30 @@ pub removed-front : (n : ℕ) (xs ys : List Change) → ys ≡ remove_range xs 0
 removed-front n xs ys e = ap (map entry_of) e ∙ sym (drop-map entry_of n xs)
 
 -- where the record is cut then
-pub dropped-first : (n count : ℕ) (r : Record) (es now : List Entry) (fresh : Freshness) → n ≤ length es → cut_at n es fresh ≡ r → count ≤ length r.recorded → now ≡ drop count es
-    → (n - count ≤ length now) × (cut_at (n - count) now fresh ≡ record r { recorded = drop count r.recorded })
-dropped-first n count r es now fresh within v few e = grind (arith, common_steps, drop-take)
+pub dropped-first : (n count : ℕ) (r : Record) (es now : List Entry) (fresh : Freshness) (saved : Option ℕ) → n ≤ length es → cut_at n es fresh saved ≡ r → count ≤ length r.recorded → now ≡ drop count es
+    → (n - count ≤ length now) × (cut_at (n - count) now fresh (point_past count saved) ≡ record r { recorded = drop count r.recorded; saved = point_past count r.saved })
+dropped-first n count r es now fresh saved within v few e = grind (arith, common_steps, drop-take)
 
 pub forgotten-is : (most bytes count : ℕ) (r : Record) (es : List Entry) → es ≡ r.recorded → ForgetsFirst most bytes es count
-    → record r { recorded = drop count r.recorded } ≡ forgotten most bytes r
-forgotten-is most bytes count r es e f = ap (λ l. record r { recorded = l }) (subst (λ l. drop count l ≡ kept_within most bytes l) e f.1)
+    → record r { recorded = drop count r.recorded; saved = point_past count r.saved } ≡ forgotten most bytes r
+forgotten-is most bytes count r es e f =
+    let g = subst (λ l. ForgetsFirst most bytes l count) e f in
+    let gone : count ≡ length r.recorded - length (kept_within most bytes r.recorded) = omega (arith, g.0, ap length g.1, length-drop count r.recorded) in
+    ap (λ l. record r { recorded = l; saved = point_past count r.saved }) g.1 ∙ ap (λ k. record r { recorded = kept_within most bytes r.recorded; saved = point_past k r.saved }) gone
+
+past-none : (point : Option ℕ) → point_past 0 point ≡ point
+past-none None = refl
+past-none (Some n) =
+    let all : n - 0 ≡ n = omega arith in
+    ap (λ (x : Bool). cond x (Some (n - 0)) None) (le-leb 0 n (omega arith)) ∙ ap (λ k. Some k) all
 
 -- within the bound nothing goes
 pub forgotten-same : (most bytes : ℕ) (r : Record) → length r.recorded ≤ most → unbounded ≤ bytes → forgotten most bytes r ≡ r
-forgotten-same most bytes r few free = ap (λ es. record r { recorded = es }) (fitting-stay most bytes r.recorded (fits-any most bytes r.recorded few free))
+forgotten-same most bytes r few free =
+    let all = fitting-stay most bytes r.recorded (fits-any most bytes r.recorded few free) in
+    let none : length r.recorded - length (kept_within most bytes r.recorded) ≡ 0 = omega (arith, ap length all) in
+    ap (λ es. record r { recorded = es; saved = point_past (length r.recorded - length (kept_within most bytes r.recorded)) r.saved }) all
+    ∙ ap (λ p. record r { saved = p }) (ap (λ k. point_past k r.saved) none ∙ past-none r.saved)
 
 -- ---- what went, and what that led to
 -- whole units went, the oldest ones
@@ -317,6 +330,35 @@ Walks-forgotten most bytes r text w =
     let kept = kept_within most bytes r.recorded in
     let (mid, first, after) = Walk-split gone kept w.start text (subst (λ es. Walk es w.start text) (sym (gone-kept most bytes r.recorded)) w.back) in
     record { start = mid; is_text = Walk-IsUtf8 gone w.start mid w.is_text first; back = after; end = w.end; ahead = w.ahead; stale = w.stale }
+
+-- the save point goes with the entries before it
+pub saved-forgotten : (most bytes : ℕ) (es : List Entry) (r : Record) → StaysSaved es r
+    → StaysSaved (drop (length r.recorded - length (kept_within most bytes r.recorded)) es) (forgotten most bytes r)
+saved-forgotten most bytes es r s = elim s [ inl none ↦ inl (ap (point_past (length r.recorded - length kept)) none) | inr x ↦ from (nat_le (length r.recorded - length kept) (length es)) refl x ]
+  where
+    kept : List Entry
+    kept = kept_within most bytes r.recorded
+
+    from : (y : Bool) → nat_le (length r.recorded - length kept) (length es) ≡ y → SavedAt es r → StaysSaved (drop (length r.recorded - length kept) es) (forgotten most bytes r)
+    from true h x =
+        let gone = gone_within most bytes r.recorded in
+        let k = length r.recorded - length kept in
+        let n = length es - k in
+        let all : gone ++ kept ≡ r.recorded = gone-kept most bytes r.recorded in
+        let sum : length r.recorded ≡ length gone + length kept = sym (ap length all) ∙ length-append gone kept in
+        let long : length gone ≡ k = omega (arith, sum) in
+        let within = leb-true k (length es) h in
+        let whole : length gone + n ≡ length es = omega (arith, long, within) in
+        let begins : gone ++ take n (kept ++ r.pending) ≡ es = sym (take-append-add gone (kept ++ r.pending) n) ∙ ap (λ m. take m (gone ++ (kept ++ r.pending))) whole
+        ∙ ap (take (length es)) (sym (append_assoc gone kept r.pending) ∙ ap (λ l. l ++ r.pending) all) ∙ x.begins in
+        let left : length (drop k es) ≡ n = length-drop k es in
+        inr (record {
+          point = ap (point_past k) x.point ∙ ap (λ (y : Bool). cond y (Some n) None) h ∙ ap (λ m. Some m) (sym left);
+          begins = ap (λ m. take m (kept ++ r.pending)) left ∙ sym (drop_at gone (take n (kept ++ r.pending)) k long) ∙ ap (drop k) begins;
+          apart = λ same. x.apart (omega (arith, same, left, whole, sum));
+          told = λ few. x.told (omega (arith, few, left, whole, sum));
+        })
+    from false h x = inl (ap (point_past (length r.recorded - length kept)) x.point ∙ ap (λ (y : Bool). cond y (Some (length es - (length r.recorded - length kept))) None) h)
 
 pub ruleset none_forgotten = (forgotten-same)
 

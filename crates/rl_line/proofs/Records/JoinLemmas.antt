@@ -1,5 +1,5 @@
 -- The last recorded entry, where an event joins it and where it does not.
-use Rattle.rl_line.proofs.Common.{common_steps, Bool, if◌then◌else◌, true, ◌==◌, Added, Change, Changed, Cursors, Delete, Deletion, Direction, Entry, Event, Forward, Freshness, InsertChar, InsertStr, Insertion, Joined, Joins, List, Parted, None, Option, Record, Replace, Replacement, Some, Stale, Start, Stop, TakesIn, [], added, after, ap, append-nil, arith, cut_at, drop, drop-map, drop-set-lt, encode_utf8, entries_after, entries_told, entry_of, false, cursors_of, freshness_added, freshness_joined, freshness_of, freshness_told, get_or, is_parted, joined, joined_in, last_told, option_map_or, length, map, map-append, map-set_same, nil_from_length, refl, set, settled, subst, sym, take, take-map, take_at_read, take_more_set, untold, with_cursors, ℕ, ◌++◌, ◌+◌, ◌-◌, ◌<◌, ◌∙◌, ◌∷◌, ◌≡◌, ◌≤◌}
+use Rattle.rl_line.proofs.Common.{common_steps, Bool, if◌then◌else◌, true, ◌==◌, Added, Change, Changed, Cursors, Delete, Deletion, Direction, Entry, Event, Forward, Freshness, InsertChar, InsertStr, Insertion, Joined, Joins, List, Parted, None, Option, Record, Replace, Replacement, Some, Stale, Start, Stop, TakesIn, [], added, after, ap, append-nil, arith, cut_at, drop, drop-map, drop-set-lt, encode_utf8, entries_after, entries_told, entry_of, false, cursors_of, freshness_added, freshness_joined, freshness_of, freshness_told, get_or, kept_point, point_kept, is_parted, joined, joined_in, last_told, option_map_or, length, length-map, length-take, map, map-append, map-set_same, nil_from_length, refl, set, settled, subst, sym, take, take-map, take_at_read, take_more_set, untold, with_cursors, ℕ, ◌++◌, ◌+◌, ◌-◌, ◌<◌, ◌∙◌, ◌∷◌, ◌≡◌, ◌≤◌}
 use Rattle.std.specs.Str.{chars}
 use Rattle.unicode_segmentation.specs.Segments.{cut, segments}
 use Rattle.rl_base.specs.Event.{apply}
@@ -38,8 +38,8 @@ same-at : (xs : List Change) (k : ℕ) (x y : Change) → x ≡ get_or xs k x �
 same-at xs k x y is e = map-set_same entry_of xs k y x (e ∙ ap entry_of is)
 
 -- ---- a record after an event of a text
-abbrev heard : Event → Record → Record
-heard event r = record { recorded = entries_after r.fresh event r.recorded; pending = []; fresh = freshness_of r.fresh event r.recorded }
+abbrev pub heard : Event → Record → Record
+heard event r = record { recorded = entries_after r.fresh event r.recorded; pending = []; fresh = freshness_of r.fresh event r.recorded; saved = point_kept r }
 
 pub step-InsertChar : (r : Record) (i c : ℕ) → record_step r (InsertChar i c) ≡ heard (InsertChar i c) r
 unfolding record_step
@@ -58,44 +58,47 @@ unfolding record_step
 step-Replace r i s t = refl
 
 heard-is : (event : Event) (r : Record) (es : List Entry) (fresh : Freshness) → record_step r event ≡ heard event r → entries_after r.fresh event r.recorded ≡ es → freshness_of r.fresh event r.recorded ≡ fresh
-    → record_step r event ≡ record { recorded = es; pending = []; fresh = fresh }
+    → record_step r event ≡ record { recorded = es; pending = []; fresh = fresh; saved = point_kept r }
 heard-is event r es fresh step e f = grind arith
 
 -- in a record that is not parted what joins an entry is the same as alone
-joined-as : (event : Event) (r : Record) (es : List Entry) (n : ℕ) (fresh : Freshness) (e : Entry) (o : Option Entry) → cut_at n es fresh ≡ r → is_parted fresh ≡ false
+joined-as : (event : Event) (r : Record) (es : List Entry) (n : ℕ) (fresh : Freshness) (saved : Option ℕ) (e : Entry) (o : Option Entry) → cut_at n es fresh saved ≡ r → is_parted fresh ≡ false
     → joined event e ≡ o → joined_in r.fresh event e ≡ o
-joined-as event r es n fresh e o v h j = subst (λ was. joined_in was event e ≡ o) (ap (λ (s : Record). s.fresh) v) (joined_in-as fresh event e h ∙ j)
+joined-as event r es n fresh saved e o v h j = subst (λ was. joined_in was event e ≡ o) (ap (λ (s : Record). s.fresh) v) (joined_in-as fresh event e h ∙ j)
 
-pub joins : (event : Event) (r : Record) (xs : List Change) (n : ℕ) (fresh told : Freshness) (x y : Change) → record_step r event ≡ heard event r → n ≤ length xs → cut_at n (map entry_of xs) fresh ≡ r
-    → is_parted fresh ≡ false → 0 < n → x ≡ get_or xs (n - 1) x → TakesIn event (entry_of x) (entry_of y) (Some told) → settled told (cut_at n (map entry_of (set xs (n - 1) y)) fresh) ≡ record_step r event
-joins event r xs n fresh told x y step le v loose some is t =
+pub joins : (event : Event) (r : Record) (xs : List Change) (n : ℕ) (fresh : Freshness) (saved : Option ℕ) (told : Freshness) (x y : Change) → record_step r event ≡ heard event r → n ≤ length xs → cut_at n (map entry_of xs) fresh saved ≡ r
+    → is_parted fresh ≡ false → 0 < n → x ≡ get_or xs (n - 1) x → TakesIn event (entry_of x) (entry_of y) (Some told) → settled told (cut_at n (map entry_of (set xs (n - 1) y)) fresh saved) ≡ record_step r event
+joins event r xs n fresh saved told x y step le v loose some is t =
     let l = LastOf-at xs n (n - 1) x y le some refl is in
     let was : r.recorded ≡ l.front ++ entry_of x ∷ [] = ap (λ (s : Record). s.recorded) (sym v) ∙ l.was in
-    let ends = ends_in r.fresh event r.recorded l.front (entry_of x) (Some (entry_of y)) was (joined-as event r (map entry_of xs) n fresh (entry_of x) (Some (entry_of y)) v loose t.0) in
-    sym (heard-is event r (take n (map entry_of (set xs (n - 1) y))) told step (ends.0 ∙ sym l.now) (ends.1 ∙ sym t.1))
+    let ends = ends_in r.fresh event r.recorded l.front (entry_of x) (Some (entry_of y)) was (joined-as event r (map entry_of xs) n fresh saved (entry_of x) (Some (entry_of y)) v loose t.0) in
+    let same : length (take n (map entry_of (set xs (n - 1) y))) ≡ length r.recorded = grind (arith, common_steps, l.now, was) in
+    let point : point_kept (cut_at n (map entry_of (set xs (n - 1) y)) fresh saved) ≡ point_kept r = ap (λ k. kept_point k saved) same ∙ ap (λ (s : Record). kept_point (length r.recorded) s.saved) v in
+    ap (λ p. record (settled told (cut_at n (map entry_of (set xs (n - 1) y)) fresh saved)) { saved = p }) point
+    ∙ sym (heard-is event r (take n (map entry_of (set xs (n - 1) y))) told step (ends.0 ∙ sym l.now) (ends.1 ∙ sym t.1))
 
-pub joins-not : (event : Event) (r : Record) (xs : List Change) (n : ℕ) (fresh : Freshness) (x y : Change) → record_step r event ≡ heard event r → n ≤ length xs → cut_at n (map entry_of xs) fresh ≡ r
-    → is_parted fresh ≡ false → 0 < n → x ≡ get_or xs (n - 1) x → TakesIn event (entry_of x) (entry_of y) None → Joins event r (cut_at n (map entry_of (set xs (n - 1) y)) fresh) false
-joins-not event r xs n fresh x y step le v loose some is t =
+pub joins-not : (event : Event) (r : Record) (xs : List Change) (n : ℕ) (fresh : Freshness) (saved : Option ℕ) (x y : Change) → record_step r event ≡ heard event r → n ≤ length xs → cut_at n (map entry_of xs) fresh saved ≡ r
+    → is_parted fresh ≡ false → 0 < n → x ≡ get_or xs (n - 1) x → TakesIn event (entry_of x) (entry_of y) None → Joins event r (cut_at n (map entry_of (set xs (n - 1) y)) fresh saved) false
+joins-not event r xs n fresh saved x y step le v loose some is t =
     let l = LastOf-at xs n (n - 1) x y le some refl is in
-    let apart = ends_in r.fresh event r.recorded l.front (entry_of x) None (ap (λ (s : Record). s.recorded) (sym v) ∙ l.was) (joined-as event r (map entry_of xs) n fresh (entry_of x) None v loose t.0) in
-    (ap (λ es. cut_at n es fresh) (same-at xs (n - 1) x y is t.1) ∙ v, heard-is event r _ _ step apart.0 apart.1)
+    let apart = ends_in r.fresh event r.recorded l.front (entry_of x) None (ap (λ (s : Record). s.recorded) (sym v) ∙ l.was) (joined-as event r (map entry_of xs) n fresh saved (entry_of x) None v loose t.0) in
+    (ap (λ es. cut_at n es fresh saved) (same-at xs (n - 1) x y is t.1) ∙ v, heard-is event r _ _ step apart.0 apart.1)
 
-pub joins-nothing : (event : Event) (r : Record) (es : List Entry) (n : ℕ) (fresh : Freshness) → record_step r event ≡ heard event r → cut_at n es fresh ≡ r → n ≡ 0 → Joins event r r false
-joins-nothing event r es n fresh step v none = grind arith
+pub joins-nothing : (event : Event) (r : Record) (es : List Entry) (n : ℕ) (fresh : Freshness) (saved : Option ℕ) → record_step r event ≡ heard event r → cut_at n es fresh saved ≡ r → n ≡ 0 → Joins event r r false
+joins-nothing event r es n fresh saved step v none = grind arith
 
-pub joins-none : (event : Event) (r : Record) (es : List Entry) (n : ℕ) (fresh : Freshness) → record_step r event ≡ heard event r → cut_at n es fresh ≡ r → is_parted fresh ≡ true → Joins event r r false
-joins-none event r es n fresh step v apart =
+pub joins-none : (event : Event) (r : Record) (es : List Entry) (n : ℕ) (fresh : Freshness) (saved : Option ℕ) → record_step r event ≡ heard event r → cut_at n es fresh saved ≡ r → is_parted fresh ≡ true → Joins event r r false
+joins-none event r es n fresh saved step v apart =
     let p = parted-apart r.fresh event r.recorded (ap (λ (s : Record). is_parted s.fresh) (sym v) ∙ apart) in
     (refl, heard-is event r _ _ step p.0 p.1)
 
-pub stays-err : (xs : List Change) (n : ℕ) (fresh : Freshness) (r : Record) (x y : Change) → cut_at n (map entry_of xs) fresh ≡ r → x ≡ get_or xs (n - 1) x → entry_of y ≡ entry_of x
-    → cut_at n (map entry_of (set xs (n - 1) y)) fresh ≡ r
-stays-err xs n fresh r x y v is e = ap (λ es. cut_at n es fresh) (same-at xs (n - 1) x y is e) ∙ v
+pub stays-err : (xs : List Change) (n : ℕ) (fresh : Freshness) (saved : Option ℕ) (r : Record) (x y : Change) → cut_at n (map entry_of xs) fresh saved ≡ r → x ≡ get_or xs (n - 1) x → entry_of y ≡ entry_of x
+    → cut_at n (map entry_of (set xs (n - 1) y)) fresh saved ≡ r
+stays-err xs n fresh saved r x y v is e = ap (λ es. cut_at n es fresh saved) (same-at xs (n - 1) x y is e) ∙ v
 
 -- cursors that are told
 pub step-Cursors : (r : Record) (before after : ℕ)
-    → record_step r (Cursors before after) ≡ record { recorded = entries_told r.fresh before after r.recorded; pending = r.pending; fresh = freshness_told r.fresh }
+    → record_step r (Cursors before after) ≡ record { recorded = entries_told r.fresh before after r.recorded; pending = r.pending; fresh = freshness_told r.fresh; saved = r.saved }
 unfolding record_step
 step-Cursors r before after = refl
 
@@ -104,19 +107,19 @@ told-stale r before after e =
     let same : entries_told r.fresh before after r.recorded ≡ r.recorded = ap (λ f. entries_told f before after r.recorded) (sym e) ∙ told-none r.fresh before after r.recorded in
     sym (step-Cursors r before after ∙ ap (λ es. record r { recorded = es; fresh = freshness_told r.fresh }) same ∙ ap (λ f. record r { fresh = f }) e)
 
-pub told-nothing : (r : Record) (es : List Entry) (n before after : ℕ) (fresh : Freshness) → cut_at n es fresh ≡ r → n ≡ 0 → freshness_told fresh ≡ Stale
-    → cut_at n es Stale ≡ record_step r (Cursors before after)
-told-nothing r es n before after fresh v none told = grind (arith, step-Cursors)
+pub told-nothing : (r : Record) (es : List Entry) (n before after : ℕ) (fresh : Freshness) (saved : Option ℕ) → cut_at n es fresh saved ≡ r → n ≡ 0 → freshness_told fresh ≡ Stale
+    → cut_at n es Stale saved ≡ record_step r (Cursors before after)
+told-nothing r es n before after fresh saved v none told = grind (arith, step-Cursors)
 
-pub told-last : (r : Record) (xs : List Change) (n before after first : ℕ) (fresh : Freshness) (x y : Change) → n ≤ length xs → cut_at n (map entry_of xs) fresh ≡ r → 0 < n
+pub told-last : (r : Record) (xs : List Change) (n before after first : ℕ) (fresh : Freshness) (saved : Option ℕ) (x y : Change) → n ≤ length xs → cut_at n (map entry_of xs) fresh saved ≡ r → 0 < n
     → x ≡ get_or xs (n - 1) x → entry_of y ≡ with_cursors (first, after) (entry_of x) → ((es : List Entry) → last_told (first, after) es ≡ entries_told fresh before after es) → freshness_told fresh ≡ Stale
-    → cut_at n (map entry_of (set xs (n - 1) y)) Stale ≡ record_step r (Cursors before after)
-told-last r xs n before after first fresh x y le v some is e told stale = grind (arith, told-last-of, told-others, step-Cursors)
+    → cut_at n (map entry_of (set xs (n - 1) y)) Stale saved ≡ record_step r (Cursors before after)
+told-last r xs n before after first fresh saved x y le v some is e told stale = grind (arith, told-last-of, told-others, step-Cursors)
 
 -- an entry that is added, and none
-pub added-entry : (xs now : List Change) (n k : ℕ) (e : Change) (fresh : Freshness) (told : Freshness) (r : Record) → n ≤ length xs → cut_at n (map entry_of xs) fresh ≡ r
-    → now ≡ take n xs ++ e ∷ [] → k ≡ n + 1 → (k ≤ length now) × (cut_at k (map entry_of now) told ≡ added (entry_of e) told r)
-added-entry xs now n k e fresh told r le v is at = grind (arith, common_steps, take-map)
+pub added-entry : (xs now : List Change) (n k : ℕ) (e : Change) (fresh : Freshness) (saved : Option ℕ) (told : Freshness) (r : Record) → n ≤ length xs → cut_at n (map entry_of xs) fresh saved ≡ r
+    → now ≡ take n xs ++ e ∷ [] → k ≡ n + 1 → (k ≤ length now) × (cut_at k (map entry_of now) told (kept_point n saved) ≡ added (entry_of e) told r)
+added-entry xs now n k e fresh saved told r le v is at = grind (arith, common_steps, length-map, length-take, take-map)
 
 -- ---- events that join nothing
 pub record_step-Start : (r : Record) → record_step r Start ≡ r
@@ -129,7 +132,7 @@ record_step-Stop r = ap (λ es. record r { recorded = es }) ((joins_nothing r.fr
 
 -- what holds where an event of a text is recorded, where a record stays, and where its last change is told cursors, holds after any event
 pub step-cases : (r : Record) (P : Event → Record → Type 0)
-    → ((event : Event) → P event (record { recorded = entries_after r.fresh event r.recorded; pending = []; fresh = freshness_of r.fresh event r.recorded }))
+    → ((event : Event) → P event (heard event r))
     → ((event : Event) → ((text : List ℕ) → apply event text ≡ Some text) → P event r) → ((b a : ℕ) → P (Cursors b a) (record_step r (Cursors b a)))
     → (event : Event) → P event (record_step r event)
 unfolding apply record_step

@@ -1,12 +1,13 @@
 -- The lemmas that are the laws of the record.
 use Rattle.rl_line.proofs.Records.EndLemmas.{alone-answer, alone-level, alone-nothing, alone-unit, reopened-end}
-use Rattle.rl_line.proofs.Records.ForgettingLemmas.{fitting-stay, gone-kept, gone-level, gone-matched, group-stays, left-fits, left-replays}
+use Rattle.rl_line.proofs.Records.ForgettingLemmas.{fitting-stay, gone-kept, gone-level, gone-matched, group-stays, left-fits, left-replays, saved-forgotten}
 use Rattle.rl_line.proofs.Records.GroupLemmas.{group-empty, group-empty-end}
 use Rattle.rl_line.proofs.Records.HeardLemmas.{after-steps_ahead, after-steps_back}
 use Rattle.rl_line.proofs.Records.PartLemmas.{parted-adds, parted-stays}
 use Rattle.rl_line.proofs.Records.RecordLemmas.{replay-unwind, unwind-replay}
 use Rattle.rl_line.proofs.Records.RedoLemmas.{redos-give-back}
+use Rattle.rl_line.proofs.Records.SavedLemmas.{saved-back, saved-begun, saved-closed, saved-marked, saved-parted, saved-redone, saved-reopened, saved-step, saved-there, saved-truncated, saved-undone}
 use Rattle.rl_line.proofs.Records.UndoLemmas.{line_ahead-replay, line_back-unwind}
 use Rattle.rl_line.proofs.Records.WayLemmas.{ways-ahead, ways-back}
 
-pub ruleset laws = (after-steps_ahead, after-steps_back, alone-answer, alone-level, alone-nothing, alone-unit, fitting-stay, gone-kept, gone-level, gone-matched, group-empty, group-empty-end, group-stays, left-fits, left-replays, line_ahead-replay, line_back-unwind, parted-adds, parted-stays, redos-give-back, reopened-end, replay-unwind, unwind-replay, ways-ahead, ways-back)
+pub ruleset laws = (after-steps_ahead, after-steps_back, alone-answer, alone-level, alone-nothing, alone-unit, fitting-stay, gone-kept, gone-level, gone-matched, group-empty, group-empty-end, group-stays, left-fits, left-replays, line_ahead-replay, line_back-unwind, parted-adds, parted-stays, redos-give-back, reopened-end, replay-unwind, saved-back, saved-begun, saved-closed, saved-forgotten, saved-marked, saved-parted, saved-redone, saved-reopened, saved-step, saved-there, saved-truncated, saved-undone, unwind-replay, ways-ahead, ways-back)

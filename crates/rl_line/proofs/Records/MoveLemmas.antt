@@ -1,5 +1,6 @@
 -- The record that the code's list of entries stands for, and what an event, an undo and a redo make of it.
-use Rattle.rl_line.proofs.Common.{common_steps, IsMatched, Ahead, All, All-drop, All-map, All-take, Back, Bool, BothMatched, Change, Entry, Freshness, GoesOver, IsCharBoundary, IsOfKind, IsSome, Line, List, Reaches, Record, Some, Stale, StandsStill, Way, [], ap, append_assoc, arith, count_over, cut_at, drop, drop-map, drop_at, entries_to_undo, entry_of, entry_to_undo, false, get_or, has_change, inverse, kept_of, last_of, length, length-append, length-map, line_ahead, line_back, line_over, map, min, moved, redo_of, refl, reverse, steps_back, steps_over, subst, sym, take, take-map, take_at, take_rest, texts_back, texts_over, unit_of, ℕ, ◌++◌, ◌+◌, ◌-◌, ◌<◌, ◌^◌, ◌∙◌, ◌∷◌, ◌≡◌, ◌≤◌}
+use Rattle.rl_line.proofs.Common.{common_steps, IsMatched, Ahead, All, All-drop, All-map, All-take, Back, Bool, BothMatched, Change, Entry, Freshness, GoesOver, IsCharBoundary, IsOfKind, IsSome, Line, List, Option, Reaches, Record, Some, StandsStill, Way, [], ap, append_assoc, arith, arrived, count_over, cut_at, drop, drop-map, drop_at, entries_to_undo, entry_of, entry_to_undo, false, freshness_at, get_or, greatest_back_over, has_change, inverse, kept_of, last_of, length, length-append, length-map, line_ahead, line_back, line_over, map, min, moved, redo_of, refl, reverse, steps_back, steps_over, subst, sym, take, take-map, take_at, take_rest, texts_back, texts_over, unit_of, ℕ, ◌++◌, ◌+◌, ◌-◌, ◌<◌, ◌^◌, ◌∙◌, ◌∷◌, ◌≡◌, ◌≤◌}
+use Rattle.rl_line.specs.Change.{longest_over}
 use Rattle.rl_line.proofs.Records.RoomLemmas.{texts_ahead-back}
 use Rattle.rl_line.proofs.Records.HeardLemmas.{steps_ahead-back}
 use Rattle.rl_line.specs.declared.change.Change.TheVariants as made
@@ -9,12 +10,6 @@ use Rattle.rl_line.proofs.Records.RecordLemmas.{IsSome-through}
 use Rattle.rl_line.proofs.Records.UndoLemmas.{line_ahead-append, line_ahead-back, line_ahead-marks, line_back-marks, line_back-append, marks-ahead, marks-back}
 use Rattle.rl_line.proofs.Records.UnitLemmas.{kept-last}
 
-abbrev lists : List Entry → List Entry → Freshness → Record
-lists recorded pending fresh = record { recorded = recorded; pending = pending; fresh = fresh }
-
-same : (a b c d : List Entry) (fresh : Freshness) → a ≡ b → c ≡ d → lists a c fresh ≡ lists b d fresh
-same a b c d fresh e f = ap (λ x. lists x c fresh) e ∙ ap (λ y. lists b y fresh) f
-
 -- each entry is of its kind
 of_kind : (x : Change) → IsOfKind (entry_of x)
 of_kind made.Begin = tt
@@ -23,8 +18,8 @@ of_kind (made.Insert cursors i s) = refl
 of_kind (made.Delete cursors i gathered) = refl
 of_kind (made.Replace cursors i texts) = tt
 
-pub kinds-are : (n : ℕ) (xs : List Change) (fresh : Freshness) (r : Record) → cut_at n (map entry_of xs) fresh ≡ r → All IsOfKind r.recorded × All IsOfKind r.pending
-kinds-are n xs fresh r v =
+pub kinds-are : (n : ℕ) (xs : List Change) (fresh : Freshness) (saved : Option ℕ) (r : Record) → cut_at n (map entry_of xs) fresh saved ≡ r → All IsOfKind r.recorded × All IsOfKind r.pending
+kinds-are n xs fresh saved r v =
     let all = All-map IsOfKind entry_of xs (λ k d lt. of_kind (get_or xs k d)) in
     subst (λ (s : Record). All IsOfKind s.recorded × All IsOfKind s.pending) v (All-take IsOfKind n (map entry_of xs) all, All-drop IsOfKind n (map entry_of xs) all)
 
@@ -53,27 +48,34 @@ next-part len xs m e =
     (few, sym (take-map entry_of len xs) ∙ ap (take len) (sym list) ∙ take_at (redo_of es) (drop (length (redo_of es)) es) len (sym e))
 
 -- ---- undo and redo: the list stays, and is cut at another place
-front-of : (n : ℕ) (xs ys : List Entry) → n ≡ length xs → cut_at n (xs ++ ys) Stale ≡ lists xs ys Stale
-front-of n xs ys e = same (take n (xs ++ ys)) xs (drop n (xs ++ ys)) ys Stale (take_at xs ys n (sym e)) (drop_at xs ys n (sym e))
+-- the code's list, cut there
+abbrev pub cut_to : ℕ → List Entry → Option ℕ → Record
+cut_to n es saved = cut_at n es (freshness_at n saved) saved
+
+front-of : (n : ℕ) (xs ys : List Entry) (saved : Option ℕ) → n ≡ length xs → cut_to n (xs ++ ys) saved ≡ arrived xs ys saved
+front-of n xs ys saved e =
+    ap (λ es. record { recorded = es; pending = drop n (xs ++ ys); fresh = freshness_at n saved; saved = saved }) (take_at xs ys n (sym e))
+    ∙ ap (λ es. record { recorded = xs; pending = es; fresh = freshness_at n saved; saved = saved }) (drop_at xs ys n (sym e))
+    ∙ ap (λ k. record { recorded = xs; pending = ys; fresh = freshness_at k saved; saved = saved }) e
 
 pub moved-cut : (way : Way) (n count : ℕ) (r : Record) → BothMatched r → count ≡ length (unit_of way n r)
-    → cut_at (count_over way (length r.recorded) count) (r.recorded ++ r.pending) Stale ≡ moved way n r
+    → cut_to (count_over way (length r.recorded) count) (r.recorded ++ r.pending) r.saved ≡ moved way n r
 moved-cut Back n count r m e =
     let kept = kept_of n r.recorded in
     let unit = last_of n r.recorded in
     let whole : r.recorded ++ r.pending ≡ kept ++ (unit ++ r.pending) = ap (λ l. l ++ r.pending) (sym (kept-last n r.recorded)) ∙ append_assoc kept unit r.pending in
-    ap (λ l. cut_at (length r.recorded - count) l Stale) whole
-    ∙ front-of (length r.recorded - count) kept (unit ++ r.pending) (omega (arith, e, ap length (kept-last n r.recorded), length-append kept unit))
+    ap (λ l. cut_to (length r.recorded - count) l r.saved) whole
+    ∙ front-of (length r.recorded - count) kept (unit ++ r.pending) r.saved (omega (arith, e, ap length (kept-last n r.recorded), length-append kept unit))
 moved-cut Ahead n count r m e =
     let unit = redo_of r.pending in
     let left = drop (length unit) r.pending in
     let whole : r.recorded ++ r.pending ≡ (r.recorded ++ unit) ++ left =
     ap (λ l. r.recorded ++ l) (sym (Redoes-of r.pending m.pending).list_is) ∙ sym (append_assoc r.recorded unit left) in
-    ap (λ l. cut_at (length r.recorded + count) l Stale) whole ∙ front-of (length r.recorded + count) (r.recorded ++ unit) left (omega (arith, e, length-append r.recorded unit))
+    ap (λ l. cut_to (length r.recorded + count) l r.saved) whole ∙ front-of (length r.recorded + count) (r.recorded ++ unit) left r.saved (omega (arith, e, length-append r.recorded unit))
 
 -- the same of the code's numbers
 pub moved-at : (way : Way) (n len count recorded : ℕ) (was r now : Record) → was ≡ r → BothMatched was → len ≡ length was.recorded → count ≡ length (unit_of way n r) → recorded ≡ count_over way len count
-    → now ≡ cut_at recorded (was.recorded ++ was.pending) Stale → now ≡ moved way n r
+    → now ≡ cut_to recorded (was.recorded ++ was.pending) was.saved → now ≡ moved way n r
 moved-at way n len count recorded was r now v m l e f is = grind (arith, moved-cut)
 
 pub unit-within : (way : Way) (n count : ℕ) (r : Record) → BothMatched r → count ≡ length (unit_of way n r) → count_over way (length r.recorded) count ≤ length r.recorded + length r.pending
@@ -101,6 +103,7 @@ pub record GoesAs (way : Way) (back es : List Entry) : Type 0 where
   pub line : (line : Line) → line_back back line ≡ line_over way es line
   pub steps : (cursor : ℕ) → steps_back cursor back ≡ steps_over way cursor es
   pub texts : (text : List ℕ) → texts_back back text ≡ texts_over way es text
+  pub longest : (n : ℕ) → greatest_back_over back n ≡ longest_over way es n
 
 -- the entries as a line goes back over them
 abbrev turned : Way → List Entry → List Entry
@@ -108,8 +111,8 @@ turned Back es = es
 turned Ahead es = map inverse (reverse es)
 
 goes-as : (way : Way) (es : List Entry) → GoesAs way (turned way es) es
-goes-as Back es = record { line = λ line. refl; steps = λ cursor. refl; texts = λ text. refl }
-goes-as Ahead es = record { line = line_ahead-back es; steps = λ cursor. steps_ahead-back cursor es; texts = texts_ahead-back es }
+goes-as Back es = record { line = λ line. refl; steps = λ cursor. refl; texts = λ text. refl; longest = λ n. refl }
+goes-as Ahead es = record { line = line_ahead-back es; steps = λ cursor. steps_ahead-back cursor es; texts = texts_ahead-back es; longest = λ n. refl }
 
 pub GoesAs-all : (way : Way) (xs : List Change) (es : List Entry) → map entry_of xs ≡ es → GoesAs way (entries_to_undo way xs) es
 GoesAs-all Back xs es e = subst (λ l. GoesAs Back l es) (sym e) (goes-as Back es)

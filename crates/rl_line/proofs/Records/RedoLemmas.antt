@@ -1,5 +1,5 @@
 -- As many redos as an undo took units give back the record and the text.
-use Rattle.rl_line.proofs.Common.{common_steps, ◌≡◌, ℕ, suc, Bool, List, [], ◌∷◌, ◌++◌, length, reverse, Some, refl, sym, ap, subst, ◌∙◌, arith, append-nil, append_assoc, reverse-reverse, length-reverse, option_and_then, zero, max, IsUtf8, Line, Entry, Record, replay_entries, UndoUnit, Open, Whole, units, together, opens, last_of, kept_of, last_units, redo_of, undone, redone, marks, IsMatched, BothMatched, line_ahead, Undone, Redos, Stale}
+use Rattle.rl_line.proofs.Common.{common_steps, ◌≡◌, ℕ, suc, Bool, List, [], ◌∷◌, ◌++◌, length, reverse, Option, Some, refl, sym, ap, subst, ◌∙◌, arith, append-nil, append_assoc, reverse-reverse, length-reverse, option_and_then, zero, max, IsUtf8, Line, Entry, Record, replay_entries, UndoUnit, Open, Whole, units, together, opens, last_of, kept_of, last_units, redo_of, undone, redone, marks, IsMatched, BothMatched, line_ahead, Undone, Redos, arrived}
 use Rattle.rl_line.proofs.Records.RecordLemmas.{replay-append, replay-unwind}
 use Rattle.rl_line.proofs.Records.UndoLemmas.{line_ahead-replay, line_back-unwind}
 use Rattle.rl_line.proofs.Records.UnitLemmas.{AllGood, Settles, kept-last, opens-reverse, units-good, units-append, IsMatched-append, on, together-reverse, AllGood-reverse}
@@ -20,22 +20,19 @@ abbrev redone_times : ℕ → Record → Record
 redone_times zero r = r
 redone_times (suc n) r = redone_times n (redone r)
 
-abbrev lists : List Entry → List Entry → Record
-lists r p = record { recorded = r; pending = p; fresh = Stale }
-
-redo_one : (es kept rest : List Entry) → Settles es → IsMatched rest → redone (lists kept (es ++ rest)) ≡ lists (kept ++ es) rest
-redo_one es kept rest s h = grind (arith, common_steps, redo_of-front)
+redo_one : (saved : Option ℕ) (es kept rest : List Entry) → Settles es → IsMatched rest → redone (arrived kept (es ++ rest) saved) ≡ arrived (kept ++ es) rest saved
+redo_one saved es kept rest s h = grind (arith, common_steps, redo_of-front)
 
 -- redos put back closed units one by one, the oldest first
-redo_all : (vs : List UndoUnit) (kept rest : List Entry) → AllGood vs → opens vs ≡ 0 → IsMatched rest
-    → redone_times (length vs) (lists kept (on vs ++ rest)) ≡ lists (kept ++ on vs) rest
-redo_all [] kept rest g o h = ap (λ k. lists k rest) (sym (append-nil kept))
-redo_all (Open ∷ vs) kept rest g o h = absurd (omega arith)
-redo_all (Whole es ∷ vs) kept rest g o h =
-    ap (λ p. redone_times (length vs) (redone (lists kept p))) (append_assoc es (on vs) rest)
-    ∙ ap (redone_times (length vs)) (redo_one es kept (on vs ++ rest) g.0 (IsMatched-append (on vs) rest (IsMatched-on vs g.1 o) h))
-    ∙ redo_all vs (kept ++ es) rest g.1 o h
-    ∙ ap (λ k. lists k rest) (append_assoc kept es (on vs))
+redo_all : (saved : Option ℕ) (vs : List UndoUnit) (kept rest : List Entry) → AllGood vs → opens vs ≡ 0 → IsMatched rest
+    → redone_times (length vs) (arrived kept (on vs ++ rest) saved) ≡ arrived (kept ++ on vs) rest saved
+redo_all saved [] kept rest g o h = ap (λ k. arrived k rest saved) (sym (append-nil kept))
+redo_all saved (Open ∷ vs) kept rest g o h = absurd (omega arith)
+redo_all saved (Whole es ∷ vs) kept rest g o h =
+    ap (λ p. redone_times (length vs) (redone (arrived kept p saved))) (append_assoc es (on vs) rest)
+    ∙ ap (redone_times (length vs)) (redo_one saved es kept (on vs ++ rest) g.0 (IsMatched-append (on vs) rest (IsMatched-on vs g.1 o) h))
+    ∙ redo_all saved vs (kept ++ es) rest g.1 o h
+    ∙ ap (λ k. arrived k rest saved) (append_assoc kept es (on vs))
 
 -- the units that an undo takes off, the oldest first
 record TakenOff (n : ℕ) (r : Record) : Type 0 where
@@ -57,14 +54,14 @@ taken-off n r b o =
     }
 
 pub redo-undone : (n : ℕ) (r : Record) → BothMatched r → opens (last_units n r.recorded) ≡ 0
-    → redone_times (length (last_units n r.recorded)) (undone n r) ≡ lists r.recorded r.pending
+    → redone_times (length (last_units n r.recorded)) (undone n r) ≡ arrived r.recorded r.pending r.saved
 redo-undone n r b o =
     let t = taken-off n r b o in
     ap (λ k. redone_times k (undone n r)) (sym t.long)
-    ∙ ap (λ l. redone_times (length t.taken) (lists (kept_of n r.recorded) (l ++ r.pending))) t.is
-    ∙ redo_all t.taken (kept_of n r.recorded) r.pending t.good t.whole b.pending
-    ∙ ap (λ l. lists (kept_of n r.recorded ++ l) r.pending) (sym t.is)
-    ∙ ap (λ l. lists l r.pending) (kept-last n r.recorded)
+    ∙ ap (λ l. redone_times (length t.taken) (arrived (kept_of n r.recorded) (l ++ r.pending) r.saved)) t.is
+    ∙ redo_all r.saved t.taken (kept_of n r.recorded) r.pending t.good t.whole b.pending
+    ∙ ap (λ l. arrived (kept_of n r.recorded ++ l) r.pending r.saved) (sym t.is)
+    ∙ ap (λ l. arrived l r.pending r.saved) (kept-last n r.recorded)
 
 -- ---- the text
 Redos-record : (n : ℕ) (old new : Record) (line line' : Line) → Redos n old new line line' → new ≡ redone_times n old
@@ -72,17 +69,17 @@ Redos-record zero old new line line' h = h.0
 Redos-record (suc n) old new line line' h = let (mid, between, answer, first, others) = h in Redos-record n mid new between line' others ∙ ap (redone_times n) first.record_is
 
 -- redos replay the closed units
-Redos-text : (vs : List UndoUnit) (kept rest : List Entry) (new : Record) (line line' : Line) → AllGood vs → opens vs ≡ 0 → IsMatched rest
-    → Redos (length vs) (lists kept (on vs ++ rest)) new line line' → replay_entries (on vs) line.text ≡ Some line'.text
-Redos-text [] kept rest new line line' g o h d = ap (λ (l : Line). Some l.text) (sym d.1)
-Redos-text (Open ∷ vs) kept rest new line line' g o h d = absurd (omega arith)
-Redos-text (Whole es ∷ vs) kept rest new line line' g o h d =
-    let (mid, between, answer, first, others) = subst (λ p. Redos (suc (length vs)) (lists kept p) new line line') (append_assoc es (on vs) rest) d in
+Redos-text : (saved : Option ℕ) (vs : List UndoUnit) (kept rest : List Entry) (new : Record) (line line' : Line) → AllGood vs → opens vs ≡ 0 → IsMatched rest
+    → Redos (length vs) (arrived kept (on vs ++ rest) saved) new line line' → replay_entries (on vs) line.text ≡ Some line'.text
+Redos-text saved [] kept rest new line line' g o h d = ap (λ (l : Line). Some l.text) (sym d.1)
+Redos-text saved (Open ∷ vs) kept rest new line line' g o h d = absurd (omega arith)
+Redos-text saved (Whole es ∷ vs) kept rest new line line' g o h d =
+    let (mid, between, answer, first, others) = subst (λ p. Redos (suc (length vs)) (arrived kept p saved) new line line') (append_assoc es (on vs) rest) d in
     let m = IsMatched-append (on vs) rest (IsMatched-on vs g.1 o) h in
     let one = line_ahead-replay es line between (ap (λ u. line_ahead u line) (sym (redo_of-front es (on vs ++ rest) g.0 m)) ∙ first.line_is) in
     replay-append es (on vs) line.text ∙ ap (option_and_then (replay_entries (on vs))) one
-    ∙ Redos-text vs (kept ++ es) rest new between line' g.1 o h
-    (subst (λ x. Redos (length vs) x new between line') (first.record_is ∙ redo_one es kept (on vs ++ rest) g.0 m) others)
+    ∙ Redos-text saved vs (kept ++ es) rest new between line' g.1 o h
+    (subst (λ x. Redos (length vs) x new between line') (first.record_is ∙ redo_one saved es kept (on vs ++ rest) g.0 m) others)
 
 pub redos-give-back : (n : ℕ) (r mid now : Record) (line back ahead : Line) (answer : Bool) → IsUtf8 line.text → BothMatched r
     → opens (last_units n r.recorded) ≡ 0 → Undone n r mid line back answer
@@ -91,9 +88,9 @@ pub redos-give-back : (n : ℕ) (r mid now : Record) (line back ahead : Line) (a
 redos-give-back n r mid now line back ahead answer u b o un d =
     let t = taken-off n r b o in
     let whole = Redos-record (length (last_units n r.recorded)) mid now back ahead d ∙ ap (redone_times (length (last_units n r.recorded))) un.record_is ∙ redo-undone n r b o in
-    let mid_is : mid ≡ lists (kept_of n r.recorded) (on t.taken ++ r.pending) = un.record_is ∙ ap (λ l. lists (kept_of n r.recorded) (l ++ r.pending)) t.is in
+    let mid_is : mid ≡ arrived (kept_of n r.recorded) (on t.taken ++ r.pending) r.saved = un.record_is ∙ ap (λ l. arrived (kept_of n r.recorded) (l ++ r.pending) r.saved) t.is in
     let redos = subst (λ x. Redos (length t.taken) x now back ahead) mid_is (subst (λ k. Redos k mid now back ahead) (sym t.long) d) in
-    let there = Redos-text t.taken (kept_of n r.recorded) r.pending now back ahead t.good t.whole b.pending redos in
+    let there = Redos-text r.saved t.taken (kept_of n r.recorded) r.pending now back ahead t.good t.whole b.pending redos in
     let here = replay-unwind (last_of n r.recorded) line.text back.text u (line_back-unwind (last_of n r.recorded) line back un.line_is) in
     let both : Some ahead.text ≡ Some line.text = sym there ∙ ap (λ es. replay_entries es back.text) (sym t.is) ∙ here in
     (ap (λ (k : Record). k.recorded) whole, ap (λ (k : Record). k.pending) whole, cc)

@@ -8,7 +8,7 @@ use Rattle.rl_line.proofs.Records.UndoLemmas.{entries_from, line_back-unwind, le
 use Rattle.rl_line.proofs.Records.ChangeLemmas.{GoesOver-astray, GoesOver-next, GoesOver-not, longer-by, length-order}
 use Rattle.rl_line.proofs.Records.HeardLemmas.{back-one_more, cursor-gone}
 
-length-swapped : (text after : List ℕ) (i : ℕ) (old new : List ℕ) → Swaps text after i old new → length after ≡ (length text - length old) + length new
+pub length-swapped : (text after : List ℕ) (i : ℕ) (old new : List ℕ) → Swaps text after i old new → length after ≡ (length text - length old) + length new
 length-swapped text after i old new s = grind (arith, common_steps)
 
 -- the length of the text before an entry
@@ -87,13 +87,18 @@ pub NeedsRoom-one : (e : Entry) (text now : List ℕ) → IsUtf8 text → apply 
 NeedsRoom-one e text now u makes more =
     subst (Any (NeedsRoom text)) (sym (texts_back-more e [] text text now refl makes)) (Any-push (NeedsRoom text) [] now (omega (arith, length_back-is e text now u makes, more)))
 
+-- the length once one more of the changes is back is one on the way
+pub on_the_way : (way : Way) (xs : List Change) (m n long : ℕ) (x : Change) → m < length xs → x ≡ get_or xs m x → long ≡ length_back_over (map (entry_to_undo way) (drop (m + 1) xs)) n
+    → length_back (entry_to_undo way x) long ≤ greatest_back_over (map (entry_to_undo way) xs) n
+on_the_way way xs m n long x lt e is =
+    let same : length_back_over (drop m (map (entry_to_undo way) xs)) n ≡ length_back (entry_to_undo way x) long =
+    ap (λ es. length_back_over es n) (drop-map (entry_to_undo way) m xs ∙ entries_from way xs m x lt e) ∙ ap (length_back (entry_to_undo way x)) (sym is) in
+    omega (arith, length_back_over-within m (map (entry_to_undo way) xs) n, same)
+
 -- a length past what a usize holds is more than the first
 pub past_a_usize : (way : Way) (xs : List Change) (m n long : ℕ) (x : Change) → m < length xs → x ≡ get_or xs m x → long ≡ length_back_over (map (entry_to_undo way) (drop (m + 1) xs)) n
     → n < 2 ^ 64 → 2 ^ 64 ≤ length_back (entry_to_undo way x) long → n < greatest_back_over (map (entry_to_undo way) xs) n
-past_a_usize way xs m n long x lt e is fits past =
-    let same : length_back_over (drop m (map (entry_to_undo way) xs)) n ≡ length_back (entry_to_undo way x) long =
-    ap (λ es. length_back_over es n) (drop-map (entry_to_undo way) m xs ∙ entries_from way xs m x lt e) ∙ ap (length_back (entry_to_undo way x)) (sym is) in
-    omega (arith, length_back_over-within m (map (entry_to_undo way) xs) n, same, fits, past)
+past_a_usize way xs m n long x lt e is fits past = omega (arith, on_the_way way xs m n long x lt e is, fits, past)
 
 -- the texts on the way ahead are those on the way back over the inverses, the last first
 pub texts_ahead-back : (es : List Entry) (text : List ℕ) → texts_back (map inverse (reverse es)) text ≡ texts_ahead es text

@@ -1,9 +1,9 @@
 //! The edits that put a text in, or take a given range out, each generic over the listener that it tells.
-ghost use Rattle.std.specs.Prelude.{◌≡◌, ◌+◌, ◌*◌, ◌-◌, ◌<◌, ◌≤◌, length, encode_utf8, not, true, false, OnOk};
+ghost use Rattle.std.specs.Prelude.{◌≡◌, ◌+◌, ◌*◌, ◌-◌, ◌<◌, ◌≤◌, ℕ, length, encode_utf8, nat_le, not, true, false, OnOk};
 ghost use Rattle.std.specs.Str.{IsCharBoundary};
 ghost use Rattle.std.specs.List.{insert_slice, remove_range, replace_range, repeat};
-ghost use Rattle.rl_line.specs.Plan.{Outcome, StepOutcome, nothing_more, room_by_step, a_copy};
-ghost use Rattle.rl_line.specs.Edits.{CanInsertStr, CanYankPop, too_long, insert_plan, insert_step, insert_str_plan, yank_plan, yank_step, yank_pop_plan, Exchanges, cut_to_limit, update_plan, replacement_plan, delete_range_plan};
+ghost use Rattle.rl_line.specs.Plan.{Outcome, StepOutcome, longest_by, nothing_more, room_by_step, a_copy};
+ghost use Rattle.rl_line.specs.Edits.{CanInsertStr, CanYankPop, too_long, insert_plan, insert_step, insert_str_plan, yank_plan, yank_step, yank_pop_plan, Exchanges, cut_to_limit, update_plan, replace_plan, replacement_plan, delete_range_plan};
 ghost use Rattle.rl_line.specs.LineRanges.{IsRange};
 
 use crate::line_buffer::LineBuffer;
@@ -253,6 +253,17 @@ impl LineBuffer {
         from <= to && text.is_char_boundary(from) && text.is_char_boundary(to)
     }
 
+    /// Whether `replace` would leave the limit as it is: whether the text keeps to it with `text` in the place of what
+    /// stands between the two byte places.
+    pub fn replace_fits(&self, from: usize, to: usize, text: &str) -> bool
+        requires { IsRange self.now.text from to }
+        ensures { result ≡ nat_le (longest_by self.now (replace_plan self.now from to text.now)) self.now.limit }
+    {
+        let line = &self.line;
+        let left = line.text.len() - (to - from);
+        text.len() <= line.limit - left
+    }
+
     /// Replaces a range by a text, and moves the cursor past it. Refused, it leaves the line as it was.
     pub fn replace<L: ChangeListener>(
         &mut self,
@@ -287,6 +298,14 @@ impl LineBuffer {
         } else {
             old.is_char_boundary(pos - text.len())
         }
+    }
+
+    /// Whether `insert_str` would leave the limit as it is, at any place: whether the text keeps to it with `text` in it.
+    pub fn insert_str_fits(&self, text: &str) -> bool
+        ensures { (idx : ℕ) → result ≡ nat_le (longest_by self.now (insert_str_plan self.now idx text.now)) self.now.limit }
+    {
+        let line = &self.line;
+        text.len() <= line.limit - line.text.len()
     }
 
     /// Inserts a text at a byte place, and leaves the cursor at its own. Answers whether the place was the

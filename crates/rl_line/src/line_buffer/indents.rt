@@ -1,8 +1,8 @@
 //! Indenting and dedenting the lines of a range.
-ghost use Rattle.std.specs.Prelude.{◌≡◌, ◌+◌, ◌^◌, ◌<◌, true, false};
+ghost use Rattle.std.specs.Prelude.{◌≡◌, ◌+◌, ◌^◌, ◌<◌, nat_le, true, false};
 ghost use Rattle.std.specs.Str.{IsCharBoundary};
 ghost use Rattle.rl_line.specs.Indents.{indent_plan, pulled, pushed, shift_plan};
-ghost use Rattle.rl_line.specs.Plan.{Completion, Outcome, room_by_step};
+ghost use Rattle.rl_line.specs.Plan.{Completion, Outcome, longest_by, room_by_step};
 ghost use Rattle.rl_line.specs.LineRanges.{IsRange};
 
 use crate::line_buffer::LineBuffer;
@@ -38,6 +38,30 @@ impl LineBuffer {
             self.shift_line(line, amount, dedent, listener)?;
         }
         Ok(true)
+    }
+
+    /// Whether `indent` would leave the limit as it is: whether the text keeps to it with `amount` spaces more in each of
+    /// the lines. A dedent always does.
+    pub fn indent_fits(&self, mvt: &Movement, amount: u8, dedent: bool) -> bool
+        ensures { result ≡ nat_le (longest_by self.now (indent_plan self.now mvt.now amount dedent)) self.now.limit }
+    {
+        // So the proof knows that the text keeps to the limit.
+        let _limit = self.limit();
+        dedent || self.spaces_fit(mvt, amount)
+    }
+
+    fn spaces_fit(&self, mvt: &Movement, amount: u8) -> bool
+        ensures { result ≡ nat_le (longest_by self.now (indent_plan self.now mvt.now amount false)) self.now.limit }
+    {
+        let room = self.limit() - self.len();
+        let range = self.indented(mvt);
+        let first = self.line_at(range.start);
+        let last = self.line_at(range.start.max(range.end.saturating_sub(1)));
+        let count = (last + 1).saturating_sub(first);
+        match usize::from(amount).checked_mul(count) {
+            Some(more) => more <= room,
+            None => false,
+        }
     }
 
     // Indents or dedents one line.

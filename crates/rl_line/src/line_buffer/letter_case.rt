@@ -1,7 +1,8 @@
 //! Editing the letters of a word.
-ghost use Rattle.std.specs.Prelude.{◌≡◌, ◌<◌, ◌≤◌, min, length, string_bytes, IsAscii, IfSome, IfOk, OnErr};
+ghost use Rattle.std.specs.Prelude.{◌≡◌, ◌<◌, ◌≤◌, min, length, nat_le, string_bytes, IsAscii, IfSome, IfErr, IfOk, OnErr};
 ghost use Rattle.std.specs.Str.{IsCharBoundary};
-ghost use Rattle.rl_line.specs.Plan.{Outcome, a_copy};
+ghost use Rattle.rl_base.specs.declared.listeners.Refusal.TheVariants.{NoMemory};
+ghost use Rattle.rl_line.specs.Plan.{Outcome, a_copy, longest_by, unbegun};
 ghost use Rattle.rl_base.specs.declared.motion.WordAction.TheVariants.{Capitalize};
 ghost use Rattle.rl_line.specs.LetterCase.{edit_word_plan, mapped, recased, word_ahead};
 ghost use Rattle.rl_line.specs.Transpositions.{end_of_cluster};
@@ -36,6 +37,22 @@ impl LineBuffer {
         let end = word.start + made.len();
         self.exchange(word, at, made.as_str(), end, listener)?;
         Ok(true)
+    }
+
+    /// Whether `edit_word` would leave the limit as it is: whether the text keeps to it with the word's letters changed,
+    /// of which some take more bytes in the other case. It makes them, and so needs memory, if there is a word.
+    pub fn edit_word_fits(&self, action: WordAction) -> Result<bool, Refusal>
+        ensures ok { IfOk result (λ fits. fits ≡ nat_le (longest_by self.now (edit_word_plan self.now action)) self.now.limit) }
+        ensures err { IfErr result (λ r. (r ≡ NoMemory) × unbegun a_copy (edit_word_plan self.now action)) }
+    {
+        // So the proof knows that the text keeps to the limit.
+        let _limit = self.limit();
+        let Some(word) = self.word_ahead() else {
+            return Ok(true);
+        };
+        let text = &self.as_str()[word.start..word.end];
+        let made = recased(self.line.allocator(), text, action)?;
+        Ok(self.replace_fits(word.start, word.end, made.as_str()))
     }
 
     fn word_ahead(&self) -> Option<Range<usize>>

@@ -1,7 +1,7 @@
 //! Exchanging two clusters, and two words.
-ghost use Rattle.std.specs.Prelude.{◌≡◌, ◌≤◌, true, option_and_then, IfSome, IfOk, OnOk};
+ghost use Rattle.std.specs.Prelude.{◌≡◌, ◌≤◌, nat_le, true, option_and_then, IfSome, IfOk, OnOk};
 ghost use Rattle.std.specs.Str.{IsCharBoundary};
-ghost use Rattle.rl_line.specs.Plan.{Outcome, a_copy};
+ghost use Rattle.rl_line.specs.Plan.{Outcome, a_copy, longest_by};
 ghost use Rattle.rl_line.specs.Transpositions.{are_two, clusters_around, end_of_cluster, exchanged_text, first_word, meeting_place, pull_back_plan, SwapsClusters, second_word, swap_plan, transpose_chars_plan, transpose_words_plan, word_end, word_start};
 
 use crate::line_buffer::LineBuffer;
@@ -101,6 +101,22 @@ impl LineBuffer {
         }
         self.swap(first, second, listener)?;
         Ok(true)
+    }
+
+    /// Whether `transpose_words` would leave the limit as it is: whether the text keeps to it between its steps, where the
+    /// first word stands in the place of the second as well.
+    pub fn transpose_words_fits(&self, n: RepeatCount) -> bool
+        ensures { result ≡ nat_le (longest_by self.now (transpose_words_plan self.now n)) self.now.limit }
+    {
+        // So the proof knows that the text keeps to the limit.
+        let _limit = self.limit();
+        let second = self.second_word(n);
+        let first = self.first_word(second.start, n);
+        if !are_two(&first, &second) {
+            return true;
+        }
+        let text = &self.as_str()[first.start..first.end];
+        self.replace_fits(second.start, second.end, text)
     }
 
     // Four steps: replaces the second of two ranges by the first's text, and then the first by the second's. In the end

@@ -1,5 +1,7 @@
 -- Rows of a session: what they make of its history, and what undos and redos among them do.
-use Rattle.rl_session.proofs.Common.{◌≡◌, rules, ℕ, Bool, List, [], ◌∷◌, ◌++◌, length, min, arith, take, sym, ap, subst, append-nil, append_assoc, Line, listener_after, Record, record_step, unwind, Undone, Redone, Redos, begun, ended, ended_one, level, last_of, last_units, opens, redo_of, truncated, undone, Effect, by_steps, puts_begin, puts_ends, puts_end, shortens, takes_back, puts_again, Became, effect, Does, readied, with_changes, AllRedone, History, Holds, WasHeld, WasRefused, Row, Leads, Run, held, held_by, held_of, steps_in, texts_of_steps, State, with_ring, reset, Append, Command, Undo, Redo, Reply}
+use Rattle.rl_session.specs.Commands.{allowed}
+use Rattle.rl_session.proofs.Sessions.CommandLemmas.{done_allowed}
+use Rattle.rl_session.proofs.Common.{◌≡◌, ◌∙◌, inr, same_Some, replay_entries, true, Cursors, Entry, rules, ℕ, Bool, List, [], ◌∷◌, ◌++◌, length, min, arith, take, sym, ap, subst, append-nil, append_assoc, Line, listener_after, Record, record_step, unwind, Undone, Redone, Redos, begun, ended, ended_one, level, last_of, last_units, opens, redo_of, truncated, undone, Effect, by_steps, puts_begin, puts_ends, puts_end, shortens, takes_back, puts_again, Became, effect, Does, readied, with_changes, AllRedone, History, Holds, WasHeld, WasRefused, Row, Leads, Run, held, held_by, held_of, steps_in, texts_of_steps, State, with_ring, reset, Append, Command, Undo, Redo, Reply}
 use Rattle.rl_line.specs.Plan.{Step as PlanStep}
 use Rattle.rl_line.proofs.Records.MarkLemmas.{agree-same}
 use Rattle.rl_line.proofs.Records.RecordLemmas.{replay-IsUtf8}
@@ -7,9 +9,10 @@ use Rattle.rl_line.proofs.Records.RedoLemmas.{redos-give-back}
 use Rattle.rl_line.proofs.Records.UndoLemmas.{line_ahead-replay, line_back-unwind}
 use Rattle.rl_line.proofs.Records.UnitLemmas.{kept-last}
 use Rattle.rl_session.specs.Commands.{keeps, parts, reopens}
-use Rattle.rl_line.specs.Record.{parted}
+use Rattle.rl_line.specs.Record.{StaysSaved, is_saved, parted}
+use Rattle.rl_line.proofs.Records.SavedLemmas.{saved-back, saved-begun, saved-closed, saved-marked, saved-parted, saved-redone, saved-reopened, saved-step, saved-truncated, saved-undone}
 use Rattle.rl_line.specs.Units.{reopened}
-use Rattle.rl_session.specs.State.{Begins}
+use Rattle.rl_session.specs.State.{Begins, saved_now}
 use Rattle.rl_base.specs.KillRing.{killed}
 use Rattle.rl_session.specs.declared.session.Reply.TheVariants as says
 use Rattle.rl_session.proofs.Sessions.CourseLemmas.{Heard, Heard-Came}
@@ -100,9 +103,12 @@ pub done_as : (row : Row) (command : Command) (Did : Record → Record → Line 
 done_as row command Did done e w = grind (arith)
 
 -- an undo that was not refused
+Undo-allowed : (n : ℕ) (old left : State) (reply : Reply) → Became (allowed old (Undo n) reply) old left → ¬ (WasRefused reply) → (a : Bool) × Undone n old.pair.changes left.pair.changes old.line left.line a
+Undo-allowed n old left (says.Answer a) d w = (a, d.0)
+Undo-allowed n old left _ d w = absurd (search rules)
+
 Undo-done : (n : ℕ) (old left : State) (reply : Reply) → Does old (Undo n) reply left → ¬ (WasRefused reply) → (a : Bool) × Undone n old.pair.changes left.pair.changes old.line left.line a
-Undo-done n old left (says.Answer a) d w = (a, d.0)
-Undo-done n old left _ d w = absurd (search rules)
+Undo-done n old left reply d w = Undo-allowed n old left reply (done_allowed old (Undo n) reply left d w) w
 
 pub undo-row : (row : Row) (n : ℕ) → row.command ≡ Undo n → ¬ (WasRefused row.reply)
     → (a : Bool) × Undone n row.before.pair.changes row.after.pair.changes row.before.line row.after.line a
@@ -123,9 +129,12 @@ pub undo-drops : (row : Row) (n : ℕ) → row.command ≡ Undo n → ¬ (WasRef
 undo-drops row n is_undo done = grind (arith, undo-row, kept-last)
 
 -- a redo that was not refused
+Redo-allowed : (old left : State) (reply : Reply) → Became (allowed old Redo reply) old left → ¬ (WasRefused reply) → (a : Bool) × Redone old.pair.changes left.pair.changes old.line left.line a
+Redo-allowed old left (says.Answer a) d w = (a, d.0)
+Redo-allowed old left _ d w = absurd (search rules)
+
 Redo-done : (old left : State) (reply : Reply) → Does old Redo reply left → ¬ (WasRefused reply) → (a : Bool) × Redone old.pair.changes left.pair.changes old.line left.line a
-Redo-done old left (says.Answer a) d w = (a, d.0)
-Redo-done old left _ d w = absurd (search rules)
+Redo-done old left reply d w = Redo-allowed old left reply (done_allowed old Redo reply left d w) w
 
 pub redo-row : (row : Row) → row.command ≡ Redo → ¬ (WasRefused row.reply) → (a : Bool) × Redone row.before.pair.changes row.after.pair.changes row.before.line row.after.line a
 redo-row row = done_as row Redo (λ r k l m. (a : Bool) × Redone r k l m a) Redo-done
@@ -148,3 +157,40 @@ redo-in_run start held old new commands replies earlier redos row n h run e is_u
     let text_of = replay-IsUtf8 r.recorded start row.before.line.text at.holds.is_text at.holds.leads in
     let back = redos-give-back n r row.after.pair.changes new.pair.changes row.before.line row.after.line new.line d.0 text_of at.holds.matched whole d.1 again in
     (back.2, back.0, back.1)
+
+-- ---- a save point, which nothing that is done leaves with other entries before it
+Saved-steps : (es : List Entry) (steps : List PlanStep) (cursor : ℕ) (r : Record) → StaysSaved es r → StaysSaved es (listener_after record_step cursor steps r)
+Saved-steps es [] cursor r s = s
+Saved-steps es (step ∷ steps) cursor r s =
+    Saved-steps es steps step.1 _ (saved-step es (record_step r step.0) (Cursors cursor step.1) (saved-step es r step.0 s))
+
+Saved-Became : (es : List Entry) (effect : Effect) (old new : State) → Became effect old new → StaysSaved es old.pair.changes → StaysSaved es new.pair.changes
+Saved-Became es (by_steps course) old new d s =
+    let k = Heard-Came course old new d in subst (StaysSaved es) (sym k.taken.listener) (Saved-steps es (steps_in course old new d) old.line.cursor old.pair.changes s)
+Saved-Became es (puts_begin n) old new d s = subst (λ (k : State). StaysSaved es k.pair.changes) (sym d.1) (saved-begun es old.pair.changes s)
+Saved-Became es (puts_ends a) old new d s = subst (λ (k : State). StaysSaved es k.pair.changes) (sym d.1) (saved-closed es old.pair.changes (level old.pair.changes.recorded) s)
+Saved-Became es (puts_end a) old new d s =
+    subst (λ (k : State). StaysSaved es k.pair.changes) (sym d.1) (saved-closed es old.pair.changes (min 1 (level old.pair.changes.recorded)) s)
+Saved-Became es (shortens len) old new d s = subst (λ (k : State). StaysSaved es k.pair.changes) (sym d.1) (saved-truncated es old.pair.changes len s)
+Saved-Became es (keeps text) old new d s = subst (λ (k : State). StaysSaved es k.pair.changes) (sym d) s
+Saved-Became es parts old new d s = subst (λ (k : State). StaysSaved es k.pair.changes) (sym d) (saved-parted es old.pair.changes s)
+Saved-Became es (reopens a) old new d s = subst (λ (k : State). StaysSaved es k.pair.changes) (sym d.1) (saved-reopened es old.pair.changes s)
+Saved-Became es (takes_back n a) old new d s = subst (StaysSaved es) (sym d.0.record_is) (saved-undone es old.pair.changes n s)
+Saved-Became es (puts_again a) old new d s = subst (StaysSaved es) (sym d.0.record_is) (saved-redone es old.pair.changes s)
+
+pub Saved-Leads : (es : List Entry) (rows : List Row) (old new : State) → StaysSaved es old.pair.changes → Leads old rows new → StaysSaved es new.pair.changes
+Saved-Leads es [] old new s l = subst (λ (k : State). StaysSaved es k.pair.changes) (sym l) s
+Saved-Leads es (row ∷ rows) old new s l =
+    let before = readied row.command row.before in
+    let step = Saved-Became es (effect before row.command row.reply) before row.step.left row.step.does (subst (λ (k : State). StaysSaved es k.pair.changes) (sym l.0) s) in
+    Saved-Leads es rows row.after new (subst (λ (k : State). StaysSaved es k.pair.changes) (sym row.step.settles) step) l.1
+
+-- so where the record stands at the point, the text is that of the save
+pub saved-text : (start : List ℕ) (held : List (List ℕ)) (old new : State) (commands : List Command) (replies : List Reply) → Holds start held old
+    → Run (saved_now old) commands replies new → is_saved new.pair.changes ≡ true → new.line.text ≡ old.line.text
+saved-text start held old new commands replies h run at =
+    let r = old.pair.changes in
+    let marked : Holds start held (saved_now old) = record { is_text = h.is_text; leads = h.leads; placed = h.placed; matched = record { recorded = h.matched.recorded; pending = h.matched.pending } } in
+    let now = Holds-Leads start run.rows held (saved_now old) new marked run.leads in
+    let same = saved-back r.recorded new.pair.changes (Saved-Leads r.recorded run.rows (saved_now old) new (inr (saved-marked r)) run.leads) at in
+    same_Some _ _ (sym now.leads ∙ ap (λ es. replay_entries es start) same ∙ h.leads)

@@ -6,7 +6,7 @@ use Rattle.rl_line.specs.Plan.{Step, after}
 use Rattle.rl_line.specs.Record.{record_step}
 use Rattle.rl_line.specs.Units.{ends_in_end, reopened}
 use Rattle.rl_line.proofs.Records.MarkLemmas.{unwind-cut}
-use Rattle.rl_line.proofs.Records.JoinLemmas.{step-cases}
+use Rattle.rl_line.proofs.Records.JoinLemmas.{heard, step-cases}
 use Rattle.rl_line.proofs.Records.LastLemmas.{after-cases, end_one-cases, end_times-keeps, map-reverse}
 use Rattle.rl_line.proofs.Records.MatchLemmas.{IsMatched-after, BothMatched-begun, BothMatched-closed, BothMatched-undone, BothMatched-redone, BothMatched-truncated, Redoes-of, BothMatched-step}
 use Rattle.rl_line.proofs.Records.RecordLemmas.{none_or_one, then_some, through, replay-append, replay-IsUtf8, replay-unwind, unwind-replay, entries_after-unwind}
@@ -132,7 +132,7 @@ alone start es held p = subst (λ l. Placed start l held) (sym (append-nil es)) 
 
 -- an event that drops what was undone
 History-change : (event : Event) (start : List ℕ) (held : List (List ℕ)) (text next : List ℕ) (r : Record) → History start held text r → apply event text ≡ Some next
-    → History start (held ++ (next ∷ [])) next (record { recorded = entries_after r.fresh event r.recorded; pending = []; fresh = freshness_of r.fresh event r.recorded })
+    → History start (held ++ (next ∷ [])) next (heard event r)
 History-change event start held text next r h k = search (rules, after-leads, alone, Placed-after, recorded-placed, IsMatched-after)
 
 -- entries that make the same of a text are placed alike

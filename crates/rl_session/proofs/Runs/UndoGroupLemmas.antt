@@ -1,5 +1,6 @@
 -- A group that was closed is one unit, whatever happened inside, so that one undo takes it off.
-use Rattle.rl_session.proofs.Common.{rules, ◌≡◌, ◌<◌, ◌+◌, ℕ, inl, inr, zero, suc, true, List, [], ◌∷◌, ◌++◌, length, drop, Some, refl, sym, ap, subst, ◌∙◌, arith, or-false, min, listener_after, listener_after_step, Begin, End, Entry, Record, record_step, replay_entries, IsMatched, begun, end_one, end_times, ended, ended_one, has_change, kept_of, last_of, level, opens, with_closed, Effect, by_steps, puts_begin, puts_end, Became, effect, Does, with_changes, AllStandInGroup, ClosesGroup, Holds, MayStandInGroup, WasRefused, Leads, Row, Run, held, held_of, steps_in, State, with_ring, reset, Append, Command, Reply, Cursors}
+use Rattle.rl_session.specs.Commands.{allowed, effect_where, is_barred}
+use Rattle.rl_session.proofs.Common.{Bool, false, rules, ◌≡◌, ◌<◌, ◌+◌, ℕ, inl, inr, zero, suc, true, List, [], ◌∷◌, ◌++◌, length, drop, Some, refl, sym, ap, subst, ◌∙◌, arith, or-false, min, listener_after, listener_after_step, Begin, End, Entry, Record, record_step, replay_entries, IsMatched, begun, end_one, end_times, ended, ended_one, has_change, kept_of, last_of, level, opens, with_closed, Effect, by_steps, puts_begin, puts_end, Became, effect, Does, with_changes, AllStandInGroup, ClosesGroup, Holds, MayStandInGroup, WasRefused, Leads, Row, Run, held, held_of, steps_in, State, with_ring, reset, Append, Command, Reply, Cursors}
 use Rattle.rl_line.specs.Plan.{Step}
 use Rattle.rl_line.proofs.Records.GroupLemmas.{has_change-append, Inside, InsideOf, Inside-event, Inside-begun, Inside-reopened, past_begin}
 use Rattle.rl_line.proofs.Records.LastLemmas.{end_one-begin, end_one-cases, end_one-past, end_times-keeps}
@@ -62,14 +63,21 @@ StaysOpen below now parts = Unit {0}
 StaysOpen below now (reopens _) = Unit {0}
 StaysOpen below now _ = ⊥
 
+allowed_open : (below now : ℕ) (old : State) (command : Command) (reply : Reply) → MayStandInGroup below now command reply → StaysOpen below now (allowed old command reply)
+allowed_open below now old asks.End (says.Answer a) i = absurd i
+allowed_open below now old asks.EndOne (says.Answer a) i = elim i [ inl refused ↦ absurd refused | inr above ↦ above ]
+allowed_open below now old (asks.Undo n) (says.Answer a) i = absurd i
+allowed_open below now old asks.Redo (says.Answer a) i = absurd i
+allowed_open below now old (asks.Truncate len) says.Done i = absurd i
+allowed_open below now old _ (says.Refused f) i = tt
+allowed_open below now old _ _ i = tt
+
 stays_open : (below now : ℕ) (old : State) (command : Command) (reply : Reply) → MayStandInGroup below now command reply → StaysOpen below now (effect old command reply)
-stays_open below now old asks.End (says.Answer a) i = absurd i
-stays_open below now old asks.EndOne (says.Answer a) i = elim i [ inl refused ↦ absurd refused | inr above ↦ above ]
-stays_open below now old (asks.Undo n) (says.Answer a) i = absurd i
-stays_open below now old asks.Redo (says.Answer a) i = absurd i
-stays_open below now old (asks.Truncate len) says.Done i = absurd i
-stays_open below now old _ (says.Refused f) i = tt
-stays_open below now old _ _ i = tt
+stays_open below now old command reply i = from (is_barred old command)
+  where
+    from : (barred : Bool) → StaysOpen below now (effect_where barred old command reply)
+    from true = tt
+    from false = allowed_open below now old command reply i
 
 -- the end of one group that leaves the group open closes one that was begun inside
 Inside-end_one : (front inner : List Entry) → IsMatched inner → level front < level (end_one (front ++ (Begin ∷ inner))) → InsideOf front (end_one (front ++ (Begin ∷ inner)))

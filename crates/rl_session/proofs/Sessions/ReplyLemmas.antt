@@ -1,8 +1,8 @@
 -- What a command did, by what is replied to the outcome of its call.
-use Rattle.rl_session.proofs.Common.{Outcome, ToldOutcome, Bool, true, false, ◌≡◌, subst, sym, Result, Ok, Err, ℕ, Any, Option, IfOk, IfErr, OnOk, OnErr, Start, Refusal, Movement, NeedsRoom, room_by_step, Told, is_by_characters, kill_plan, Undone, steps_back, texts_back, last_of, Does, lent_plan, KeepsRing, WatchHears, pair_step, pair_refused, Pair, replied, State, Kill, Undo, Yank, YankPop, Reply}
+use Rattle.rl_session.proofs.Common.{Outcome, ToldOutcome, Bool, true, false, ◌≡◌, subst, sym, Result, Ok, Err, ℕ, Any, Option, IfOk, IfErr, OnOk, OnErr, Start, Refusal, Movement, NeedsRoom, room_by_step, Told, is_by_characters, kill_plan, Undone, steps_back, texts_back, last_of, Became, Does, lent_plan, KeepsRing, WatchHears, pair_step, pair_refused, Pair, replied, State, Kill, Undo, Yank, YankPop, Reply}
 use Rattle.rl_base.specs.KillRing.{yank, yank_pop, yank_size}
 use Rattle.rl_base.specs.declared.listeners.Refusal.TheVariants as why
-use Rattle.rl_session.specs.Commands.{StandsYanked, lent, popped, popped_plan}
+use Rattle.rl_session.specs.Commands.{StandsYanked, allowed, lent, popped, popped_plan}
 use Rattle.rl_session.specs.declared.session.Reply.TheVariants as says
 use Rattle.rl_session.proofs.Sessions.PairLemmas.{Halted-pair}
 use Rattle.rl_session.proofs.Common.{arith}
@@ -41,6 +41,6 @@ pub Undo-replied : (n : ℕ) {inside old : State} (new : State) (outcome : Resul
     → IfOk outcome (λ a. Undone n inside.pair.changes new.pair.changes inside.line new.line a)
     → OnOk outcome (WatchHears (steps_back inside.line.cursor (last_of n inside.pair.changes.recorded)) inside new)
     → IfErr outcome (λ w. (w ≡ why.NoMemory) × (new.pair.changes ≡ inside.pair.changes) × (new.line ≡ inside.line) × Any (NeedsRoom inside.line.text) (texts_back (last_of n inside.pair.changes.recorded) inside.line.text))
-    → OnErr outcome (new.pair.watch ≡ inside.pair.watch) → Does old (Undo n) reply new
-Undo-replied n {inside} new (Ok a) v e k d t h same = carried (λ s r. Does s (Undo n) r new) v e (d, k, t)
-Undo-replied n {inside} new (Err w) v e k d t h same = carried (λ s r. Does s (Undo n) r new) v e (h.3, same_state inside new k h.1 h.2 same)
+    → OnErr outcome (new.pair.watch ≡ inside.pair.watch) → Became (allowed old (Undo n) reply) old new
+Undo-replied n {inside} new (Ok a) v e k d t h same = carried (λ s r. Became (allowed s (Undo n) r) s new) v e (d, k, t)
+Undo-replied n {inside} new (Err w) v e k d t h same = carried (λ s r. Became (allowed s (Undo n) r) s new) v e (h.3, same_state inside new k h.1 h.2 same)

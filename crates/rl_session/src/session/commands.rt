@@ -1,9 +1,11 @@
-//! A call for each command. Each resets the ring first, but those whose commands go on from what the ring did last.
+//! A call for each command. Each resets the ring first, but those whose commands go on from what the ring did last. If the
+//! session's limit holds, those that would make the text longer, at their end or between their steps, reply `TooLong`, which
+//! leaves text, cursor and record as they were.
 ghost use Rattle.rl_line.specs.Deletions.{CanDeleteBy};
 ghost use Rattle.rl_session.specs.Commands.{Step, StepWith, deletion_of};
 ghost use Rattle.rl_session.specs.declared.session.Command.{Command};
 
-use crate::session::replies::{answered, inserted};
+use crate::session::replies::inserted;
 use crate::session::{Reply, Session};
 use rl_base::{Direction, Movement, RepeatCount, WordAction};
 
@@ -236,7 +238,7 @@ impl Session {
     pub fn undo(&mut self, n: RepeatCount) -> Reply
         ensures { Step self.old (Command.Undo n) result self.new }
     {
-        anew!(self, answered(self.do_undo(n)))
+        anew!(self, self.undo_held(n))
     }
 
     /// Redoes what was undone last. Answers whether there was a change. `NoMemory` leaves text and record as they were.

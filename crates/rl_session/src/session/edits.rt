@@ -1,5 +1,8 @@
 //! Insertions, replacements, and edits of words and lines.
-ghost use Rattle.rl_session.specs.Commands.{Does, DoesWith};
+ghost use Rattle.std.specs.Prelude.{◌≡◌, IfOk, OnErr};
+ghost use Rattle.rl_line.specs.LetterCase.{edit_word_plan};
+ghost use Rattle.rl_line.specs.Plan.{a_copy, unbegun};
+ghost use Rattle.rl_session.specs.Commands.{Does, DoesWith, is_barred};
 ghost use Rattle.rl_session.specs.Replies.{replied};
 ghost use Rattle.rl_session.specs.declared.session.Command.{Command};
 ghost use Rattle.rl_session.specs.declared.session.Reply.{Reply};
@@ -42,6 +45,9 @@ impl Session {
         if !self.line.can_insert_str(idx, text) {
             return Reply::Refused(Fault::BadPlace);
         }
+        if self.options.holds && !self.line.insert_str_fits(text) {
+            return Reply::Refused(Fault::TooLong);
+        }
         answered(self.line.insert_str(idx, text, &mut self.pair))
     }
 
@@ -51,6 +57,9 @@ impl Session {
         self.stands();
         if !self.line.is_range(from, to) {
             return Reply::Refused(Fault::BadPlace);
+        }
+        if self.options.holds && !self.line.replace_fits(from, to, text) {
+            return Reply::Refused(Fault::TooLong);
         }
         done(self.line.replace(from..to, text, &mut self.pair))
     }
@@ -66,6 +75,9 @@ impl Session {
         ensures { Does self.old (Command.TransposeWords n) result self.new }
     {
         self.stands();
+        if self.options.holds && !self.line.transpose_words_fits(n) {
+            return Reply::Refused(Fault::TooLong);
+        }
         answered(self.line.transpose_words(n, &mut self.pair))
     }
 
@@ -73,13 +85,32 @@ impl Session {
         ensures { Does self.old (Command.EditWord action) result self.new }
     {
         self.stands();
-        answered(self.line.edit_word(action, &mut self.pair))
+        match self.bars_word(action) {
+            Ok(false) => answered(self.line.edit_word(action, &mut self.pair)),
+            Ok(true) => Reply::Refused(Fault::TooLong),
+            Err(_) => Reply::Refused(Fault::NoMemory),
+        }
+    }
+
+    // Whether the limit forbids what stands for the word then, which is made for that alone.
+    fn bars_word(&self, action: WordAction) -> Result<bool, Refusal>
+        ensures ok { IfOk result (λ barred. barred ≡ is_barred self.now (Command.EditWord action)) }
+        ensures err { OnErr result (unbegun a_copy (edit_word_plan self.now.line action)) }
+    {
+        if !self.options.holds {
+            return Ok(false);
+        }
+        let fits = self.line.edit_word_fits(action)?;
+        Ok(!fits)
     }
 
     pub(super) fn do_indent(&mut self, movement: &Movement, amount: u8, dedent: bool) -> Reply
         ensures { Does self.old (Command.Indent movement.now amount dedent) result self.new }
     {
         self.stands();
+        if self.options.holds && !self.line.indent_fits(movement, amount, dedent) {
+            return Reply::Refused(Fault::TooLong);
+        }
         answered(self.line.indent(movement, amount, dedent, &mut self.pair))
     }
 }

@@ -12,8 +12,8 @@ use crate::options::Bound;
 use crate::session::Session;
 
 impl Session {
-    /// Sets how much the record and the ring may hold, and forgets at once what is beyond that, as `forget` does. A new session has no
-    /// bound.
+    /// Sets how much the record and the ring may hold, and forgets at once what is beyond that, as `forget` does. A new
+    /// session has no bound.
     pub fn set_bound(&mut self, bound: Bound)
         ensures set { self.new ≡ within_bound (bounded_by bound self.old) }
         ensures stays { Stands self.new × Follows self.new.line self.new.pair.changes }

@@ -1,8 +1,10 @@
 //! Groups of changes, undo, redo, and truncation of the record, and what can be asked about them.
-ghost use Rattle.std.specs.Prelude.{◌≡◌};
+ghost use Rattle.std.specs.Prelude.{◌≡◌, List, ℕ};
+ghost use Rattle.rl_line.specs.Record.{is_saved};
 ghost use Rattle.rl_line.specs.Units.{has_change, last_of, level, redo_of};
-ghost use Rattle.rl_session.specs.Commands.{Does};
+ghost use Rattle.rl_session.specs.Commands.{Became, Does, allowed};
 ghost use Rattle.rl_session.specs.Replies.{replied};
+ghost use Rattle.rl_session.specs.State.{ChangedFrom, ReportedFrom, saved_now};
 ghost use Rattle.rl_session.specs.declared.session.Command.{Command};
 ghost use Rattle.rl_session.specs.declared.session.Reply.{Reply};
 
@@ -24,6 +26,25 @@ impl Session {
         ensures { result ≡ has_change (redo_of self.now.pair.changes.pending) }
     {
         self.pair.changes.has_redo()
+    }
+
+    /// Says that the text is saved as it is (`Changeset::set_saved`). The next change is undone alone. No command: text, cursor,
+    /// ring and reports stay. A new session and one that was restarted were never saved.
+    pub fn set_saved(&mut self)
+        ensures set { self.new ≡ saved_now self.old }
+        ensures changed { (asked : List ℕ) → ChangedFrom asked self.old → ChangedFrom asked self.new }
+        ensures reported { (read : List ℕ) → ReportedFrom read self.old → ReportedFrom read self.new }
+    {
+        self.pair.changes.set_saved();
+        self.stands();
+    }
+
+    /// Whether the record stands where the text was saved (`Changeset::is_saved`), also after undos and redos: then the
+    /// text is as it was. A read too.
+    pub fn is_saved(&self) -> bool
+        ensures { result ≡ is_saved self.now.pair.changes }
+    {
+        self.pair.changes.is_saved()
     }
 
     /// How many groups are open. A read too.
@@ -72,9 +93,20 @@ impl Session {
         Reply::Answer(self.pair.changes.reopen())
     }
 
+    // What is barred has its reply here. Inlined, as the call is.
+    #[inline(always)]
+    pub(super) fn undo_held(&mut self, n: RepeatCount) -> Reply
+        ensures { Does self.old (Command.Undo n) result self.new }
+    {
+        if self.options.holds && !self.pair.changes.undo_fits(&self.line, n) {
+            return Reply::Refused(Fault::TooLong);
+        }
+        answered(self.do_undo(n))
+    }
+
     // Its reply is made by the caller, so that the outcome stays in a register.
-    pub(super) fn do_undo(&mut self, n: RepeatCount) -> Result<bool, Refusal>
-        ensures { Does self.old (Command.Undo n) (replied Reply.Answer result) self.new }
+    fn do_undo(&mut self, n: RepeatCount) -> Result<bool, Refusal>
+        ensures { Became (allowed self.old (Command.Undo n) (replied Reply.Answer result)) self.old self.new }
     {
         self.stands();
         let watch = &mut self.pair.watch;
@@ -86,6 +118,9 @@ impl Session {
         ensures { Does self.old Command.Redo result self.new }
     {
         self.stands();
+        if self.options.holds && !self.pair.changes.redo_fits(&self.line) {
+            return Reply::Refused(Fault::TooLong);
+        }
         let watch = &mut self.pair.watch;
         answered(self.pair.changes.redo_telling(&mut self.line, watch))
     }

@@ -1,9 +1,9 @@
 //! Opening a session, beginning anew in it, and setting what was chosen then.
-ghost use Rattle.std.specs.Prelude.{◌≡◌, ◌<◌, [], List, ℕ, max, length, false, IfOk, IfErr, OnErr, OnOk};
+ghost use Rattle.std.specs.Prelude.{◌≡◌, ◌<◌, ◌≤◌, [], List, ℕ, max, length, true, false, IfOk, IfErr, OnErr, OnOk};
 ghost use Rattle.std.specs.Str.{IsCharBoundary};
 ghost use Rattle.rl_base.specs.KillRing.{cleared, ruled};
 ghost use Rattle.rl_line.specs.Line.{NeedsRoom};
-ghost use Rattle.rl_session.specs.State.{Begins, ChangedFrom, Opens, RefusesRestart, Replays, ReportedFrom, fresh, limited, prompted, restarted, told_anew, with_mode, with_ring};
+ghost use Rattle.rl_session.specs.State.{Begins, ChangedFrom, HoldsLimit, Opens, RefusesRestart, Replays, ReportedFrom, fresh, holding, limited, prompted, restarted, told_anew, with_mode, with_ring};
 
 use crate::options::Options;
 use crate::pair::Pair;
@@ -136,10 +136,12 @@ impl Session {
     /// recorded yet, and the ring keeps its slots, so what was killed before can be yanked. A kill begins a new slot, and
     /// nothing was yanked last. The limit is raised if the text is longer. What tells of changes tells of this one too:
     /// all the old text gave way to the new one. Refused, it changes nothing: `BadPlace` comes exactly if `pos` is no
-    /// boundary of the text, and `NoMemory` only if the text needs more room than the old one.
+    /// boundary of the text, `TooLong` exactly if else the text is longer than a limit that holds, and `NoMemory` only if
+    /// the text needs more room than the old one.
     pub fn restart(&mut self, text: &str, pos: usize) -> Result<(), Fault>
         ensures ok { OnOk result (IsCharBoundary text.now pos × (self.new ≡ restarted text.now pos self.old)) }
         ensures begins { OnOk result (Begins text.now self.new) }
+        ensures within { OnOk result (self.old.options.holds ≡ true → length text.now ≤ self.old.line.limit) }
         ensures changed { (asked : List ℕ) → ChangedFrom asked self.old → ChangedFrom asked self.new }
         ensures reported { (read : List ℕ) → ReportedFrom read self.old → ReportedFrom read self.new }
         ensures err { IfErr result (λ fault. RefusesRestart fault text.now pos self.old × (self.new ≡ self.old)) }
@@ -148,6 +150,9 @@ impl Session {
         self.bounded();
         if !text.is_char_boundary(pos) {
             return Err(Fault::BadPlace);
+        }
+        if self.options.holds && text.len() > self.line.limit() {
+            return Err(Fault::TooLong);
         }
         renew(&mut self.line, text, pos, &mut self.pair.watch)?;
         self.pair.ring.reset();
@@ -167,6 +172,18 @@ impl Session {
         self.line.set_limit(limit);
         self.stands();
         self.bounded();
+    }
+
+    /// Sets whether the limit holds. Where it does, whatever would make the text longer is refused (`TooLong`), at its end
+    /// or on the way of its steps, but for what looks at the limit by itself.
+    pub fn set_limit_holds(&mut self, holds: bool)
+        ensures set { self.new ≡ holding holds self.old }
+        ensures held { holds ≡ true → self.old.line.grow ≡ false → HoldsLimit self.new }
+        ensures changed { (asked : List ℕ) → ChangedFrom asked self.old → ChangedFrom asked self.new }
+        ensures reported { (read : List ℕ) → ReportedFrom read self.old → ReportedFrom read self.new }
+    {
+        self.stands();
+        self.options.holds = holds;
     }
 
     /// Sets the column at which the prompt ends. `LineUp` and `LineDown` count the columns of the text's first line from

@@ -4,29 +4,29 @@ use Rattle.rl_line.proofs.entries.Entries.join_char.Goals as goal
 
 pub returns-then-self-eq0-clause-ok : goal.returns-then-self-eq0-clause-ok
 returns-then-self-eq0-clause-ok c =
-    joins-nothing (InsertChar c.args.idx c.args.c) c.args.self.now _ c.self.inside.recorded c.self.inside.fresh
+    joins-nothing (InsertChar c.args.idx c.args.c) c.args.self.now _ c.self.inside.recorded c.self.inside.fresh c.self.inside.saved
     (step-InsertChar c.args.self.now c.args.idx c.args.c) c.self.view_is c.if-self-eq0.true
 
 pub returns-then-is_parted-clause-ok : goal.returns-then-is_parted-clause-ok
 returns-then-is_parted-clause-ok c =
-    joins-none (InsertChar c.args.idx c.args.c) c.args.self.now _ c.self.inside.recorded c.self.inside.fresh
+    joins-none (InsertChar c.args.idx c.args.c) c.args.self.now _ c.self.inside.recorded c.self.inside.fresh c.self.inside.saved
     (step-InsertChar c.args.self.now c.args.idx c.args.c) c.self.view_is (sym c.is_parted.ensures ∙ c.if-is_parted.true)
 
 pub returns-in_err-fresh-clause-err : goal.returns-in_err-fresh-clause-err
 returns-in_err-fresh-clause-err c =
     let p = err_from_is_err_and c.from_residual.result c.from_residual.ensures.1 in
     let e = c.in_err-fresh.ensures.err in
-    rw (p.1, p.2) (e.0, stays-err c.self.inside.list.items c.self.inside.recorded c.self.inside.fresh c.args.self.now c.index_mut.result.now c.join_char.new.self c.self.view_is c.index_mut.ensures.value e.1)
+    rw (p.1, p.2) (e.0, stays-err c.self.inside.list.items c.self.inside.recorded c.self.inside.fresh c.self.inside.saved c.args.self.now c.index_mut.result.now c.join_char.new.self c.self.view_is c.index_mut.ensures.value e.1)
 
 pub returns-in_default-clause-ok : goal.returns-in_default-clause-ok
 returns-in_default-clause-ok c =
-    joins-not (InsertChar c.args.idx c.args.c) c.args.self.now c.self.inside.list.items c.self.inside.recorded c.self.inside.fresh c.index_mut.result.now c.join_char.new.self
-    (step-InsertChar c.args.self.now c.args.idx c.args.c) c.self.invariant c.self.view_is (sym c.is_parted.ensures ∙ c.if-is_parted.false) (omega (arith, c.if-self-eq0.false)) c.index_mut.ensures.value
+    joins-not (InsertChar c.args.idx c.args.c) c.args.self.now c.self.inside.list.items c.self.inside.recorded c.self.inside.fresh c.self.inside.saved c.index_mut.result.now c.join_char.new.self
+    (step-InsertChar c.args.self.now c.args.idx c.args.c) c.self.invariant.0 c.self.view_is (sym c.is_parted.ensures ∙ c.if-is_parted.false) (omega (arith, c.if-self-eq0.false)) c.index_mut.ensures.value
     (subst (TakesIn (InsertChar c.args.idx c.args.c) (entry_of c.index_mut.result.now) (entry_of c.join_char.new.self)) c.in_default.is c.in_ok-fresh.ensures.ok)
 
 pub returns-clause-ok : goal.returns-clause-ok
 returns-clause-ok c =
     c.settle.ensures
-    ∙ joins (InsertChar c.args.idx c.args.c) c.args.self.now c.self.inside.list.items c.self.inside.recorded c.self.inside.fresh c.in-Some.fresh c.index_mut.result.now c.join_char.new.self
-    (step-InsertChar c.args.self.now c.args.idx c.args.c) c.self.invariant c.self.view_is (sym c.is_parted.ensures ∙ c.if-is_parted.false) (omega (arith, c.if-self-eq0.false)) c.index_mut.ensures.value
+    ∙ joins (InsertChar c.args.idx c.args.c) c.args.self.now c.self.inside.list.items c.self.inside.recorded c.self.inside.fresh c.self.inside.saved c.in-Some.fresh c.index_mut.result.now c.join_char.new.self
+    (step-InsertChar c.args.self.now c.args.idx c.args.c) c.self.invariant.0 c.self.view_is (sym c.is_parted.ensures ∙ c.if-is_parted.false) (omega (arith, c.if-self-eq0.false)) c.index_mut.ensures.value
     (subst (TakesIn (InsertChar c.args.idx c.args.c) (entry_of c.index_mut.result.now) (entry_of c.join_char.new.self)) c.in-Some.is c.in_ok-fresh.ensures.ok)

@@ -21,8 +21,8 @@ returns-then-self-gt0 c =
       | in-Added w ↦ ap freshness_told w.in-Added.is
       | in-Joined w ↦ ap freshness_told w.in-Joined.is
     ] in
-    told-last c.args.self.now c.self.inside.list.items c.self.inside.recorded c.args.before c.args.after c.match-self.first c.self.inside.fresh c.index_mut.result.now c.tell.new.self
-    c.self.invariant c.self.view_is c.if-self-gt0.true c.index_mut.ensures.value c.tell.ensures told stale
+    told-last c.args.self.now c.self.inside.list.items c.self.inside.recorded c.args.before c.args.after c.match-self.first c.self.inside.fresh c.self.inside.saved c.index_mut.result.now c.tell.new.self
+    c.self.invariant.0 c.self.view_is c.if-self-gt0.true c.index_mut.ensures.value c.tell.ensures told stale
 
 pub returns-else-self-gt0 : goal.returns-else-self-gt0
 returns-else-self-gt0 c =
@@ -30,4 +30,4 @@ returns-else-self-gt0 c =
       | in-Added w ↦ ap freshness_told w.in-Added.is
       | in-Joined w ↦ ap freshness_told w.in-Joined.is
     ] in
-    told-nothing c.args.self.now _ c.self.inside.recorded c.args.before c.args.after c.self.inside.fresh c.self.view_is (omega (arith, c.if-self-gt0.false)) stale
+    told-nothing c.args.self.now _ c.self.inside.recorded c.args.before c.args.after c.self.inside.fresh c.self.inside.saved c.self.view_is (omega (arith, c.if-self-gt0.false)) stale
