@@ -5,7 +5,7 @@ use Rattle.rl_base.specs.declared.kill_ring.NewKill.TheVariants.{AfterNewest}
 use Rattle.rl_base.specs.declared.layout.GraphemeClusterMode.{GraphemeClusterMode}
 use Rattle.rl_line.specs.Line.{NeedsRoom}
 use Rattle.rl_session.specs.Forgetting.{bounded_by, within_bound}
-use Rattle.rl_session.specs.State.{State, fresh, holding, limited, prompted, restarted, with_mode, with_ring}
+use Rattle.rl_session.specs.State.{FitsLimit, State, fresh, holding, limited, prompted, restarted, with_mode, with_ring}
 use Rattle.rl_ffi.specs.Calls.{Effect, leaves, of_named, of_text, only_where}
 use Rattle.rl_ffi.specs.Listeners.{fresh_listeners}
 use Rattle.rl_ffi.specs.Numbers.{mode_number, mode_of}
@@ -68,6 +68,6 @@ without_killed s = with_ring (cleared s.pair.ring) s
 -- that holds
 abbrev pub restarts : List ℕ → Effect State
 restarts text = of_text text (λ s n new.
-    ((s.options.holds ≡ true → length text ≤ s.line.limit) × (n ≡ Done) × (new ≡ restarted text (length text) s))
-    ⊎ (NeedsRoom s.line.text text × leaves NoMemory s n new)
+    (FitsLimit text s × (n ≡ Done) × (new ≡ restarted text (length text) s))
+    ⊎ (FitsLimit text s × NeedsRoom s.line.text text × leaves NoMemory s n new)
     ⊎ ((s.options.holds ≡ true) × (s.line.limit < length text) × leaves NoRoom s n new))

@@ -42,3 +42,5 @@ mod splice;
 mod told;
 #[cfg(test)]
 mod undo;
+#[cfg(test)]
+mod units;

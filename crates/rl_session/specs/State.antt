@@ -116,12 +116,16 @@ restarted text pos s = record {
   options = s.options;
 }
 
+-- a text that the limit lets in, if it holds
+abbrev pub FitsLimit : List ℕ → State → Type 0
+FitsLimit text s = s.options.holds ≡ true → length text ≤ s.line.limit
+
 -- why a session is not restarted: the place is no boundary of the text, the text is longer than a limit that holds, or memory
 -- is out for a text that needs more room
 abbrev pub RefusesRestart : Fault → List ℕ → ℕ → State → Type 0
 RefusesRestart BadPlace text pos s = ¬ (IsCharBoundary text pos)
 RefusesRestart TooLong text pos s = IsCharBoundary text pos × (s.options.holds ≡ true) × (s.line.limit < length text)
-RefusesRestart NoMemory text pos s = IsCharBoundary text pos × NeedsRoom s.line.text text
+RefusesRestart NoMemory text pos s = IsCharBoundary text pos × FitsLimit text s × NeedsRoom s.line.text text
 RefusesRestart _ text pos s = ⊥
 
 -- what making a session may give: a session with these five values, or BadPlace if the place is no boundary. NoMemory comes

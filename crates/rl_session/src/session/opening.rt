@@ -3,7 +3,7 @@ ghost use Rattle.std.specs.Prelude.{◌≡◌, ◌<◌, ◌≤◌, [], List, ℕ
 ghost use Rattle.std.specs.Str.{IsCharBoundary};
 ghost use Rattle.rl_base.specs.KillRing.{cleared, ruled};
 ghost use Rattle.rl_line.specs.Line.{NeedsRoom};
-ghost use Rattle.rl_session.specs.State.{Begins, ChangedFrom, HoldsLimit, Opens, RefusesRestart, Replays, ReportedFrom, fresh, holding, limited, prompted, restarted, told_anew, with_mode, with_ring};
+ghost use Rattle.rl_session.specs.State.{Begins, ChangedFrom, FitsLimit, HoldsLimit, Opens, RefusesRestart, Replays, ReportedFrom, fresh, holding, limited, prompted, restarted, told_anew, with_mode, with_ring};
 
 use crate::options::Options;
 use crate::pair::Pair;
@@ -141,7 +141,7 @@ impl Session {
     pub fn restart(&mut self, text: &str, pos: usize) -> Result<(), Fault>
         ensures ok { OnOk result (IsCharBoundary text.now pos × (self.new ≡ restarted text.now pos self.old)) }
         ensures begins { OnOk result (Begins text.now self.new) }
-        ensures within { OnOk result (self.old.options.holds ≡ true → length text.now ≤ self.old.line.limit) }
+        ensures within { OnOk result (FitsLimit text.now self.old) }
         ensures changed { (asked : List ℕ) → ChangedFrom asked self.old → ChangedFrom asked self.new }
         ensures reported { (read : List ℕ) → ReportedFrom read self.old → ReportedFrom read self.new }
         ensures err { IfErr result (λ fault. RefusesRestart fault text.now pos self.old × (self.new ≡ self.old)) }

@@ -1,0 +1,208 @@
+//! The groups of a record and its units, with answers that were worked out by hand.
+use crate::undo::{Call, Event, Step, goes};
+use std::alloc::Global;
+use std::test::Fail;
+
+#[test]
+fn a_group_comes_and_goes_as_one(rt: HostRuntime) -> Result<(), Fail> {
+    const STEPS: &[Step] = &[
+        (Call::Insert('a', 1), 1, "a", 1, 1, 0),
+        (Call::Begin, 1, "a", 1, 2, 1),
+        (Call::Insert('b', 1), 1, "ab", 2, 3, 1),
+        (Call::Insert('c', 1), 1, "abc", 3, 3, 1),
+        (Call::End, 1, "abc", 3, 4, 0),
+        (Call::Undo(1), 1, "a", 1, 1, 0),
+        (Call::Redo, 1, "abc", 3, 4, 0),
+        // nothing joins what a closed group holds
+        (Call::Insert('d', 1), 1, "abcd", 4, 5, 0),
+    ];
+    goes(&rt, rt.alloc(), "", STEPS)
+}
+
+#[test]
+fn an_undo_goes_past_an_open_begin(rt: HostRuntime) -> Result<(), Fail> {
+    const OPEN: &[Step] = &[
+        (Call::Insert('a', 1), 1, "a", 1, 1, 0),
+        (Call::Begin, 1, "a", 1, 2, 1),
+        (Call::Insert('b', 1), 1, "ab", 2, 3, 1),
+        (Call::Undo(2), 1, "a", 1, 1, 0),
+        (Call::End, 0, "a", 1, 1, 0),
+    ];
+    goes(&rt, rt.alloc(), "", OPEN)?;
+    // an undo takes the open begin, and then the closed group before it; the redo of an open begin takes the rest
+    const CLOSED: &[Step] = &[
+        (Call::Begin, 0, "", 0, 1, 1),
+        (Call::Insert('a', 1), 1, "a", 1, 2, 1),
+        (Call::Insert('-', 1), 1, "a-", 2, 3, 1),
+        (Call::End, 1, "a-", 2, 4, 0),
+        (Call::Begin, 4, "a-", 2, 5, 1),
+        (Call::Insert('b', 1), 1, "a-b", 3, 6, 1),
+        (Call::Undo(2), 1, "a-", 2, 4, 0),
+        (Call::Redo, 1, "a-b", 3, 6, 1),
+        (Call::Undo(3), 1, "", 0, 0, 0),
+        (Call::Redo, 1, "a-", 2, 4, 0),
+        (Call::Redo, 1, "a-b", 3, 6, 1),
+        (Call::Redo, 0, "a-b", 3, 6, 1),
+    ];
+    goes(&rt, rt.alloc(), "", CLOSED)
+}
+
+#[test]
+fn groups_nest(rt: HostRuntime) -> Result<(), Fail> {
+    const NESTED: &[Step] = &[
+        (Call::Begin, 0, "", 0, 1, 1),
+        (Call::Yank("a"), 1, "a", 1, 2, 1),
+        (Call::Begin, 2, "a", 1, 3, 2),
+        (Call::Yank("b"), 1, "ab", 2, 4, 2),
+        (Call::End, 1, "ab", 2, 6, 0),
+        (Call::Undo(1), 1, "", 0, 0, 0),
+        (Call::Redo, 1, "ab", 2, 6, 0),
+        (Call::Replays(5), 1, "ab", 2, 6, 0),
+        // the outer group is open again
+        (Call::Truncate(5), 1, "ab", 2, 5, 1),
+        (Call::Undo(1), 1, "a", 1, 2, 1),
+        (Call::Undo(1), 1, "", 0, 1, 1),
+        (Call::Undo(1), 0, "", 0, 0, 0),
+    ];
+    goes(&rt, rt.alloc(), "", NESTED)?;
+    // of several begins, the one with nothing after it is removed, and the others are closed
+    const BEGINS: &[Step] = &[
+        (Call::Begin, 0, "", 0, 1, 1),
+        (Call::Begin, 1, "", 0, 2, 2),
+        (Call::Yank("a"), 1, "a", 1, 3, 2),
+        (Call::Begin, 3, "a", 1, 4, 3),
+        (Call::End, 1, "a", 1, 5, 0),
+        (Call::Undo(1), 1, "", 0, 0, 0),
+        (Call::Begin, 0, "", 0, 1, 1),
+        (Call::Begin, 1, "", 0, 2, 2),
+        (Call::End, 0, "", 0, 0, 0),
+    ];
+    goes(&rt, rt.alloc(), "", BEGINS)
+}
+
+#[test]
+fn the_last_group_is_closed_alone(rt: HostRuntime) -> Result<(), Fail> {
+    const STEPS: &[Step] = &[
+        (Call::EndOne, 0, "", 0, 0, 0),
+        (Call::Begin, 0, "", 0, 1, 1),
+        (Call::Yank("a"), 1, "a", 1, 2, 1),
+        (Call::Begin, 2, "a", 1, 3, 2),
+        (Call::Yank("b"), 1, "ab", 2, 4, 2),
+        (Call::Yank("c"), 1, "abc", 3, 5, 2),
+        (Call::EndOne, 1, "abc", 3, 6, 1),
+        // the inner group goes as one, and the outer one stays open
+        (Call::Undo(1), 1, "a", 1, 2, 1),
+        (Call::Redo, 1, "abc", 3, 6, 1),
+        // a group that holds nothing leaves no trace
+        (Call::Begin, 6, "abc", 3, 7, 2),
+        (Call::EndOne, 0, "abc", 3, 6, 1),
+        (Call::EndOne, 1, "abc", 3, 7, 0),
+        // and is taken up again, with the inner one, but not past a change; what was undone goes
+        (Call::Yank("-"), 1, "abc-", 4, 8, 0),
+        (Call::Reopen, 0, "abc-", 4, 8, 0),
+        (Call::Undo(1), 1, "abc", 3, 7, 0),
+        (Call::Reopen, 1, "abc", 3, 6, 1),
+        (Call::Redo, 0, "abc", 3, 6, 1),
+        (Call::Reopen, 1, "abc", 3, 5, 2),
+        (Call::Reopen, 0, "abc", 3, 5, 2),
+        (Call::End, 1, "abc", 3, 7, 0),
+        (Call::Undo(1), 1, "", 0, 0, 0),
+    ];
+    goes(&rt, rt.alloc(), "", STEPS)
+}
+
+#[test]
+fn a_record_tells_whether_an_undo_finds_a_change(rt: HostRuntime) -> Result<(), Fail> {
+    const STEPS: &[Step] = &[
+        (Call::HasUndo, 0, "", 0, 0, 0),
+        (Call::HasRedo, 0, "", 0, 0, 0),
+        (Call::Yank("a"), 1, "a", 1, 1, 0),
+        (Call::HasUndo, 1, "a", 1, 1, 0),
+        (Call::HasRedo, 0, "a", 1, 1, 0),
+        // an undo would take the open begin alone
+        (Call::Begin, 1, "a", 1, 2, 1),
+        (Call::HasUndo, 0, "a", 1, 2, 1),
+        (Call::Yank("b"), 1, "ab", 2, 3, 1),
+        (Call::HasUndo, 1, "ab", 2, 3, 1),
+        (Call::End, 1, "ab", 2, 4, 0),
+        (Call::HasUndo, 1, "ab", 2, 4, 0),
+        (Call::Undo(2), 1, "", 0, 0, 0),
+        (Call::HasUndo, 0, "", 0, 0, 0),
+        (Call::HasRedo, 1, "", 0, 0, 0),
+        // a closed group waits, and then a begin alone
+        (Call::Redo, 1, "a", 1, 1, 0),
+        (Call::HasRedo, 1, "a", 1, 1, 0),
+        (Call::Begin, 1, "a", 1, 2, 1),
+        (Call::Undo(1), 0, "a", 1, 1, 0),
+        (Call::HasRedo, 0, "a", 1, 1, 0),
+        // a begin waits, and a change after it
+        (Call::Redo, 0, "a", 1, 2, 1),
+        (Call::Yank("b"), 1, "ab", 2, 3, 1),
+        (Call::Undo(2), 1, "a", 1, 1, 0),
+        (Call::HasRedo, 1, "a", 1, 1, 0),
+    ];
+    goes(&rt, rt.alloc(), "", STEPS)
+}
+
+#[test]
+fn every_call_keeps_count_of_the_open_groups(rt: HostRuntime) -> Result<(), Fail> {
+    // two nested groups: both are open again where their ends are cut off, and are cut off themselves then
+    const NESTED: &[Step] = &[
+        (Call::Begin, 0, "", 0, 1, 1),
+        (Call::Yank("a"), 1, "a", 1, 2, 1),
+        (Call::Begin, 2, "a", 1, 3, 2),
+        (Call::Yank("b"), 1, "ab", 2, 4, 2),
+        (Call::End, 1, "ab", 2, 6, 0),
+        (Call::Truncate(4), 1, "ab", 2, 4, 2),
+        (Call::End, 1, "ab", 2, 6, 0),
+        (Call::Begin, 6, "ab", 2, 7, 1),
+        (Call::Truncate(9), 1, "ab", 2, 7, 1),
+        (Call::Truncate(5), 1, "ab", 2, 5, 1),
+        (Call::Truncate(3), 1, "ab", 2, 3, 2),
+        (Call::Truncate(1), 1, "ab", 2, 1, 1),
+        (Call::End, 0, "ab", 2, 0, 0),
+    ];
+    goes(&rt, rt.alloc(), "", NESTED)?;
+    // begins that are undone after an open one, and redone
+    const BEGINS: &[Step] = &[
+        (Call::Begin, 0, "", 0, 1, 1),
+        (Call::Yank("a"), 1, "a", 1, 2, 1),
+        (Call::Begin, 2, "a", 1, 3, 2),
+        (Call::Begin, 3, "a", 1, 4, 3),
+        (Call::Yank("b"), 1, "ab", 2, 5, 3),
+        (Call::Undo(2), 1, "a", 1, 3, 2),
+        (Call::Undo(1), 0, "a", 1, 2, 1),
+        (Call::Redo, 1, "ab", 2, 5, 3),
+        (Call::End, 1, "ab", 2, 8, 0),
+        (Call::Undo(1), 1, "", 0, 0, 0),
+        (Call::Redo, 1, "ab", 2, 8, 0),
+    ];
+    goes(&rt, rt.alloc(), "", BEGINS)
+}
+
+#[test]
+fn a_truncated_record_forgets_the_open_group(rt: HostRuntime) -> Result<(), Fail> {
+    const STEPS: &[Step] = &[
+        (Call::Begin, 0, "a", 1, 1, 1),
+        (Call::Insert('b', 1), 1, "ab", 2, 2, 1),
+        (Call::Replays(0), 0, "ab", 2, 2, 1),
+        (Call::Back(1), 1, "a", 1, 3, 1),
+        (Call::Replays(0), 1, "a", 1, 3, 1),
+        (Call::Truncate(0), 1, "a", 1, 0, 0),
+        (Call::End, 0, "a", 1, 0, 0),
+        (Call::Undo(1), 0, "a", 1, 0, 0),
+    ];
+    goes(&rt, rt.alloc(), "a", STEPS)
+}
+
+#[test]
+fn a_group_without_a_change_has_no_end(rt: HostRuntime) -> Result<(), Fail> {
+    const STEPS: &[Step] = &[
+        (Call::Begin, 0, "", 0, 1, 1),
+        (Call::End, 0, "", 0, 0, 0),
+        (Call::Begin, 0, "", 0, 1, 1),
+        (Call::Told(Event::Text(0, "Hi")), 1, "", 0, 2, 1),
+        (Call::End, 1, "", 0, 3, 0),
+    ];
+    goes(&rt, rt.alloc(), "", STEPS)
+}
