@@ -26,6 +26,7 @@ pub mod UndoLemmas
 pub mod GoingLemmas
 pub mod WayLemmas
 pub mod WalkLemmas
+pub mod AbandonLemmas
 pub mod ForgettingLemmas
 pub mod RedoLemmas
 pub mod Laws

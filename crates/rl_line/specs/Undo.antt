@@ -11,7 +11,7 @@ use Rattle.rl_line.specs.declared.change.Way.TheVariants.{Back, Ahead}
 use Rattle.rl_line.specs.Line.{Line, NeedsRoom, after_step}
 use Rattle.rl_line.specs.Plan.{Step, listener_after}
 use Rattle.rl_line.specs.Record.{Entry, Begin, End, Changed, Record, bytes_ahead, bytes_back, cursors_of, event_of, events_ahead, events_back, inverse, past, replay_entries, unwind}
-use Rattle.rl_line.specs.Units.{last_of, redo_of, has_change, undone, redone}
+use Rattle.rl_line.specs.Units.{last_of, open_group, redo_of, has_change, is_open, abandoned, undone, redone}
 
 -- the cursor after an entry was made, if that was told
 abbrev pub cursor_told : Entry → Option ℕ
@@ -108,6 +108,12 @@ pub record Redone (old new : Record) (line line' : Line) (answer : Bool) : Type 
   pub line_is : line_ahead (redo_of old.pending) line ≡ Some line'
   pub record_is : new ≡ redone old
   pub answer_is : answer ≡ has_change (redo_of old.pending)
+
+-- what an abandon does: the line goes back over the group that was opened last, which is forgotten. The answer: was one open?
+pub record Abandoned (old new : Record) (line line' : Line) (answer : Bool) : Type 0 where
+  pub line_is : line_back (open_group old.recorded) line ≡ Some line'
+  pub record_is : new ≡ abandoned old
+  pub answer_is : answer ≡ is_open old.recorded
 
 -- an undo or a redo that found no change leaves text and cursor
 abbrev pub StandsStill : Line → Line → Type 0

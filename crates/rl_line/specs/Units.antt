@@ -1,5 +1,5 @@
 -- Undo groups: the units that an undo takes off and a redo puts back, and what each call makes of the record.
-use Rattle.std.specs.Prelude.{◌≡◌, ℕ, zero, suc, ◌-◌, max, min, not, ◌||◌, Bool, true, false, List, [], ◌∷◌, ◌++◌, length, map, take, drop, reverse, Option, Some, None, IsSome, IsTrue, option_and_then, if◌then◌else◌}
+use Rattle.std.specs.Prelude.{◌≡◌, ℕ, zero, suc, ◌-◌, max, min, not, ◌||◌, ◌==◌, Bool, true, false, List, [], ◌∷◌, ◌++◌, length, map, take, drop, reverse, Option, Some, None, IsSome, IsTrue, option_and_then, if◌then◌else◌}
 use Rattle.rl_base.specs.Event.{Event}
 use Rattle.rl_line.specs.declared.change.Freshness.TheVariants.{Stale}
 use Rattle.rl_line.specs.Record.{Entry, Begin, End, Changed, Record, arrived, kept_point, point_kept, record_step}
@@ -58,6 +58,22 @@ last_of n es = together (last_units n es)
 
 abbrev pub kept_of : ℕ → List Entry → List Entry
 kept_of n es = together (drop (max n 1) (units es))
+
+-- how many units the group has that was opened last and is open, its Begin among them; all if none is open
+abbrev pub size_to_open : List UndoUnit → ℕ
+size_to_open [] = 0
+size_to_open (Open ∷ us) = 1
+size_to_open (Whole es ∷ us) = suc (size_to_open us)
+
+abbrev pub open_size : List Entry → ℕ
+open_size es = size_to_open (units es)
+
+-- whether a group is open, and the entries of the one that was opened last, with its Begin; none if none is
+abbrev pub is_open : List Entry → Bool
+is_open es = not (level es == 0)
+
+abbrev pub open_group : List Entry → List Entry
+open_group es = if is_open es then last_of (open_size es) es else []
 
 -- the entries that a redo puts back: the first unit, or all if that is the Begin of an open group
 abbrev pub redo_from : List Entry → List UndoUnit → List Entry
@@ -131,6 +147,14 @@ ended_one r = with_closed (min 1 (level r.recorded)) r
 
 abbrev pub undone : ℕ → Record → Record
 undone n r = arrived (kept_of n r.recorded) (last_of n r.recorded ++ r.pending) r.saved
+
+-- the same record, in which nothing waits to be redone
+abbrev pub redo_dropped : Record → Record
+redo_dropped r = arrived r.recorded [] (point_kept r)
+
+-- the record once the group that was opened last was taken back and forgotten, if one is open
+abbrev pub abandoned : Record → Record
+abandoned r = if is_open r.recorded then redo_dropped (undone (open_size r.recorded) r) else r
 
 abbrev pub redone : Record → Record
 redone r = arrived (r.recorded ++ redo_of r.pending) (drop (length (redo_of r.pending)) r.pending) r.saved

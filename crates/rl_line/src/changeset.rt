@@ -10,8 +10,8 @@ ghost use Rattle.rl_line.specs.Forgetting.{forgotten};
 ghost use Rattle.rl_line.specs.Change.{entries_to_undo, greatest_ahead_over, greatest_back_over, longest_over};
 ghost use Rattle.rl_line.specs.Plan.{NeverRefuses};
 ghost use Rattle.rl_line.specs.Record.{IsOfKind, Record, entry_of, is_saved, last_insert, no_changes, parted, record_step, replays_to, saved_here};
-ghost use Rattle.rl_line.specs.Undo.{CopiesBack, GoesOver, LineOutOfRoom, OutOfRoom, Redone, StandsStill, TriesAhead, TriesBack, Undone, line_ahead, line_back, line_over, listener_ahead, listener_back, listener_over, texts_ahead, texts_back, texts_over, unit_of};
-ghost use Rattle.rl_line.specs.Units.{BothMatched, IsMatched, adds_end, begun, ended, ended_one, ends_in_end, has_change, is_change, last_of, level, redo_of, reopened, truncated, with_closed};
+ghost use Rattle.rl_line.specs.Undo.{Abandoned, CopiesBack, GoesOver, LineOutOfRoom, OutOfRoom, Redone, StandsStill, TriesAhead, TriesBack, Undone, line_ahead, line_back, line_over, listener_ahead, listener_back, listener_over, texts_ahead, texts_back, texts_over, unit_of};
+ghost use Rattle.rl_line.specs.Units.{BothMatched, IsMatched, adds_end, begun, ended, ended_one, ends_in_end, has_change, is_change, last_of, level, open_group, redo_of, reopened, truncated, with_closed};
 
 mod foretelling;
 
@@ -256,7 +256,33 @@ impl Changeset {
         ensures err { IfErr result (OutOfRoom self.old self.new line.old line.new (texts_back (last_of n self.old.recorded) line.old.text)) }
         ensures kept { OnErr result (listener.new ≡ listener.old) }
     {
-        self.go_over(line, Way::Back, n, listener)
+        self.go_over(line, Way::Back, usize::from(n), listener)
+    }
+
+    /// Takes back the group that was opened last and is open, as if it had never been begun: its changes are undone, those
+    /// of the groups inside too, and it is forgotten with its begin, so that nothing waits to be redone. Answers whether a
+    /// group is open, and tells the listener, which refuses nothing, as `undo_telling` does. It finds all room first, so
+    /// refused it changes nothing.
+    pub fn abandon_telling<L: ChangeListener>(
+        &mut self,
+        line: &mut LineBuffer,
+        listener: &mut L,
+    ) -> Result<bool, Refusal>
+        requires follows { IsSome (line_back (open_group self.old.recorded) line.old) }
+        requires hears { NeverRefuses L.refused }
+        ensures done { IfOk result (λ answer. Abandoned self.old self.new line.old line.new answer) }
+        ensures told { OnOk result (listener.new ≡ listener_back L.step line.old.cursor (open_group self.old.recorded) listener.old) }
+        ensures err { IfErr result (OutOfRoom self.old self.new line.old line.new (texts_back (open_group self.old.recorded) line.old.text)) }
+        ensures kept { OnErr result (listener.new ≡ listener.old) }
+    {
+        if self.level == 0 {
+            return Ok(false);
+        }
+        let size = units::open_size(self.recorded());
+        self.go_over_units(line, Way::Back, size, listener)?;
+        let kept = self.entries.len();
+        self.truncate(kept);
+        Ok(true)
     }
 
     /// Redoes what was undone: the next change, or the next group, or all that is left if its group was
@@ -298,7 +324,18 @@ impl Changeset {
     pub fn undo_fits(&self, line: &LineBuffer, n: RepeatCount) -> bool
         ensures { result ≡ nat_le (greatest_back_over (last_of n self.now.recorded) (length line.now.text)) line.now.limit }
     {
-        self.way_fits(line, Way::Back, n)
+        self.way_fits(line, Way::Back, usize::from(n))
+    }
+
+    /// Whether an abandon would, as `undo_fits` tells it of an undo.
+    pub fn abandon_fits(&self, line: &LineBuffer) -> bool
+        ensures { result ≡ nat_le (greatest_back_over (open_group self.now.recorded) (length line.now.text)) line.now.limit }
+    {
+        if self.level == 0 {
+            return line.len() <= line.limit();
+        }
+        let size = units::open_size(self.recorded());
+        self.way_fits(line, Way::Back, size)
     }
 
     /// Whether a redo would, as `undo_fits` tells it of an undo.
@@ -308,7 +345,7 @@ impl Changeset {
         self.way_fits(line, Way::Ahead, 1)
     }
 
-    fn way_fits(&self, line: &LineBuffer, way: Way, n: RepeatCount) -> bool
+    fn way_fits(&self, line: &LineBuffer, way: Way, n: usize) -> bool
         ensures { result ≡ nat_le (longest_over way (unit_of way n self.now) (length line.now.text)) line.now.limit }
     {
         keeps_to(self.unit(way, n), way, line.len(), line.limit())
@@ -320,7 +357,7 @@ impl Changeset {
         &mut self,
         line: &mut LineBuffer,
         way: Way,
-        n: RepeatCount,
+        n: usize,
         listener: &mut L,
     ) -> Result<bool, Refusal>
         requires follows { IsSome (line_over way (unit_of way n self.old) line.old) }
@@ -347,7 +384,7 @@ impl Changeset {
         &mut self,
         line: &mut LineBuffer,
         way: Way,
-        n: RepeatCount,
+        n: usize,
         listener: &mut L,
     ) -> Result<bool, Refusal>
         requires follows { IsSome (line_over way (unit_of way n self.old) line.old) }
@@ -385,7 +422,7 @@ impl Changeset {
 
     // The units that an undo of `n` goes over, or the one that a redo does.
     #[inline(always)]
-    fn unit(&self, way: Way, n: RepeatCount) -> &[Change]
+    fn unit(&self, way: Way, n: usize) -> &[Change]
         ensures entries { map entry_of result.now ≡ unit_of way n self.now }
         ensures matched { IsMatched (map entry_of result.now) }
     {
@@ -397,7 +434,7 @@ impl Changeset {
 
     // These units, if they are one change alone.
     #[inline(always)]
-    fn alone(&self, way: Way, n: RepeatCount) -> Option<&Change>
+    fn alone(&self, way: Way, n: usize) -> Option<&Change>
         ensures { IfSome result (λ change. (is_change (entry_of change.now) ≡ true) × (unit_of way n self.now ≡ entry_of change.now ∷ [])) }
     {
         match way {
@@ -472,7 +509,7 @@ impl Changeset {
         ensures ok { IfOk result (λ answer. answer ≡ is_some (line_back (last_of n self.now.recorded) line.now)) }
         ensures err { IfErr result (λ r. (r ≡ NoMemory) × TriesBack (last_of n self.now.recorded) line.now.text) }
     {
-        let unit = self.unit(Way::Back, n);
+        let unit = self.unit(Way::Back, usize::from(n));
         entries::lead(self.entries.allocator(), line, unit, Way::Back)
     }
 

@@ -10,7 +10,7 @@ ghost use Rattle.rl_line.specs.Plan.{after};
 ghost use Rattle.rl_line.specs.Record.{Begin, Entry, End, IsRecorded, Record, SavedAt, StaysSaved, arrived, entries_of, is_saved, parted, point_kept, record_step, saved_here, replay_entries, unwind};
 ghost use Rattle.rl_line.specs.declared.change.Freshness.TheVariants.{Parted};
 ghost use Rattle.rl_line.specs.Undo.{Redone, Redos, StandAfter, StandBefore, Undone, line_ahead, line_back, steps_ahead, steps_back};
-ghost use Rattle.rl_line.specs.Units.{BothMatched, GroupAt, InGroup, IsMatched, adds_end, after_in_group, begun, ended, ended_one, group_of, has_change, in_group, kept_of, last_of, last_units, level, opens, redo_of, redone, reopened, truncated, undone, with_closed};
+ghost use Rattle.rl_line.specs.Units.{BothMatched, GroupAt, InGroup, IsMatched, abandoned, adds_end, after_in_group, begun, ended, ended_one, group_of, has_change, in_group, kept_of, last_of, last_units, level, open_group, opens, redo_of, redone, reopened, truncated, undone, with_closed};
 
 /// Where entries lead from one text to another, unwinding them leads back from that to the first, and conversely.
 pub fn unwinding_is_replaying()
@@ -87,6 +87,14 @@ pub fn reopen_takes_back_an_end()
         → reopened (ended_one r) ≡ arrived r.recorded [] (point_kept r) }
 {}
 
+/// A group in which changes were recorded, and which is abandoned, is as if it had never been begun: the line goes back over
+/// all from its begin on, what was recorded before is left, and nothing waits to be redone.
+pub fn abandoned_group_was_never_begun()
+    ensures { (r : Record) (events : List Event) → IsMatched r.recorded
+        → (open_group (in_group events r).recorded ≡ group_of events r)
+        × ((abandoned (in_group events r)).recorded ≡ r.recorded) × ((abandoned (in_group events r)).pending ≡ []) }
+{}
+
 /// A save point stays as long as the entries that were recorded at the save begin the record, recorded and undone ones
 /// together: no call changes them and leaves the point, and one that drops one of them, or forgets the one before the first,
 /// takes the point away. So if the record says that it is saved, those entries are recorded, no more and no fewer.
@@ -100,6 +108,7 @@ pub fn save_point_stays()
     ensures closed { (es : List Entry) (r : Record) (n : ℕ) → StaysSaved es r → StaysSaved es (with_closed n r) }
     ensures reopened { (es : List Entry) (r : Record) → StaysSaved es r → StaysSaved es (reopened r) }
     ensures undone { (es : List Entry) (r : Record) (n : ℕ) → StaysSaved es r → StaysSaved es (undone n r) }
+    ensures abandoned { (es : List Entry) (r : Record) → StaysSaved es r → StaysSaved es (abandoned r) }
     ensures redone { (es : List Entry) (r : Record) → StaysSaved es r → StaysSaved es (redone r) }
     ensures truncated { (es : List Entry) (r : Record) (len : ℕ) → StaysSaved es r → StaysSaved es (truncated len r) }
     ensures forgotten { (most bytes : ℕ) (es : List Entry) (r : Record) → StaysSaved es r

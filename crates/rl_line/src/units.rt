@@ -1,11 +1,10 @@
 //! The units of a list of entries, which an undo or a redo goes over, and how many groups are open after it.
 ghost use Rattle.std.specs.Prelude.{◌≡◌, ◌+◌, ◌^◌, ◌≤◌, ◌<◌, [], ◌∷◌, length, map, take, true, IfSome};
 ghost use Rattle.rl_line.specs.Record.{entry_of};
-ghost use Rattle.rl_line.specs.Units.{IsMatched, has_change, is_change, last_of, level, redo_of};
+ghost use Rattle.rl_line.specs.Units.{IsMatched, has_change, is_change, last_of, level, open_size, redo_of};
 ghost use Rattle.rl_line.specs.Entries.{deep};
 
 use crate::change::Change;
-use rl_base::RepeatCount;
 
 /// How many groups are open after the entries, if none is open before them.
 #[tactic(auto, using(crate::proofs::Records::LevelLemmas::levels_counted))]
@@ -57,7 +56,7 @@ pub(crate) fn level_at(entries: &[Change], len: usize, last: usize) -> usize
 /// The change that makes up the last `n` units, or the last unit if `n` is 0, if they are one change alone.
 #[inline(always)]
 #[tactic(auto, using(crate::proofs::Records::EntryLemmas::at_the_end))]
-pub(crate) fn last_alone(entries: &[Change], n: RepeatCount) -> Option<&Change>
+pub(crate) fn last_alone(entries: &[Change], n: usize) -> Option<&Change>
     ensures { IfSome result (λ change. (is_change (entry_of change.now) ≡ true) × (last_of n (map entry_of entries.now) ≡ entry_of change.now ∷ [])) }
 {
     if n > 1 {
@@ -91,11 +90,11 @@ pub(crate) fn last_has_change(entries: &[Change]) -> bool
 }
 
 /// How many entries the last `n` units have, or the last one if `n` is 0.
-fn last_len(entries: &[Change], n: RepeatCount) -> usize
+fn last_len(entries: &[Change], n: usize) -> usize
     requires { IsMatched (map entry_of entries.now) }
     ensures { result ≡ length (last_of n (map entry_of entries.now)) }
 {
-    let mut units = usize::from(n.max(1));
+    let mut units = n.max(1);
     let mut depth: usize = 0;
     let mut at = entries.len();
     while at > 0 && (units > 0 || depth > 0) {
@@ -124,6 +123,36 @@ fn last_len(entries: &[Change], n: RepeatCount) -> usize
     entries.len() - at
 }
 
+/// How many units the group has that was opened last and is open, its Begin among them; all if none is open.
+#[tactic(auto, using(crate::proofs::Records::EntryLemmas::sizes))]
+pub(crate) fn open_size(entries: &[Change]) -> usize
+    requires { IsMatched (map entry_of entries.now) }
+    ensures { result ≡ open_size (map entry_of entries.now) }
+{
+    let mut units: usize = 0;
+    let mut depth: usize = 0;
+    let mut at = entries.len();
+    while at > 0 {
+        at -= 1;
+        match entries[at] {
+            Change::Begin if depth == 0 => return units + 1,
+            Change::Begin => depth -= 1,
+            Change::End => {
+                if depth == 0 {
+                    units += 1;
+                }
+                depth += 1;
+            }
+            Change::Insert(_, _, _) | Change::Delete(_, _, _) | Change::Replace(_, _, _) => {
+                if depth == 0 {
+                    units += 1;
+                }
+            }
+        }
+    }
+    units
+}
+
 /// How many entries the next unit to redo has, of undone entries.
 #[tactic(auto, using(crate::proofs::Records::EntryLemmas::at_the_end))]
 pub(crate) fn next_len(entries: &[Change]) -> usize
@@ -143,7 +172,7 @@ pub(crate) fn next_len(entries: &[Change]) -> usize
 }
 
 /// The last `n` units, or the last one if `n` is 0.
-pub(crate) fn last_units(entries: &[Change], n: RepeatCount) -> &[Change]
+pub(crate) fn last_units(entries: &[Change], n: usize) -> &[Change]
     requires { IsMatched (map entry_of entries.now) }
     ensures { map entry_of result.now ≡ last_of n (map entry_of entries.now) }
 {

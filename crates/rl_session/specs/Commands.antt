@@ -24,12 +24,12 @@ use Rattle.rl_line.specs.LetterCase.{edit_word_plan}
 use Rattle.rl_line.specs.Change.{greatest_ahead_over, greatest_back_over}
 use Rattle.rl_line.specs.Record.{Record, parted, replays_to}
 use Rattle.rl_line.specs.Transpositions.{transpose_chars_plan, transpose_words_plan}
-use Rattle.rl_line.specs.Undo.{CopiesBack, Undone, Redone, steps_ahead, steps_back, texts_ahead, texts_back}
-use Rattle.rl_line.specs.Units.{adds_end, begun, ended, ends_in_end, reopened, last_of, level, redo_of, truncated, ended_one}
+use Rattle.rl_line.specs.Undo.{Abandoned, CopiesBack, Undone, Redone, steps_ahead, steps_back, texts_ahead, texts_back}
+use Rattle.rl_line.specs.Units.{adds_end, begun, ended, ends_in_end, reopened, last_of, level, open_group, redo_of, truncated, ended_one}
 use Rattle.rl_session.specs.Options.{layout_of}
 use Rattle.rl_session.specs.Pair.{pair_step, pair_refused}
 use Rattle.rl_session.specs.declared.session.Command.{Command}
-use Rattle.rl_session.specs.declared.session.Command.TheVariants.{SetPos, Move, Insert, Paste, Yank, YankPop, Update, InsertStr, Replace, DeleteRange, Delete, Backspace, KillLine, KillBuffer, DiscardLine, DiscardBuffer, DeletePrevWord, DeleteWord, DeleteTo, TransposeChars, TransposeWords, EditWord, Kill, Copy, Indent, Begin, End, EndOne, Undo, Redo, Truncate, LinePlace, KillRange, Keep, Part, Reopen}
+use Rattle.rl_session.specs.declared.session.Command.TheVariants.{SetPos, Move, Insert, Paste, Yank, YankPop, Update, InsertStr, Replace, DeleteRange, Delete, Backspace, KillLine, KillBuffer, DiscardLine, DiscardBuffer, DeletePrevWord, DeleteWord, DeleteTo, TransposeChars, TransposeWords, EditWord, Kill, Copy, Indent, Begin, End, EndOne, Undo, Redo, Truncate, LinePlace, KillRange, Keep, Part, Reopen, Abandon}
 use Rattle.rl_session.specs.declared.session.Fault.{Fault}
 use Rattle.rl_session.specs.declared.session.Fault.TheVariants.{NoMemory, BadPlace, BadYankSize, NotReplaying, TooLong}
 use Rattle.rl_session.specs.declared.session.Reply.{Reply}
@@ -140,6 +140,7 @@ pub data Effect : Type 1 where
   keeps : List ℕ → Effect
   parts : Effect
   reopens : Bool → Effect
+  gives_up : Bool → Effect
 
 abbrev pub Became : Effect → State → State → Type 0
 Became (by_steps course) old new = Came course old new
@@ -157,6 +158,8 @@ Became (puts_again a) old new =
 Became (keeps text) old new = new ≡ with_ring (reset (killed text Append old.pair.ring)) old
 Became parts old new = new ≡ with_changes (parted old.pair.changes) old
 Became (reopens a) old new = (a ≡ ends_in_end old.pair.changes.recorded) × (new ≡ with_changes (reopened old.pair.changes) old)
+Became (gives_up a) old new =
+    Abandoned old.pair.changes new.pair.changes old.line new.line a × KeepsRing old new × WatchHears (steps_back old.line.cursor (open_group old.pair.changes.recorded)) old new
 
 -- how a reply tells the answer of an edit
 pub data Telling : Type 0 → Type 1 where
@@ -237,6 +240,8 @@ other_course old EndOne (says.Refused NoMemory) =
     when (adds_end (min 1 (level old.pair.changes.recorded)) old.pair.changes.recorded ≡ true) stays
 other_course old (Undo n) (says.Refused NoMemory) =
     when (Any (NeedsRoom old.line.text) (texts_back (last_of n old.pair.changes.recorded) old.line.text)) stays
+other_course old Abandon (says.Refused NoMemory) =
+    when (Any (NeedsRoom old.line.text) (texts_back (open_group old.pair.changes.recorded) old.line.text)) stays
 other_course old Redo (says.Refused NoMemory) =
     when (Any (NeedsRoom old.line.text) (texts_ahead (redo_of old.pair.changes.pending) old.line.text)) stays
 other_course old (Truncate len) (says.Refused NotReplaying) = when (replays_to len old.pair.changes old.line.text ≡ false) stays
@@ -264,6 +269,7 @@ is_barred s (TransposeWords n) = is_past_limit s (longest_by s.line (transpose_w
 is_barred s (EditWord action) = is_past_limit s (longest_by s.line (edit_word_plan s.line action))
 is_barred s (Indent m amount dedent) = is_past_limit s (longest_by s.line (indent_plan s.line m amount dedent))
 is_barred s (Undo n) = is_past_limit s (greatest_back_over (last_of n s.pair.changes.recorded) (length s.line.text))
+is_barred s Abandon = is_past_limit s (greatest_back_over (open_group s.pair.changes.recorded) (length s.line.text))
 is_barred s Redo = is_past_limit s (greatest_ahead_over (redo_of s.pair.changes.pending) (length s.line.text))
 is_barred s _ = false
 
@@ -286,6 +292,7 @@ allowed old Redo (says.Answer a) = puts_again a
 allowed old (Keep t) says.Done = keeps (string_bytes t)
 allowed old Part says.Done = parts
 allowed old Reopen (says.Answer a) = reopens a
+allowed old Abandon (says.Answer a) = gives_up a
 allowed old command reply = by_steps (course_of (asked old.line command) old command reply)
 
 -- what a command did that had this reply, where it is barred or not

@@ -5,7 +5,7 @@ use Rattle.rl_line.specs.Line.{Line}
 use Rattle.rl_line.specs.Record.{Entry, Record, replay_entries}
 use Rattle.rl_line.specs.Units.{BothMatched, level}
 use Rattle.rl_session.specs.declared.session.Command.{Command}
-use Rattle.rl_session.specs.declared.session.Command.TheVariants.{End, EndOne, Kill, Redo, Truncate, Undo, Yank, YankPop, KillRange}
+use Rattle.rl_session.specs.declared.session.Command.TheVariants.{Abandon, End, EndOne, Kill, Redo, Truncate, Undo, Yank, YankPop, KillRange}
 use Rattle.rl_session.specs.declared.session.Reply.{Reply}
 use Rattle.rl_session.specs.declared.session.Reply.TheVariants as says
 use Rattle.rl_session.specs.Commands.{Asked, asked, edit, other}
@@ -62,12 +62,13 @@ IsEdit line (Yank _) = Unit {0}
 IsEdit line YankPop = Unit {0}
 IsEdit line command = IsAsked (asked line command)
 
--- what may happen inside a group: an end, an undo, a redo or a truncation only if it was refused, or the end of one group
--- if the group itself stays open. Before its begin `below` groups were open, and `now` are after the row.
+-- what may happen inside a group: an end, an undo, a redo or a truncation only if it was refused, or the end or the abandon of
+-- one group if the group itself stays open. Before its begin `below` groups were open, and `now` are after the row.
 abbrev pub MayStandInGroup : (below now : ℕ) → Command → Reply → Type 0
 MayStandInGroup below now End reply = WasRefused reply
 MayStandInGroup below now EndOne reply = WasRefused reply ⊎ (below < now)
 MayStandInGroup below now (Undo _) reply = WasRefused reply
+MayStandInGroup below now Abandon reply = WasRefused reply ⊎ (below < now)
 MayStandInGroup below now Redo reply = WasRefused reply
 MayStandInGroup below now (Truncate _) reply = WasRefused reply
 MayStandInGroup below now _ _ = Unit {0}

@@ -9,7 +9,7 @@ use Rattle.rl_session.specs.declared.session.Command.{Command}
 use Rattle.rl_session.specs.declared.session.Reply.{Reply}
 use Rattle.rl_session.specs.Pair.{pair_step}
 use Rattle.rl_session.specs.State.{State}
-use Rattle.rl_session.specs.Commands.{Course, when, edits, stops, lends, pops, tells, Came, Effect, by_steps, takes_back, puts_again, Became, effect, lent, popped, Does, Step, readied}
+use Rattle.rl_session.specs.Commands.{Course, when, edits, stops, lends, pops, tells, Came, Effect, by_steps, takes_back, gives_up, puts_again, Became, effect, lent, popped, Does, Step, readied}
 
 -- the texts after each of these steps of an edit
 abbrev pub texts_of_steps : List PlanStep → List ℕ → List (List ℕ)
@@ -32,6 +32,7 @@ steps_in _ old new d = []
 abbrev pub steps_done : (effect : Effect) (old new : State) → Became effect old new → List PlanStep
 steps_done (by_steps course) old new d = steps_in course old new d
 steps_done (takes_back n answer) old new d = steps_back old.line.cursor (last_of n old.pair.changes.recorded)
+steps_done (gives_up answer) old new d = steps_back old.line.cursor (open_group old.pair.changes.recorded)
 steps_done (puts_again answer) old new d = steps_ahead old.line.cursor (redo_of old.pair.changes.pending)
 steps_done _ old new d = []
 

@@ -401,6 +401,7 @@ fn lone_command(alloc: Global, word: &str) -> Option<Command>
         "end" => Some(Command::End),
         "endone" => Some(Command::EndOne),
         "reopen" => Some(Command::Reopen),
+        "abandon" => Some(Command::Abandon),
         "redo" => Some(Command::Redo),
         "where" => Some(Command::LinePlace),
         _ => None,

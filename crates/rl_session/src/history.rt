@@ -9,7 +9,7 @@ ghost use Rattle.rl_session.specs.History.{AllRedone, AllStandInGroup, ClosesGro
 ghost use Rattle.rl_session.specs.Run.{Row, Run, held_of};
 ghost use Rattle.rl_session.specs.State.{Begins, Stands, State, saved_now};
 ghost use Rattle.rl_session.specs.declared.session.Command.{Command};
-ghost use Rattle.rl_session.specs.declared.session.Command.TheVariants.{Begin, Redo, Undo};
+ghost use Rattle.rl_session.specs.declared.session.Command.TheVariants.{Abandon, Begin, Redo, Undo};
 ghost use Rattle.rl_session.specs.declared.session.Reply.{Reply};
 
 /// A history (`Holds`): the recorded entries, followed by the undone ones, are placed among the texts that were held,
@@ -60,6 +60,22 @@ pub fn group_is_undone_at_once()
         → has_change (drop (suc (length b.before.pair.changes.recorded)) e.before.pair.changes.recorded) ≡ true
         → u.command ≡ Undo 1 → ¬ (WasRefused u.reply)
         → u.after.line.text ≡ b.before.line.text }
+{}
+
+/// A group that is abandoned gives back the text from before its begin, and what was recorded then; nothing waits to be
+/// redone. Conditions: neither begin nor abandon was refused, the groups that were begun inside are closed or abandoned, and
+/// each undo, redo, truncation or `End` inside was refused.
+pub fn group_is_abandoned()
+    ensures { (start : List ℕ) (held : List (List ℕ)) (old new : State) (commands : List Command) (replies : List Reply)
+        (earlier inside later : List Row) (b a : Row)
+        → Holds start held old → (run : Run old commands replies new)
+        → run.rows ≡ earlier ++ (b ∷ (inside ++ (a ∷ later)))
+        → b.command ≡ Begin → ¬ (WasRefused b.reply)
+        → AllStandInGroup (level b.before.pair.changes.recorded) inside
+        → level a.before.pair.changes.recorded ≡ suc (level b.before.pair.changes.recorded)
+        → a.command ≡ Abandon → ¬ (WasRefused a.reply)
+        → (a.after.line.text ≡ b.before.line.text)
+        × (a.after.pair.changes.recorded ≡ b.before.pair.changes.recorded) × (a.after.pair.changes.pending ≡ []) }
 {}
 
 /// An undo of one unit right after an edit that added one entry, and joined none, gives back the text and cursor from

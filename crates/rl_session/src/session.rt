@@ -105,6 +105,8 @@ pub enum Command {
     EndOne,
     /// Takes the group up again that was closed last, if nothing was recorded after it.
     Reopen,
+    /// Takes back the group that was opened last and is open, and forgets it.
+    Abandon,
     /// Undoes the given number of units: one for 0, and all if there are fewer.
     Undo(RepeatCount),
     /// Redoes what was undone last.
@@ -380,6 +382,7 @@ impl Session {
             Command::End => self.end(),
             Command::EndOne => self.end_one(),
             Command::Reopen => self.reopen(),
+            Command::Abandon => self.abandon(),
             Command::Undo(n) => self.undo(*n),
             Command::Redo => self.redo(),
             Command::Truncate(len) => self.truncate(*len),

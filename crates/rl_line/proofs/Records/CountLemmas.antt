@@ -1,6 +1,6 @@
 -- Counting marks from the end finds the last units, and from the front the first.
-use Rattle.rl_line.proofs.Common.{◌≡◌, ℕ, ◌+◌, ◌-◌, suc, arith, Bool, true, false, List, [], ◌∷◌, length, length-append, take, reverse, Some, refl, sym, ap, subst, ◌∙◌, reverse-append, reverse-reverse, zero, max, Entry, Begin, End, Changed, UndoUnit, Open, Whole, units, together, level, last_of, redo_from, redo_of, touched, marks, IsMatched, deep}
-use Rattle.rl_line.proofs.Records.Counts.{back_len, ahead_len}
+use Rattle.rl_line.proofs.Common.{◌≡◌, ℕ, ◌+◌, ◌-◌, suc, arith, Bool, true, false, List, [], ◌∷◌, length, length-append, take, reverse, Some, refl, sym, ap, subst, ◌∙◌, reverse-append, reverse-reverse, zero, max, Entry, Begin, End, Changed, UndoUnit, Open, Whole, units, together, level, last_of, open_size, redo_from, redo_of, size_to_open, touched, marks, IsMatched, deep}
+use Rattle.rl_line.proofs.Records.Counts.{back_len, ahead_len, size_back}
 use Rattle.rl_line.proofs.Records.RecordLemmas.{value_of}
 use Rattle.rl_line.proofs.Records.UnitLemmas.{AllGood, units-good, together-units, on, together-reverse, AllGood-reverse}
 use Rattle.rl_line.proofs.Records.MatchLemmas.{level-is, length-touched}
@@ -25,6 +25,14 @@ back_units (Whole es ∷ us) (suc k) g =
 pub last-counted : (n : ℕ) (es : List Entry) → IsMatched es → back_len 0 (max n 1) (reverse es) ≡ length (last_of n es)
 last-counted n es h =
     ap (λ x. back_len 0 (max n 1) (reverse x)) (sym (together-units es)) ∙ back_units (units es) (max n 1) (units-good es h)
+
+size_units : (us : List UndoUnit) → AllGood us → size_back 0 (reverse (together us)) ≡ size_to_open us
+size_units [] g = refl
+size_units (Open ∷ us) g = ap (size_back 0) (reverse-append (together us) (Begin ∷ []))
+size_units (Whole es ∷ us) g = ap (size_back 0) (reverse-append (together us) es) ∙ g.0.size (reverse (together us)) ∙ ap suc (size_units us g.1)
+
+pub size-counted : (es : List Entry) → IsMatched es → size_back 0 (reverse es) ≡ open_size es
+size-counted es h = ap (λ x. size_back 0 (reverse x)) (sym (together-units es)) ∙ size_units (units es) (units-good es h)
 
 -- no group that is open is closed by good units
 ahead_open : (vs : List UndoUnit) (d : ℕ) → AllGood vs → ahead_len (suc d) (on vs) ≡ length (on vs)

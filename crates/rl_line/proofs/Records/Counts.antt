@@ -21,3 +21,14 @@ ahead_len (suc d) (Begin ∷ es) = suc (ahead_len (suc (suc d)) es)
 ahead_len (suc zero) (End ∷ es) = 1
 ahead_len (suc (suc d)) (End ∷ es) = suc (ahead_len (suc d) es)
 ahead_len (suc d) (e ∷ es) = suc (ahead_len (suc d) es)
+
+-- the entries, the last first: how many units there are up to the first Begin that no End before it closes, if d groups are
+-- entered from their End
+abbrev pub size_back : ℕ → List Entry → ℕ
+size_back d [] = 0
+size_back zero (Begin ∷ rs) = 1
+size_back zero (End ∷ rs) = suc (size_back 1 rs)
+size_back zero (e ∷ rs) = suc (size_back zero rs)
+size_back (suc d) (Begin ∷ rs) = size_back d rs
+size_back (suc d) (End ∷ rs) = size_back (suc (suc d)) rs
+size_back (suc d) (e ∷ rs) = size_back (suc d) rs

@@ -72,15 +72,15 @@ AtLevel-events [] n r a = a
 AtLevel-events (event ∷ events) n r a = AtLevel-events events n (record_step r event) (AtLevel-step event n r a)
 
 -- what stands after the begin of a group in which events were recorded
-record Within (r : Record) (events : List Event) : Type 0 where
-  inner : List Entry
-  is : (in_group events r).recorded ≡ r.recorded ++ Begin ∷ inner
-  matched : IsMatched inner
-  closed : level inner ≡ 0
-  all_matched : IsMatched (in_group events r).recorded
-  level_is : level (in_group events r).recorded ≡ suc (level r.recorded)
+pub record Within (r : Record) (events : List Event) : Type 0 where
+  pub inner : List Entry
+  pub is : (in_group events r).recorded ≡ r.recorded ++ Begin ∷ inner
+  pub matched : IsMatched inner
+  pub closed : level inner ≡ 0
+  pub all_matched : IsMatched (in_group events r).recorded
+  pub level_is : level (in_group events r).recorded ≡ suc (level r.recorded)
 
-within : (r : Record) (events : List Event) → IsMatched r.recorded → Within r events
+pub within : (r : Record) (events : List Event) → IsMatched r.recorded → Within r events
 within r events h =
     let k = Inside-steps (map Hears events) r.recorded (begun r) (record { inner = []; is = refl; matched = refl }) in
     let a = AtLevel-events events (suc (level r.recorded)) (begun r) (record { matched = record { recorded = IsMatched-begin r.recorded h; pending = refl }; level = sym (level-begin r.recorded) }) in

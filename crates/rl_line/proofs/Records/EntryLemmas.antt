@@ -1,7 +1,7 @@
 -- Entries in the list of the code: counting them, and closing groups.
-use Rattle.rl_line.proofs.Common.{common_steps, ◌≡◌, ℕ, ◌+◌, ◌-◌, ◌<◌, ◌≤◌, arith, suc, List, [], ◌∷◌, ◌++◌, length, take, drop, get_or, map, reverse, refl, sym, ap, ◌∙◌, ◌⊎◌, inl, inr, or-true, append-nil, map-append, reverse-append, drop_all, zero, max, slice_get, cond, IsSome, Bool, true, false, not, ◌||◌, Option, Some, None, option_to_list, Change, Entry, Begin, End, Changed, entry_of, last_of, redo_of, adds_end, end_one, end_times, ends_in_begin, ends_in_end, is_begin, is_end, is_change, IsMatched, deep, same_Some, take-map}
-use Rattle.rl_line.proofs.Records.Counts.{ahead_len, back_len}
-use Rattle.rl_line.proofs.Records.CountLemmas.{last-counted, redo-counted}
+use Rattle.rl_line.proofs.Common.{common_steps, ◌≡◌, ℕ, ◌+◌, ◌-◌, ◌<◌, ◌≤◌, arith, suc, List, [], ◌∷◌, ◌++◌, length, take, drop, get_or, map, reverse, refl, sym, ap, ◌∙◌, ◌⊎◌, inl, inr, or-true, append-nil, map-append, reverse-append, drop_all, zero, max, slice_get, cond, IsSome, Bool, true, false, not, ◌||◌, Option, Some, None, option_to_list, Change, Entry, Begin, End, Changed, entry_of, last_of, open_size, redo_of, adds_end, end_one, end_times, ends_in_begin, ends_in_end, is_begin, is_end, is_change, IsMatched, deep, same_Some, take-map}
+use Rattle.rl_line.proofs.Records.Counts.{ahead_len, back_len, size_back}
+use Rattle.rl_line.proofs.Records.CountLemmas.{last-counted, redo-counted, size-counted}
 use Rattle.rl_line.proofs.Records.LastLemmas.{end_one-cases, end_one-past, ends-past, read-last}
 use Rattle.rl_line.proofs.Records.RecordLemmas.{value_of}
 use Rattle.rl_line.proofs.Records.UnitLemmas.{last_of-change, redo_of-change}
@@ -11,18 +11,21 @@ back-read : (xs : List Change) (m : ℕ) (z x : Change) → m < length xs → ge
     → reverse (map entry_of (take (m + 1) xs)) ≡ entry_of x ∷ reverse (map entry_of (take m xs))
 back-read xs m z x lt e = grind (arith, common_steps)
 
+read-before : (xs : List Change) (at : ℕ) (z x : Change) → 0 < at → at ≤ length xs → get_or xs (at - 1) z ≡ x
+    → reverse (map entry_of (take at xs)) ≡ entry_of x ∷ reverse (map entry_of (take (at - 1) xs))
+read-before xs at z x pos le e =
+    let m : (at - 1) + 1 ≡ at = omega arith in
+    let lt : at - 1 < length xs = omega arith in
+    ap (λ n. reverse (map entry_of (take n xs))) (sym m) ∙ back-read xs (at - 1) z x lt e
+
 -- one entry less to go
 pub count-step : (xs : List Change) (at d k d' k' total : ℕ) (z x : Change) → 0 < at → at ≤ length xs → get_or xs (at - 1) z ≡ x
     → ((rs : List Entry) → back_len d k (entry_of x ∷ rs) ≡ suc (back_len d' k' rs))
     → (length xs - at) + back_len d k (reverse (map entry_of (take at xs))) ≡ total
     → (length xs - (at - 1)) + back_len d' k' (reverse (map entry_of (take (at - 1) xs))) ≡ total
 count-step xs at d k d' k' total z x pos le e step h =
-    let m : (at - 1) + 1 ≡ at = omega arith in
-    let lt : at - 1 < length xs = omega arith in
-    let read : reverse (map entry_of (take at xs)) ≡ entry_of x ∷ reverse (map entry_of (take (at - 1) xs)) =
-    ap (λ n. reverse (map entry_of (take n xs))) (sym m) ∙ back-read xs (at - 1) z x lt e in
     let one : back_len d k (reverse (map entry_of (take at xs))) ≡ suc (back_len d' k' (reverse (map entry_of (take (at - 1) xs)))) =
-    ap (back_len d k) read ∙ step (reverse (map entry_of (take (at - 1) xs))) in
+    ap (back_len d k) (read-before xs at z x pos le e) ∙ step (reverse (map entry_of (take (at - 1) xs))) in
     omega arith
 
 pub step-end0 : (d k : ℕ) (rs : List Entry) → d ≡ 0 → 0 < k → back_len d k (End ∷ rs) ≡ suc (back_len (d + 1) (k - 1) rs)
@@ -43,6 +46,75 @@ pub count-end : (xs : List Change) (at d k n : ℕ) → IsMatched (map entry_of 
     → (length xs - at) + back_len d k (reverse (map entry_of (take at xs))) ≡ back_len 0 (max n 1) (reverse (map entry_of xs))
     → length xs - at ≡ length (last_of n (map entry_of xs))
 count-end xs at d k n m done h = grind (arith, last-counted)
+
+-- ---- counting the units of a group
+-- n units are counted, d groups are entered from their End, and the first `at` entries are left
+pub record SizeAt (xs : List Change) (at d n : ℕ) : Type 0 where
+  pub within : d + at ≤ length xs
+  pub few : n + at ≤ length xs
+  pub counted : n + size_back d (reverse (map entry_of (take at xs))) ≡ size_back 0 (reverse (map entry_of xs))
+
+size-step : (xs : List Change) (at d d' n n' : ℕ) (z x : Change) → 0 < at → at ≤ length xs → get_or xs (at - 1) z ≡ x
+    → ((rs : List Entry) → n + size_back d (entry_of x ∷ rs) ≡ n' + size_back d' rs) → d' + (at - 1) ≤ length xs → n' + (at - 1) ≤ length xs
+    → SizeAt xs at d n → SizeAt xs (at - 1) d' n'
+size-step xs at d d' n n' z x pos le e step within few s = record {
+  within = within;
+  few = few;
+  counted = sym (step (reverse (map entry_of (take (at - 1) xs)))) ∙ ap (λ rs. n + size_back d rs) (sym (read-before xs at z x pos le e)) ∙ s.counted;
+}
+
+one_more : (n m : ℕ) → n + suc m ≡ (n + 1) + m
+one_more n m = omega arith
+
+pub size-begin : (xs : List Change) (at d n : ℕ) (z x : Change) → 0 < at → 0 < d → get_or xs (at - 1) z ≡ x → entry_of x ≡ Begin → SizeAt xs at d n → SizeAt xs (at - 1) (d - 1) n
+size-begin xs at zero n z x pos deep e b s = absurd (omega (arith, deep))
+size-begin xs at (suc d) n z x pos deep e b s =
+    let same : d ≡ suc d - 1 = omega arith in
+    size-step xs at (suc d) (suc d - 1) n n z x pos (omega (arith, s.within)) e
+    (λ rs. ap (λ k. n + size_back (suc d) (k ∷ rs)) b ∙ ap (λ k. n + size_back k rs) same) (omega (arith, s.within)) (omega (arith, s.few)) s
+
+pub size-found : (xs : List Change) (at d n : ℕ) (z x : Change) → 0 < at → d ≡ 0 → get_or xs (at - 1) z ≡ x → entry_of x ≡ Begin → IsMatched (map entry_of xs) → SizeAt xs at d n
+    → n + 1 ≡ open_size (map entry_of xs)
+size-found xs at zero n z x pos flat e b m s =
+    ap (λ k. n + size_back 0 (k ∷ reverse (map entry_of (take (at - 1) xs)))) (sym b) ∙ ap (λ rs. n + size_back 0 rs) (sym (read-before xs at z x pos (omega (arith, s.within)) e))
+    ∙ s.counted ∙ size-counted (map entry_of xs) m
+size-found xs at (suc d) n z x pos flat e b m s = absurd (omega (arith, flat))
+
+pub size-end0 : (xs : List Change) (at d n : ℕ) (z x : Change) → 0 < at → d ≡ 0 → get_or xs (at - 1) z ≡ x → entry_of x ≡ End → SizeAt xs at d n → SizeAt xs (at - 1) (d + 1) (n + 1)
+size-end0 xs at zero n z x pos flat e b s =
+    size-step xs at 0 1 n (n + 1) z x pos (omega (arith, s.within)) e
+    (λ rs. ap (λ k. n + size_back 0 (k ∷ rs)) b ∙ one_more n (size_back 1 rs)) (omega (arith, s.within)) (omega (arith, s.few, pos)) s
+size-end0 xs at (suc d) n z x pos flat e b s = absurd (omega (arith, flat))
+
+pub size-end : (xs : List Change) (at d n : ℕ) (z x : Change) → 0 < at → 0 < d → get_or xs (at - 1) z ≡ x → entry_of x ≡ End → SizeAt xs at d n → SizeAt xs (at - 1) (d + 1) n
+size-end xs at zero n z x pos deep e b s = absurd (omega (arith, deep))
+size-end xs at (suc d) n z x pos deep e b s =
+    let same : suc (suc d) ≡ suc d + 1 = omega arith in
+    size-step xs at (suc d) (suc d + 1) n n z x pos (omega (arith, s.within)) e
+    (λ rs. ap (λ k. n + size_back (suc d) (k ∷ rs)) b ∙ ap (λ k. n + size_back k rs) same) (omega (arith, s.within, pos)) (omega (arith, s.few)) s
+
+pub size-change0 : (xs : List Change) (at d n : ℕ) (z x : Change) → 0 < at → d ≡ 0 → get_or xs (at - 1) z ≡ x → is_change (entry_of x) ≡ true → SizeAt xs at d n → SizeAt xs (at - 1) d (n + 1)
+size-change0 xs at zero n z x pos flat e b s =
+    size-step xs at 0 0 n (n + 1) z x pos (omega (arith, s.within)) e (λ rs. passed (entry_of x) rs b) (omega (arith, s.within)) (omega (arith, s.few, pos)) s
+  where
+    passed : (k : Entry) (rs : List Entry) → is_change k ≡ true → n + size_back 0 (k ∷ rs) ≡ (n + 1) + size_back 0 rs
+    passed (Changed kind swap) rs b = one_more n (size_back 0 rs)
+    passed other rs b = cc
+size-change0 xs at (suc d) n z x pos flat e b s = absurd (omega (arith, flat))
+
+pub size-change : (xs : List Change) (at d n : ℕ) (z x : Change) → 0 < at → 0 < d → get_or xs (at - 1) z ≡ x → is_change (entry_of x) ≡ true → SizeAt xs at d n → SizeAt xs (at - 1) d n
+size-change xs at zero n z x pos deep e b s = absurd (omega (arith, deep))
+size-change xs at (suc d) n z x pos deep e b s =
+    size-step xs at (suc d) (suc d) n n z x pos (omega (arith, s.within)) e (λ rs. passed (entry_of x) rs b) (omega (arith, s.within)) (omega (arith, s.few)) s
+  where
+    passed : (k : Entry) (rs : List Entry) → is_change k ≡ true → n + size_back (suc d) (k ∷ rs) ≡ n + size_back (suc d) rs
+    passed (Changed kind swap) rs b = refl
+    passed other rs b = cc
+
+pub size-done : (xs : List Change) (at d n : ℕ) → at ≡ 0 → IsMatched (map entry_of xs) → SizeAt xs at d n → n ≡ open_size (map entry_of xs)
+size-done xs at d n none m s = grind (arith, size-counted)
+
+pub ruleset sizes = (size-begin, size-change, size-change0, size-end, size-end0)
 
 -- ---- counting what is open
 pub deep-append : (d : ℕ) (xs ys : List Entry) → deep d (xs ++ ys) ≡ deep (deep d xs) ys

@@ -1,4 +1,5 @@
 -- The lemmas that are the laws of the record.
+use Rattle.rl_line.proofs.Records.AbandonLemmas.{saved-abandoned}
 use Rattle.rl_line.proofs.Records.EndLemmas.{alone-answer, alone-level, alone-nothing, alone-unit, reopened-end}
 use Rattle.rl_line.proofs.Records.ForgettingLemmas.{fitting-stay, gone-kept, gone-level, gone-matched, group-stays, left-fits, left-replays, saved-forgotten}
 use Rattle.rl_line.proofs.Records.GroupLemmas.{group-empty, group-empty-end}
@@ -10,4 +11,4 @@ use Rattle.rl_line.proofs.Records.SavedLemmas.{saved-back, saved-begun, saved-cl
 use Rattle.rl_line.proofs.Records.UndoLemmas.{line_ahead-replay, line_back-unwind}
 use Rattle.rl_line.proofs.Records.WayLemmas.{ways-ahead, ways-back}
 
-pub ruleset laws = (after-steps_ahead, after-steps_back, alone-answer, alone-level, alone-nothing, alone-unit, fitting-stay, gone-kept, gone-level, gone-matched, group-empty, group-empty-end, group-stays, left-fits, left-replays, line_ahead-replay, line_back-unwind, parted-adds, parted-stays, redos-give-back, reopened-end, replay-unwind, saved-back, saved-begun, saved-closed, saved-forgotten, saved-marked, saved-parted, saved-redone, saved-reopened, saved-step, saved-there, saved-truncated, saved-undone, unwind-replay, ways-ahead, ways-back)
+pub ruleset laws = (after-steps_ahead, after-steps_back, alone-answer, alone-level, alone-nothing, alone-unit, fitting-stay, gone-kept, gone-level, gone-matched, group-empty, group-empty-end, group-stays, left-fits, left-replays, line_ahead-replay, line_back-unwind, parted-adds, parted-stays, redos-give-back, reopened-end, replay-unwind, saved-abandoned, saved-back, saved-begun, saved-closed, saved-forgotten, saved-marked, saved-parted, saved-redone, saved-reopened, saved-step, saved-there, saved-truncated, saved-undone, unwind-replay, ways-ahead, ways-back)

@@ -62,7 +62,7 @@ fits-in : (es l : List Entry) → take (length es) l ≡ es → length es ≤ le
 fits-in es l e = omega (arith, ap length e, length-take (length es) l)
 
 -- in more entries, in the first of them, and where a point is kept
-longer : (es l more : List Entry) (point : Option ℕ) → StaysIn es l point → StaysIn es (l ++ more) point
+pub longer : (es l more : List Entry) (point : Option ℕ) → StaysIn es l point → StaysIn es (l ++ more) point
 longer es l more point s = elim s [ inl none ↦ inl none | inr p ↦ inr (p.0, take-append-le (length es) l more (fits-in es l p.1) ∙ p.1) ]
 
 shorter : (es front rest l : List Entry) (point : Option ℕ) → l ≡ front ++ rest → StaysIn es l point → StaysIn es front (kept_point (length front) point)
@@ -84,11 +84,11 @@ stays-in : (es : List Entry) (r : Record) → StaysSaved es r → StaysIn es (r.
 stays-in es r s = elim s [ inl none ↦ inl none | inr a ↦ inr (a.point, a.begins) ]
 
 -- in its recorded entries, once what was undone is dropped
-settles-in : (es : List Entry) (r : Record) → StaysSaved es r → StaysIn es r.recorded (point_kept r)
+pub settles-in : (es : List Entry) (r : Record) → StaysSaved es r → StaysIn es r.recorded (point_kept r)
 settles-in es r s = shorter es r.recorded r.pending (r.recorded ++ r.pending) r.saved refl (stays-in es r s)
 
 -- a record that came to some entries
-arrived-stays : (es l pending : List Entry) (point : Option ℕ) → StaysIn es (l ++ pending) point → StaysSaved es (arrived l pending point)
+pub arrived-stays : (es l pending : List Entry) (point : Option ℕ) → StaysIn es (l ++ pending) point → StaysSaved es (arrived l pending point)
 arrived-stays es l pending point s = elim s [
   | inl none ↦ inl none
   | inr p ↦ inr (record {

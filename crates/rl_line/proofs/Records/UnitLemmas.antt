@@ -1,6 +1,6 @@
 -- Units: they make up the list, each by itself is one unit, and lists with matched marks cut apart.
 use Rattle.rl_line.proofs.Common.{common_steps, drop_at, ◌≡◌, ℕ, ◌+◌, ◌≤◌, suc, add-zero, length-append, reverse, Bool, true, false, cond, List, [], ◌∷◌, ◌++◌, length, take, drop, Option, Some, None, refl, sym, ap, subst, ◌∙◌, arith, append_assoc, append-nil, or-true, take-append-drop, reverse-append, reverse-reverse, option_and_then, IsSome, ◌||◌, max, Entry, Begin, End, Changed, UndoUnit, Open, Whole, entries, close, add_entry, cut_more, units, together, opens, last_of, kept_of, redo_from, redo_of, is_change, touched, mark, marks, IsMatched}
-use Rattle.rl_line.proofs.Records.Counts.{back_len, ahead_len}
+use Rattle.rl_line.proofs.Records.Counts.{back_len, ahead_len, size_back}
 use Rattle.rl_line.proofs.Records.RecordLemmas.{value_of, IsSome-through, then_both}
 
 close-together : (inner : List Entry) (us : List UndoUnit) → together (close inner us) ≡ (together us ++ inner) ++ (End ∷ [])
@@ -62,6 +62,8 @@ pub record Settles (es : List Entry) : Type 0 where
   pub cuts : (us : List UndoUnit) → cut_more us es ≡ Whole es ∷ us
   pub back : (k : ℕ) (rs : List Entry) → back_len 0 (suc k) (reverse es ++ rs) ≡ length es + back_len 0 k rs
   pub back_within : (k d : ℕ) (rs : List Entry) → back_len (suc d) k (reverse es ++ rs) ≡ length es + back_len (suc d) k rs
+  pub size : (rs : List Entry) → size_back 0 (reverse es ++ rs) ≡ suc (size_back 0 rs)
+  pub size_within : (d : ℕ) (rs : List Entry) → size_back (suc d) (reverse es ++ rs) ≡ size_back (suc d) rs
   pub ahead : (rs : List Entry) → ahead_len 0 (es ++ rs) ≡ length es
   pub ahead_within : (d : ℕ) (rs : List Entry) → ahead_len (suc d) (es ++ rs) ≡ length es + ahead_len (suc d) rs
 
@@ -84,6 +86,7 @@ pub record Gathers (b : Bool) (inner : List Entry) : Type 0 where
   pub flags : (fs : List Bool) → marks inner fs ≡ Some (cond b (touched fs) fs)
   pub gathers : (acc : List Entry) (us : List UndoUnit) → close acc (cut_more us inner) ≡ close (inner ++ acc) us
   pub back_within : (k d : ℕ) (rs : List Entry) → back_len (suc d) k (reverse inner ++ rs) ≡ length inner + back_len (suc d) k rs
+  pub size_within : (d : ℕ) (rs : List Entry) → size_back (suc d) (reverse inner ++ rs) ≡ size_back (suc d) rs
   pub ahead_within : (d : ℕ) (rs : List Entry) → ahead_len (suc d) (inner ++ rs) ≡ length inner + ahead_len (suc d) rs
 
 pub Gathers-nil : Gathers false []
@@ -109,6 +112,8 @@ Gathers-more b es inner s g = record {
   back_within = λ k d rs. ap (λ x. back_len (suc d) k (x ++ rs)) (reverse-append es inner) ∙ ap (back_len (suc d) k) (append_assoc (reverse inner) (reverse es) rs)
       ∙ g.back_within k d (reverse es ++ rs) ∙ ap (λ n. length inner + n) (s.back_within k d rs) ∙ swap_sum (length inner) (length es) (back_len (suc d) k rs)
       ∙ ap (λ n. n + back_len (suc d) k rs) (sym (length-append es inner));
+  size_within = λ d rs. ap (λ x. size_back (suc d) (x ++ rs)) (reverse-append es inner) ∙ ap (size_back (suc d)) (append_assoc (reverse inner) (reverse es) rs)
+      ∙ g.size_within d (reverse es ++ rs) ∙ s.size_within d rs;
   ahead_within = λ d rs. ap (ahead_len (suc d)) (append_assoc es inner rs) ∙ s.ahead_within d (inner ++ rs) ∙ ap (λ n. length es + n) (g.ahead_within d rs)
       ∙ sum_on (length es) (length inner) (ahead_len (suc d) rs) ∙ ap (λ n. n + ahead_len (suc d) rs) (sym (length-append es inner));
 }
@@ -128,6 +133,8 @@ Settles-group inner g = record {
   back = λ k rs. ap (back_len 0 (suc k)) (group_back inner rs) ∙ group_len inner (back_len 1 k (reverse inner ++ (Begin ∷ rs))) (back_len 0 k rs) (g.back_within k 0 (Begin ∷ rs));
   back_within = λ k d rs. ap (back_len (suc d) k) (group_back inner rs)
       ∙ group_len inner (back_len (suc (suc d)) k (reverse inner ++ (Begin ∷ rs))) (back_len (suc d) k rs) (g.back_within k (suc d) (Begin ∷ rs));
+  size = λ rs. ap (size_back 0) (group_back inner rs) ∙ ap suc (g.size_within 0 (Begin ∷ rs));
+  size_within = λ d rs. ap (size_back (suc d)) (group_back inner rs) ∙ g.size_within (suc d) (Begin ∷ rs);
   ahead = λ rs. ap (λ x. suc (ahead_len 1 x)) (append_assoc inner (End ∷ []) rs) ∙ group_len inner (ahead_len 1 (inner ++ End ∷ rs)) 0 (g.ahead_within 0 (End ∷ rs))
       ∙ add-zero (length (Begin ∷ (inner ++ End ∷ [])));
   ahead_within = λ d rs. ap (λ x. suc (ahead_len (suc (suc d)) x)) (append_assoc inner (End ∷ []) rs)
@@ -167,6 +174,8 @@ add_good (Changed k c) us t good h = (
       cuts = λ us. refl;
       back = λ k rs. one_more (back_len 0 k rs);
       back_within = λ k d rs. one_more (back_len (suc d) k rs);
+      size = λ rs. refl;
+      size_within = λ d rs. refl;
       ahead = λ rs. refl;
       ahead_within = λ d rs. one_more (ahead_len (suc d) rs);
     },

@@ -24,7 +24,7 @@ impl Changeset {
         ensures done { OnOk result (listener.new ≡ listener_back L.step line.now.cursor (last_of n self.now.recorded) listener.old) }
         ensures err { IfErr result (HeardBackInPart L.step L.refused line.now.cursor (last_of n self.now.recorded) listener.old listener.new) }
     {
-        self.foretell_over(line, Way::Back, n, listener)
+        self.foretell_over(line, Way::Back, usize::from(n), listener)
     }
 
     /// Tells a listener, which may refuse, what `redo_telling` would tell it, and redoes nothing. Refused, all is as after a
@@ -45,7 +45,7 @@ impl Changeset {
         &self,
         line: &LineBuffer,
         way: Way,
-        n: RepeatCount,
+        n: usize,
         listener: &mut L,
     ) -> Result<(), Refusal>
         ensures done { OnOk result (listener.new ≡ listener_over L.step way line.now.cursor (unit_of way n self.now) listener.old) }

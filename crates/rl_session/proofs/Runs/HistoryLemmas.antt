@@ -1,5 +1,5 @@
 -- Rows of a session: what they make of its history, and what undos and redos among them do.
-use Rattle.rl_session.specs.Commands.{allowed}
+use Rattle.rl_session.specs.Commands.{allowed, gives_up}
 use Rattle.rl_session.proofs.Sessions.CommandLemmas.{done_allowed}
 use Rattle.rl_session.proofs.Common.{◌≡◌, ◌∙◌, inr, same_Some, replay_entries, true, Cursors, Entry, rules, ℕ, Bool, List, [], ◌∷◌, ◌++◌, length, min, arith, take, sym, ap, subst, append-nil, append_assoc, Line, listener_after, Record, record_step, unwind, Undone, Redone, Redos, begun, ended, ended_one, level, last_of, last_units, opens, redo_of, truncated, undone, Effect, by_steps, puts_begin, puts_ends, puts_end, shortens, takes_back, puts_again, Became, effect, Does, readied, with_changes, AllRedone, History, Holds, WasHeld, WasRefused, Row, Leads, Run, held, held_by, held_of, steps_in, texts_of_steps, State, with_ring, reset, Append, Command, Undo, Redo, Reply}
 use Rattle.rl_line.specs.Plan.{Step as PlanStep}
@@ -17,7 +17,9 @@ use Rattle.rl_base.specs.KillRing.{killed}
 use Rattle.rl_session.specs.declared.session.Reply.TheVariants as says
 use Rattle.rl_session.proofs.Sessions.CourseLemmas.{Heard, Heard-Came}
 use Rattle.rl_session.proofs.Runs.RowLemmas.{Leads-split}
-use Rattle.rl_session.proofs.Runs.PlaceLemmas.{History-more, History-steps, History-begun, History-closed, History-undone, History-redone, History-reopened, History-truncated, undo-held}
+use Rattle.rl_session.proofs.Runs.PlaceLemmas.{History-more, History-steps, History-begun, History-closed, History-undone, History-redone, History-reopened, History-truncated, undo-held, History-dropped}
+use Rattle.rl_line.proofs.Records.AbandonLemmas.{abandoned-as, saved-abandoned}
+use Rattle.rl_line.specs.Undo.{Abandoned}
 
 -- ---- the history
 History-Heard : (start : List ℕ) (held : List (List ℕ)) (steps : List PlanStep) (old : Line) (r : Record) (text : List ℕ) (now : Record) → History start held old.text r
@@ -43,6 +45,17 @@ History-PutAgain start held more old new a h d =
     let k = History-redone start held old.line.text new.line.text old.pair.changes h (line_ahead-replay (redo_of old.pair.changes.pending) old.line new.line d.line_is) in
     History-more start held more new.line.text new.pair.changes (subst (λ (r : Record). History start held new.line.text r) (sym d.record_is) k)
 
+History-GaveUp : (start : List ℕ) (held more : List (List ℕ)) (old new : State) (a : Bool) → Holds start held old
+    → Abandoned old.pair.changes new.pair.changes old.line new.line a → Holds start (held ++ more) new
+History-GaveUp start held more old new a h d = elim (abandoned-as old.pair.changes new.pair.changes old.line new.line a d) [
+  | inl same ↦
+      History-more start held more new.line.text new.pair.changes
+      (subst (λ (r : Record). History start held new.line.text r) (sym same.0) (subst (λ (l : Line). History start held l.text old.pair.changes) (sym same.1) h))
+  | inr (mid, b, u, is) ↦
+      subst (λ (r : Record). History start (held ++ more) new.line.text r) (sym is)
+      (History-dropped start (held ++ more) new.line.text mid (History-TookBack _ start held more old (with_changes mid new) b h u))
+]
+
 Holds-Became : (start : List ℕ) (held : List (List ℕ)) (effect : Effect) (old new : State) (d : Became effect old new) → Holds start held old
     → Holds start (held ++ held_by effect old new d) new
 Holds-Became start held (by_steps course) old new d h =
@@ -63,6 +76,7 @@ Holds-Became start held parts old new d h =
 Holds-Became start held (reopens a) old new d h =
     History-changes start held new (with_changes (reopened old.pair.changes) old) (History-reopened start held old.line.text old.pair.changes h) d.1
 Holds-Became start held (takes_back n a) old new d h = History-TookBack _ start held _ old new a h d.0
+Holds-Became start held (gives_up a) old new d h = History-GaveUp start held _ old new a h d.0
 Holds-Became start held (puts_again a) old new d h = History-PutAgain start held _ old new a h d.0
 
 -- a row adds its texts to those that were held
@@ -176,6 +190,7 @@ Saved-Became es (keeps text) old new d s = subst (λ (k : State). StaysSaved es 
 Saved-Became es parts old new d s = subst (λ (k : State). StaysSaved es k.pair.changes) (sym d) (saved-parted es old.pair.changes s)
 Saved-Became es (reopens a) old new d s = subst (λ (k : State). StaysSaved es k.pair.changes) (sym d.1) (saved-reopened es old.pair.changes s)
 Saved-Became es (takes_back n a) old new d s = subst (StaysSaved es) (sym d.0.record_is) (saved-undone es old.pair.changes n s)
+Saved-Became es (gives_up a) old new d s = subst (StaysSaved es) (sym d.0.record_is) (saved-abandoned es old.pair.changes s)
 Saved-Became es (puts_again a) old new d s = subst (StaysSaved es) (sym d.0.record_is) (saved-redone es old.pair.changes s)
 
 pub Saved-Leads : (es : List Entry) (rows : List Row) (old new : State) → StaysSaved es old.pair.changes → Leads old rows new → StaysSaved es new.pair.changes

@@ -4,7 +4,7 @@ use Rattle.rl_base.specs.Event.{apply}
 use Rattle.rl_base.proofs.Texts.SwapLemmas.{apply-IsUtf8}
 use Rattle.rl_line.specs.Plan.{Step, after}
 use Rattle.rl_line.specs.Record.{record_step}
-use Rattle.rl_line.specs.Units.{ends_in_end, reopened}
+use Rattle.rl_line.specs.Units.{ends_in_end, reopened, redo_dropped}
 use Rattle.rl_line.proofs.Records.MarkLemmas.{unwind-cut}
 use Rattle.rl_line.proofs.Records.JoinLemmas.{heard, step-cases}
 use Rattle.rl_line.proofs.Records.LastLemmas.{after-cases, end_one-cases, end_times-keeps, map-reverse}
@@ -263,6 +263,14 @@ History-truncated len start held text r h k =
 pub History-reopened : (start : List ℕ) (held : List (List ℕ)) (text : List ℕ) (r : Record) → History start held text r → History start held text (reopened r)
 History-reopened start held text r h =
     cond_both (ends_in_end r.recorded) _ _ (History start held text) (λ e. History-truncated (length r.recorded - 1) start held text r h (unwind-cut r.recorded text e)) (λ _. h)
+
+pub History-dropped : (start : List ℕ) (held : List (List ℕ)) (text : List ℕ) (r : Record) → History start held text r → History start held text (redo_dropped r)
+History-dropped start held text r h = record {
+  is_text = h.is_text;
+  leads = h.leads;
+  placed = alone start r.recorded held (recorded-placed start held text r h);
+  matched = record { recorded = h.matched.recorded; pending = refl };
+}
 
 -- the undone entries can be made again
 pub pending-leads : (start : List ℕ) (held : List (List ℕ)) (text : List ℕ) (r : Record) → History start held text r → IsSome (replay_entries r.pending text)

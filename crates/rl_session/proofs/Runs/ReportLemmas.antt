@@ -5,9 +5,10 @@ use Rattle.rl_line.proofs.Plans.PlanLemmas.{after-replay}
 use Rattle.rl_line.proofs.Records.RecordLemmas.{events-append}
 use Rattle.rl_line.proofs.Records.HeardLemmas.{line_back-ahead}
 use Rattle.rl_line.proofs.Records.UndoLemmas.{line_ahead-replay}
-use Rattle.rl_session.specs.Commands.{keeps, parts}
+use Rattle.rl_session.specs.Commands.{keeps, parts, gives_up}
 use Rattle.rl_session.proofs.Sessions.CourseLemmas.{Heard-Came}
 use Rattle.rl_session.proofs.Common.{arith}
+use Rattle.rl_line.specs.Units.{open_group}
 
 then_same : (xs ys : List Event) (o : Option (List ℕ)) → ((t : List ℕ) → replay xs t ≡ replay ys t) → option_and_then (replay xs) o ≡ option_and_then (replay ys) o
 then_same xs ys None same = refl
@@ -31,6 +32,9 @@ reported (takes_back n a) old new d =
     let back = last_of n old.pair.changes.recorded in
     let ahead = map inverse (reverse back) in
     replay-ahead old.line.cursor ahead old.line.text ∙ line_ahead-replay ahead old.line new.line (line_back-ahead back old.line ∙ d.0.line_is)
+reported (gives_up a) old new d =
+    let ahead = map inverse (reverse (open_group old.pair.changes.recorded)) in
+    replay-ahead old.line.cursor ahead old.line.text ∙ line_ahead-replay ahead old.line new.line (line_back-ahead (open_group old.pair.changes.recorded) old.line ∙ d.0.line_is)
 reported (puts_again a) old new d =
     let ahead = redo_of old.pair.changes.pending in replay-ahead old.line.cursor ahead old.line.text ∙ line_ahead-replay ahead old.line new.line d.0.line_is
 reported _ old new d = ap (λ (s : State). Some s.line.text) (sym d.1)

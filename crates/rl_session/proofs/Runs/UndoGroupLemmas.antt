@@ -1,6 +1,6 @@
 -- A group that was closed is one unit, whatever happened inside, so that one undo takes it off.
-use Rattle.rl_session.specs.Commands.{allowed, effect_where, is_barred}
-use Rattle.rl_session.proofs.Common.{Bool, false, rules, ◌≡◌, ◌<◌, ◌+◌, ℕ, inl, inr, zero, suc, true, List, [], ◌∷◌, ◌++◌, length, drop, Some, refl, sym, ap, subst, ◌∙◌, arith, or-false, min, listener_after, listener_after_step, Begin, End, Entry, Record, record_step, replay_entries, IsMatched, begun, end_one, end_times, ended, ended_one, has_change, kept_of, last_of, level, opens, with_closed, Effect, by_steps, puts_begin, puts_end, Became, effect, Does, with_changes, AllStandInGroup, ClosesGroup, Holds, MayStandInGroup, WasRefused, Leads, Row, Run, held, held_of, steps_in, State, with_ring, reset, Append, Command, Reply, Cursors}
+use Rattle.rl_session.specs.Commands.{allowed, effect_where, is_barred, gives_up}
+use Rattle.rl_session.proofs.Common.{Bool, false, rules, ◌≡◌, ◌<◌, ◌+◌, ℕ, inl, inr, zero, suc, true, List, [], ◌∷◌, ◌++◌, length, drop, Some, refl, sym, ap, subst, ◌∙◌, arith, or-false, min, listener_after, listener_after_step, Begin, End, Entry, Record, record_step, replay_entries, IsMatched, begun, end_one, end_times, ended, ended_one, has_change, kept_of, last_of, level, opens, with_closed, Effect, by_steps, puts_begin, puts_end, Became, effect, Does, with_changes, AllStandInGroup, ClosesGroup, Holds, MayStandInGroup, WasRefused, Leads, Row, Run, held, held_of, steps_in, State, with_ring, reset, Append, Command, Reply, Cursors, cond, same_Some}
 use Rattle.rl_line.specs.Plan.{Step}
 use Rattle.rl_line.proofs.Records.GroupLemmas.{has_change-append, Inside, InsideOf, Inside-event, Inside-begun, Inside-reopened, past_begin}
 use Rattle.rl_line.proofs.Records.LastLemmas.{end_one-begin, end_one-cases, end_one-past, end_times-keeps}
@@ -10,13 +10,16 @@ use Rattle.rl_line.proofs.Records.UndoLemmas.{line_back-unwind}
 use Rattle.rl_session.specs.Commands.{keeps, parts, reopens}
 use Rattle.rl_base.specs.KillRing.{killed}
 use Rattle.rl_line.specs.Record.{parted}
-use Rattle.rl_line.specs.Units.{reopened}
+use Rattle.rl_line.specs.Units.{reopened, open_size, redo_dropped, undone}
 use Rattle.rl_session.specs.declared.session.Command.TheVariants as asks
 use Rattle.rl_session.specs.declared.session.Reply.TheVariants as says
 use Rattle.rl_session.proofs.Runs.RowLemmas.{Leads-split}
 use Rattle.rl_session.proofs.Sessions.CourseLemmas.{Heard-Came}
 use Rattle.rl_session.proofs.Runs.HistoryLemmas.{Holds-Leads, Holds-row, done_as, row_at, undo-row}
 use Rattle.rl_session.proofs.Runs.PlaceLemmas.{kept-leads}
+use Rattle.rl_line.proofs.Records.AbandonLemmas.{GroupOpen, Inside-Abandoned, open_after}
+use Rattle.rl_line.specs.Undo.{Abandoned, line_back}
+use Rattle.rl_session.proofs.Sessions.CommandLemmas.{done_allowed}
 
 -- ---- the end of a group
 -- the ends of the groups inside, then the end of the group itself
@@ -61,11 +64,13 @@ StaysOpen below now (puts_end _) = below < now
 StaysOpen below now (keeps _) = Unit {0}
 StaysOpen below now parts = Unit {0}
 StaysOpen below now (reopens _) = Unit {0}
+StaysOpen below now (gives_up _) = below < now
 StaysOpen below now _ = ⊥
 
 allowed_open : (below now : ℕ) (old : State) (command : Command) (reply : Reply) → MayStandInGroup below now command reply → StaysOpen below now (allowed old command reply)
 allowed_open below now old asks.End (says.Answer a) i = absurd i
 allowed_open below now old asks.EndOne (says.Answer a) i = elim i [ inl refused ↦ absurd refused | inr above ↦ above ]
+allowed_open below now old asks.Abandon (says.Answer a) i = elim i [ inl refused ↦ absurd refused | inr above ↦ above ]
 allowed_open below now old (asks.Undo n) (says.Answer a) i = absurd i
 allowed_open below now old asks.Redo (says.Answer a) i = absurd i
 allowed_open below now old (asks.Truncate len) says.Done i = absurd i
@@ -105,6 +110,7 @@ Inside-Became front (puts_end a) old new i d k =
 Inside-Became front (keeps text) old new i d k = Inside-same front (with_ring (reset (killed text Append old.pair.ring)) old) new k d
 Inside-Became front parts old new i d k = Inside-same front (with_changes (parted old.pair.changes) old) new (record { inner = k.inner; is = k.is; matched = k.matched }) d
 Inside-Became front (reopens a) old new i d k = Inside-same front (with_changes (reopened old.pair.changes) old) new (Inside-reopened front old.pair.changes k) d.1
+Inside-Became front (gives_up a) old new i d k = Inside-Abandoned front old.pair.changes new.pair.changes old.line new.line a k i d.0
 Inside-Became front _ old new i d k = absurd i
 
 Inside-row : (front : List Entry) (row : Row) → MayStandInGroup (level front) (level row.after.pair.changes.recorded) row.command row.reply → Inside front row.before.pair.changes → Inside front row.after.pair.changes
@@ -179,3 +185,36 @@ group-in_run start texts old new commands replies earlier inside later b e u hol
     let c = closing-row e e.command (level front) refl closes ends in
     let keeps = ap (λ (r : Record). kept_of 1 r.recorded) c.2 ∙ kept-closed front e.before.pair.changes c.0 i c.1 change in
     group-undone start (texts ++ held_of earlier) inside b e u q.0 at.holds q.1 q.2.0 keeps q.2.1.0 is_undo undoes
+
+-- ---- a group that is given up
+Abandon-done : (old left : State) (reply : Reply) → Does old asks.Abandon reply left → ¬ (WasRefused reply)
+    → (a : Bool) × Abandoned old.pair.changes left.pair.changes old.line left.line a
+Abandon-done old left reply d w = from reply (done_allowed old asks.Abandon reply left d w) w
+  where
+    from : (reply : Reply) → Became (allowed old asks.Abandon reply) old left → ¬ (WasRefused reply) → (a : Bool) × Abandoned old.pair.changes left.pair.changes old.line left.line a
+    from (says.Answer a) d w = (a, d.0)
+    from _ d w = absurd (search rules)
+
+pub abandon-in_run : (start : List ℕ) (texts : List (List ℕ)) (old new : State) (commands : List Command) (replies : List Reply)
+    (earlier inside later : List Row) (b e : Row) → Holds start texts old → (run : Run old commands replies new)
+    → run.rows ≡ earlier ++ (b ∷ (inside ++ (e ∷ later)))
+    → b.command ≡ asks.Begin → ¬ (WasRefused b.reply) → AllStandInGroup (level b.before.pair.changes.recorded) inside
+    → level e.before.pair.changes.recorded ≡ suc (level b.before.pair.changes.recorded) → e.command ≡ asks.Abandon → ¬ (WasRefused e.reply)
+    → (e.after.line.text ≡ b.before.line.text) × (e.after.pair.changes.recorded ≡ b.before.pair.changes.recorded) × (e.after.pair.changes.pending ≡ [])
+abandon-in_run start texts old new commands replies earlier inside later b e holds run rows is_begin begins all inner is_abandon abandons =
+    let front = b.before.pair.changes.recorded in
+    let r = e.before.pair.changes in
+    let size = open_size r.recorded in
+    let at = row_at start texts old new commands replies earlier (inside ++ (e ∷ later)) b holds run rows in
+    let q = Leads-split inside (e ∷ later) b.after new at.goes_on in
+    let i = group-inside inside b e q.0 is_begin begins all q.1 q.2.0 in
+    let closed : level i.inner ≡ 0 = omega (arith, inner, ap level i.is, level-group front i.inner i.matched) in
+    let g : GroupOpen front i.inner r.recorded = subst (GroupOpen front i.inner) (sym i.is) (open_after front i.inner i.matched closed) in
+    let d = (done_as e asks.Abandon (λ r k l m. (a : Bool) × Abandoned r k l m a) Abandon-done is_abandon abandons).1 in
+    let now : e.after.pair.changes ≡ redo_dropped (undone size r) = d.record_is ∙ ap (λ x. cond x (redo_dropped (undone size r)) r) g.opened in
+    let back : line_back (last_of size r.recorded) e.before.line ≡ Some e.after.line = ap (λ x. line_back (cond x (last_of size r.recorded) []) e.before.line) (sym g.opened) ∙ d.line_is in
+    let at_mid = Holds-Leads start inside ((texts ++ held_of earlier) ++ held b) b.after q.0 (Holds-row start (texts ++ held_of earlier) b at.holds) q.1 in
+    let at_end = subst (λ s. Holds start (((texts ++ held_of earlier) ++ held b) ++ held_of inside) s) (sym q.2.0) at_mid in
+    let leads = kept-leads size r.recorded start e.before.line.text e.after.line.text at.holds.is_text at_end.leads (line_back-unwind (last_of size r.recorded) e.before.line e.after.line back) in
+    let both : Some e.after.line.text ≡ Some b.before.line.text = sym leads ∙ ap (λ x. replay_entries x start) g.kept ∙ at.holds.leads in
+    (same_Some _ _ both, ap (λ (k : Record). k.recorded) now ∙ g.kept, ap (λ (k : Record). k.pending) now)

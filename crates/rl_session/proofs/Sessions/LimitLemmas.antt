@@ -8,7 +8,7 @@ use Rattle.rl_line.specs.Plan.{longest, longest_by, nothing, of_step, resized}
 use Rattle.rl_line.specs.Ranges.{killed}
 use Rattle.rl_line.specs.Transpositions.{clusters_around, meeting_place}
 use Rattle.rl_line.proofs.Plans.LimitLemmas.{SameLimit, SameLimit-same, after-limit, ahead-limit, back-limit, longest-front}
-use Rattle.rl_session.specs.Commands.{Step, keeps, parts, reopens, allowed, barred_course, effect_where, is_barred, is_past_limit, lent, stops}
+use Rattle.rl_session.specs.Commands.{Step, keeps, parts, reopens, allowed, barred_course, effect_where, is_barred, is_past_limit, lent, stops, gives_up}
 use Rattle.rl_session.specs.State.{HoldsLimit}
 use Rattle.rl_session.specs.declared.session.Fault.TheVariants.{NoMemory, BadPlace, TooLong}
 use Rattle.rl_session.specs.declared.session.Command.TheVariants as asks
@@ -16,6 +16,7 @@ use Rattle.rl_session.specs.declared.session.Reply.TheVariants as says
 use Rattle.rl_session.specs.declared.options.Options.{Options}
 use Rattle.rl_line.proofs.Plans.EditLemmas.{length-repeat}
 use Rattle.rl_session.proofs.Runs.RowLemmas.{Leads-keeps, Step-options}
+use Rattle.rl_line.specs.Units.{open_group}
 
 -- ---- a plan that makes the text no longer than the limit
 abbrev pub Fits : {A : Type 0} → Line → Plan A → Type 0
@@ -134,12 +135,14 @@ Same-Came (tells false course) old new u f d = Same-Came course (record old { pa
 abbrev FitsAll : State → Effect → Type 0
 FitsAll old (by_steps course) = FitsOn old course
 FitsAll old (takes_back n a) = greatest_back_over (last_of n old.pair.changes.recorded) (length old.line.text) ≤ old.line.limit
+FitsAll old (gives_up a) = greatest_back_over (open_group old.pair.changes.recorded) (length old.line.text) ≤ old.line.limit
 FitsAll old (puts_again a) = greatest_ahead_over (redo_of old.pair.changes.pending) (length old.line.text) ≤ old.line.limit
 FitsAll old _ = Unit {0}
 
 Same-Became : (effect : Effect) (old new : State) → IsUtf8 old.line.text → FitsAll old effect → Became effect old new → Same old new
 Same-Became (by_steps course) old new u f d = Same-Came course old new u f d
 Same-Became (takes_back n a) old new u f d = back-limit (last_of n old.pair.changes.recorded) old.line new.line u d.0.line_is f
+Same-Became (gives_up a) old new u f d = back-limit (open_group old.pair.changes.recorded) old.line new.line u d.0.line_is f
 Same-Became (puts_again a) old new u f d = ahead-limit (redo_of old.pair.changes.pending) old.line new.line u d.0.line_is f
 Same-Became (puts_begin n) old new u f d = SameLimit-same old.line new.line (ap (λ (s : State). s.line) d.1)
 Same-Became (puts_ends a) old new u f d = SameLimit-same old.line new.line (ap (λ (s : State). s.line) d.1)
@@ -219,6 +222,7 @@ module _ (s : State) (b : Bounds s.line) (at : s.line.cursor ≤ length s.line.t
   allowed-fits (asks.Truncate len) says.Done free = tt
   allowed-fits (asks.Undo n) (says.Answer a) free = within_limit s _ holds free
   allowed-fits asks.Redo (says.Answer a) free = within_limit s _ holds free
+  allowed-fits asks.Abandon (says.Answer a) free = within_limit s _ holds free
   allowed-fits (asks.Keep t) says.Done free = tt
   allowed-fits asks.Part says.Done free = tt
   allowed-fits asks.Reopen (says.Answer a) free = tt

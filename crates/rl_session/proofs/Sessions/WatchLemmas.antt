@@ -7,13 +7,14 @@ use Rattle.rl_base.proofs.Texts.SpliceLemmas.{Covers-apply}
 use Rattle.rl_line.specs.Plan.{Step as PlanStep, after}
 use Rattle.rl_line.proofs.Records.HeardLemmas.{after-steps_ahead, after-steps_back}
 use Rattle.rl_line.proofs.Plans.HearingLemmas.{AreChanges, Keeps-after}
-use Rattle.rl_session.specs.Commands.{Step, stops, lent, keeps, parts}
+use Rattle.rl_session.specs.Commands.{Step, stops, lent, keeps, parts, gives_up}
 use Rattle.rl_session.proofs.Sessions.CommandLemmas.{Changes, EffectChanges, effect-changes}
 use Rattle.rl_session.proofs.Sessions.CourseLemmas.{Moved-text}
 use Rattle.rl_session.proofs.Sessions.IdleLemmas.{NoneStarts-ahead, NoneStarts-first}
 use Rattle.rl_session.proofs.Sessions.PairLemmas.{cause-watch, listener_after-watch, own}
 use Rattle.rl_session.proofs.Sessions.RestartLemmas.{apply-all}
 use Rattle.rl_session.proofs.Runs.RowLemmas.{Leads-keeps}
+use Rattle.rl_line.specs.Units.{open_group}
 
 -- what is known of a line before a command and after it
 pub record Texts (old new : Line) : Type 0 where
@@ -79,6 +80,9 @@ module _ (Keeps : Watched → List ℕ → Type 0)
       let back = last_of n old.pair.changes.recorded in
       let steps = after-steps_back back old.line new.line t.at t.within d.0.line_is in
       Kept-over (steps_back old.line.cursor back) old new t (NoneStarts-ahead (map inverse (reverse back)) old.line.cursor) steps d.2 k
+  Kept-Became (gives_up a) old new t c d k =
+      let group = open_group old.pair.changes.recorded in
+      Kept-over (steps_back old.line.cursor group) old new t (NoneStarts-ahead (map inverse (reverse group)) old.line.cursor) (after-steps_back group old.line new.line t.at t.within d.0.line_is) d.2 k
   Kept-Became (puts_again a) old new t c d k =
       let ahead = redo_of old.pair.changes.pending in
       let steps = after-steps_ahead ahead old.line new.line t.at t.within d.0.line_is in

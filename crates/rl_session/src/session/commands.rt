@@ -232,6 +232,15 @@ impl Session {
         anew!(self, self.do_reopen())
     }
 
+    /// Takes back the group that was opened last and is open, as if it had never been begun: its changes are undone, and it
+    /// is forgotten with its begin, so that nothing waits to be redone. The ring keeps what was killed. Answers whether a
+    /// group is open; else it changes nothing. `NoMemory` leaves text and record as they were.
+    pub fn abandon(&mut self) -> Reply
+        ensures { Step self.old Command.Abandon result self.new }
+    {
+        anew!(self, self.do_abandon())
+    }
+
     /// Undoes n units: one for 0, and all if there are fewer. Answers whether there was a change. `NoMemory` leaves text
     /// and record as they were. Inlined, as `insert` is.
     #[inline(always)]

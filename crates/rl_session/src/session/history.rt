@@ -93,6 +93,18 @@ impl Session {
         Reply::Answer(self.pair.changes.reopen())
     }
 
+    #[tactic(auto, using(crate::proofs::Sessions::SessionLemmas::resting))]
+    pub(super) fn do_abandon(&mut self) -> Reply
+        ensures { Does self.old Command.Abandon result self.new }
+    {
+        self.stands();
+        if self.options.holds && !self.pair.changes.abandon_fits(&self.line) {
+            return Reply::Refused(Fault::TooLong);
+        }
+        let watch = &mut self.pair.watch;
+        answered(self.pair.changes.abandon_telling(&mut self.line, watch))
+    }
+
     // What is barred has its reply here. Inlined, as the call is.
     #[inline(always)]
     pub(super) fn undo_held(&mut self, n: RepeatCount) -> Reply

@@ -1,0 +1,145 @@
+-- Taking back the group that was opened last: what it makes of a record, and what stands after it.
+use Rattle.rl_line.proofs.Common.{◌≡◌, ◌⊎◌, inl, inr, ℕ, suc, not, ne_eqb, max, arith, Bool, true, false, List, [], ◌∷◌, ◌++◌, length, take, drop, Some, refl, sym, ap, subst, ◌∙◌, same_Some, cond, drop_at, append_assoc, append-nil, take-append-drop, IsUtf8, Line, Event, Entry, Begin, Record, UndoUnit, Open, Whole, IsMatched, StaysSaved, Abandoned, Undone, Walks, abandoned, has_change, in_group, is_open, kept_of, last_of, level, line_back, open_group, open_size, opens, point_kept, redo_dropped, size_to_open, together, undone, units, cond_both, IsSome, ◌<◌}
+use Rattle.rl_line.proofs.Records.EndLemmas.{within, level-group}
+use Rattle.rl_line.proofs.Records.OriginLemmas.{Kept, Kept-Undone}
+use Rattle.rl_line.proofs.Records.SavedLemmas.{arrived-stays, longer, saved-undone, settles-in, told-at}
+use Rattle.rl_line.proofs.Records.UnitLemmas.{cut_more-append, together-append, together-units, units-append, AllGood, IsMatched-together, units-good}
+use Rattle.rl_line.proofs.Records.WalkLemmas.{Walks-Undone}
+use Rattle.rl_line.proofs.Records.MoveLemmas.{undo-fits}
+use Rattle.rl_line.proofs.Records.GroupLemmas.{Inside, InsideOf}
+
+-- ---- where the group begins
+counted : (us vs : List UndoUnit) → opens us ≡ 0 → size_to_open (us ++ Open ∷ vs) ≡ suc (length us)
+counted [] vs o = refl
+counted (Open ∷ us) vs o = absurd (omega (arith, o))
+counted (Whole es ∷ us) vs o = ap suc (counted us vs o)
+
+taken : (us vs : List UndoUnit) → take (suc (length us)) (us ++ Open ∷ vs) ≡ us ++ Open ∷ []
+taken [] vs = refl
+taken (u ∷ us) vs = ap (λ x. u ∷ x) (taken us vs)
+
+left : (us vs : List UndoUnit) → drop (suc (length us)) (us ++ Open ∷ vs) ≡ vs
+left [] vs = refl
+left (u ∷ us) vs = left us vs
+
+-- the group is what stands from its Begin on, if all that was begun inside is closed
+pub record GroupOpen (front inner es : List Entry) : Type 0 where
+  pub opened : is_open es ≡ true
+  pub unit : last_of (open_size es) es ≡ Begin ∷ inner
+  pub kept : kept_of (open_size es) es ≡ front
+
+open_units : (front inner : List Entry) → IsMatched inner → units (front ++ Begin ∷ inner) ≡ units inner ++ Open ∷ units front
+open_units front inner m =
+    ap units (sym (append_assoc front (Begin ∷ []) inner)) ∙ units-append (front ++ Begin ∷ []) inner m ∙ ap (λ vs. units inner ++ vs) (cut_more-append [] front (Begin ∷ []))
+
+pub open_after : (front inner : List Entry) → IsMatched inner → level inner ≡ 0 → GroupOpen front inner (front ++ Begin ∷ inner)
+open_after front inner m l =
+    let es = front ++ Begin ∷ inner in
+    let us = units inner in
+    let cut = open_units front inner m in
+    let size : max (open_size es) 1 ≡ suc (length us) = omega (arith, ap size_to_open cut ∙ counted us (units front) l) in
+    record {
+      opened = ap not (ne_eqb (level es) 0 (λ e. omega (arith, e, level-group front inner m)));
+      unit = ap (λ n. together (take n (units es))) size ∙ ap (λ vs. together (take (suc (length us)) vs)) cut ∙ ap together (taken us (units front))
+          ∙ together-append us (Open ∷ []) ∙ ap (λ x. Begin ∷ x) (together-units inner);
+      kept = ap (λ n. together (drop n (units es))) size ∙ ap (λ vs. together (drop (suc (length us)) vs)) cut ∙ ap together (left us (units front)) ∙ together-units front;
+    }
+
+-- ---- a record in which nothing happened but events since the begin
+pub never_begun : (r : Record) (events : List Event) → IsMatched r.recorded
+    → (open_group (in_group events r).recorded ≡ drop (length r.recorded) (in_group events r).recorded)
+    × ((abandoned (in_group events r)).recorded ≡ r.recorded) × ((abandoned (in_group events r)).pending ≡ [])
+never_begun r events h =
+    let w = within r events h in
+    let now = in_group events r in
+    let g : GroupOpen r.recorded w.inner now.recorded = subst (GroupOpen r.recorded w.inner) (sym w.is) (open_after r.recorded w.inner w.matched w.closed) in (
+      ap (λ b. cond b (last_of (open_size now.recorded) now.recorded) []) g.opened ∙ g.unit
+      ∙ sym (ap (drop (length r.recorded)) w.is ∙ drop_at r.recorded (Begin ∷ w.inner) (length r.recorded) refl),
+      ap (λ b. (cond b (redo_dropped (undone (open_size now.recorded) now)) now).recorded) g.opened ∙ g.kept,
+      ap (λ b. (cond b (redo_dropped (undone (open_size now.recorded) now)) now).pending) g.opened,
+    )
+
+-- ---- what an abandon keeps
+-- it is an undo, whose units are dropped, or nothing
+pub abandoned-as : (r now : Record) (old new : Line) (a : Bool) → Abandoned r now old new a
+    → ((now ≡ r) × (new ≡ old)) ⊎ ((mid : Record) × (b : Bool) × Undone (open_size r.recorded) r mid old new b × (now ≡ redo_dropped mid))
+abandoned-as r now old new a d = from (is_open r.recorded) d.line_is d.record_is
+  where
+    from : (x : Bool) → line_back (cond x (last_of (open_size r.recorded) r.recorded) []) old ≡ Some new → now ≡ cond x (redo_dropped (undone (open_size r.recorded) r)) r
+        → ((now ≡ r) × (new ≡ old)) ⊎ ((mid : Record) × (b : Bool) × Undone (open_size r.recorded) r mid old new b × (now ≡ redo_dropped mid))
+    from true l k = inr (undone (open_size r.recorded) r, has_change (last_of (open_size r.recorded) r.recorded), record { line_is = l; record_is = refl; answer_is = refl }, k)
+    from false l k = inl (k, sym (same_Some _ _ l))
+
+Walks-dropped : (r : Record) (text : List ℕ) → Walks r text → Walks (redo_dropped r) text
+Walks-dropped r text w = record { start = w.start; is_text = w.is_text; back = w.back; end = text; ahead = refl; stale = told-at (length r.recorded) (point_kept r) }
+
+pub Walks-Abandoned : (r now : Record) (old new : Line) (a : Bool) → Abandoned r now old new a → Walks r old.text → Walks now new.text
+Walks-Abandoned r now old new a d w = elim (abandoned-as r now old new a d) [
+  | inl same ↦ subst (λ (k : Record). Walks k new.text) (sym same.0) (subst (λ (l : Line). Walks r l.text) (sym same.1) w)
+  | inr (mid, b, u, k) ↦ subst (λ (k : Record). Walks k new.text) (sym k) (Walks-dropped mid new.text (Walks-Undone _ r mid old new b u w))
+]
+
+pub Kept-Abandoned : (r now : Record) (old new : Line) (a : Bool) → IsUtf8 old.text → Abandoned r now old new a → Kept r now old new
+Kept-Abandoned r now old new a utf8 d = elim (abandoned-as r now old new a d) [
+  | inl same ↦ subst (λ (k : Record). Kept r k old new) (sym same.0) (subst (Kept r r old) (sym same.1) (record { origin_is = λ start e. e; utf8 = utf8 }))
+  | inr (mid, b, u, k) ↦
+      let kept = Kept-Undone _ r mid old new b utf8 u in
+      subst (λ (k : Record). Kept r k old new) (sym k) (record { origin_is = kept.origin_is; utf8 = kept.utf8 })
+]
+
+saved-dropped : (es : List Entry) (r : Record) → StaysSaved es r → StaysSaved es (redo_dropped r)
+saved-dropped es r s = arrived-stays es r.recorded [] (point_kept r) (longer es r.recorded [] (point_kept r) (settles-in es r s))
+
+pub saved-abandoned : (es : List Entry) (r : Record) → StaysSaved es r → StaysSaved es (abandoned r)
+saved-abandoned es r s = from (is_open r.recorded)
+  where
+    from : (x : Bool) → StaysSaved es (cond x (redo_dropped (undone (open_size r.recorded) r)) r)
+    from true = saved-dropped es (undone (open_size r.recorded) r) (saved-undone es r (open_size r.recorded) s)
+    from false = s
+
+-- ---- where the line can go back
+pub abandon-fits : (es : List Entry) (line : Line) → IsSome (line_back es line) → IsSome (line_back (open_group es) line)
+abandon-fits es line h = cond_both (is_open es) _ _ (λ k. IsSome (line_back k line)) (λ _. undo-fits (open_size es) es line h) (λ _. refl)
+
+-- in a form that the search uses: an abandon that was done
+pub abandoned-walks : (r now : Record) (old new : Line) (a : Bool) → Abandoned r now old new a → Walks r old.text → Abandoned r now old new a × Walks now new.text
+abandoned-walks r now old new a d w = (d, Walks-Abandoned r now old new a d w)
+
+-- ---- an abandon inside a group that stays open
+sized : (us vs : List UndoUnit) → 0 < size_to_open (us ++ Open ∷ vs)
+sized [] vs = omega arith
+sized (Open ∷ us) vs = omega arith
+sized (Whole es ∷ us) vs = omega arith
+
+left_open : (us vs : List UndoUnit) → AllGood us
+    → (drop (size_to_open (us ++ Open ∷ vs)) (us ++ Open ∷ vs) ≡ vs) ⊎ ((ws : List UndoUnit) × AllGood ws × (drop (size_to_open (us ++ Open ∷ vs)) (us ++ Open ∷ vs) ≡ ws ++ Open ∷ vs))
+left_open [] vs g = inl refl
+left_open (Open ∷ us) vs g = inr (us, g.1, refl)
+left_open (Whole es ∷ us) vs g = left_open us vs g.1
+
+kept_inside : (front inner : List Entry) → IsMatched inner → level front < level (kept_of (open_size (front ++ Begin ∷ inner)) (front ++ Begin ∷ inner))
+    → InsideOf front (kept_of (open_size (front ++ Begin ∷ inner)) (front ++ Begin ∷ inner))
+kept_inside front inner m up =
+    let es = front ++ Begin ∷ inner in
+    let us = units inner in
+    let cut = open_units front inner m in
+    let size : max (open_size es) 1 ≡ size_to_open (us ++ Open ∷ units front) = omega (arith, ap size_to_open cut, sized us (units front)) in
+    let kept : kept_of (open_size es) es ≡ together (drop (size_to_open (us ++ Open ∷ units front)) (us ++ Open ∷ units front)) =
+    ap (λ n. together (drop n (units es))) size ∙ ap (λ vs. together (drop (size_to_open (us ++ Open ∷ units front)) vs)) cut in
+    elim (left_open us (units front) (units-good inner m)) [
+      | inl none ↦ absurd (omega (arith, up, ap level (kept ∙ ap together none ∙ together-units front)))
+      | inr (ws, good, is) ↦ record {
+        inner = together ws;
+        is = kept ∙ ap together is ∙ together-append ws (Open ∷ units front) ∙ ap (λ x. (x ++ Begin ∷ []) ++ together ws) (together-units front) ∙ append_assoc front (Begin ∷ []) (together ws);
+        matched = IsMatched-together ws good;
+      }
+    ]
+
+pub Inside-Abandoned : (front : List Entry) (r now : Record) (old new : Line) (a : Bool) → Inside front r → level front < level now.recorded → Abandoned r now old new a → Inside front now
+Inside-Abandoned front r now old new a k up d = elim (abandoned-as r now old new a d) [
+  | inl same ↦ subst (Inside front) (sym same.0) k
+  | inr (mid, b, u, is) ↦
+      let left : now.recorded ≡ kept_of (open_size (front ++ Begin ∷ k.inner)) (front ++ Begin ∷ k.inner) =
+      ap (λ (m : Record). m.recorded) is ∙ ap (λ (m : Record). m.recorded) u.record_is ∙ ap (λ es. kept_of (open_size es) es) k.is in
+      subst (InsideOf front) (sym left) (kept_inside front k.inner k.matched (subst (λ es. level front < level es) left up))
+]
