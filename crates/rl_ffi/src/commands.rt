@@ -291,6 +291,14 @@ pub extern "C" fn lodvarn_reopen_group(alloc: Global, s: &mut Handle) -> i32
     of!(s, alloc, Held::Session(session) => ask(session, &Command::Reopen))
 }
 
+/// `lodvarn_abandon_group`.
+#[unsafe(no_mangle)]
+pub extern "C" fn lodvarn_abandon_group(alloc: Global, s: &mut Handle) -> i32
+    ensures { Through a_session (asks Command.Abandon) s.old.value result s.new.value }
+{
+    of!(s, alloc, Held::Session(session) => ask(session, &Command::Abandon))
+}
+
 /// `lodvarn_end_all_groups`.
 #[unsafe(no_mangle)]
 pub extern "C" fn lodvarn_end_all_groups(alloc: Global, s: &mut Handle) -> i32

@@ -1,7 +1,7 @@
 -- Rows of a session: what they make of its history, and what undos and redos among them do.
 use Rattle.rl_session.specs.Commands.{allowed, gives_up}
 use Rattle.rl_session.proofs.Sessions.CommandLemmas.{done_allowed}
-use Rattle.rl_session.proofs.Common.{◌≡◌, ◌∙◌, inr, same_Some, replay_entries, true, Cursors, Entry, rules, ℕ, Bool, List, [], ◌∷◌, ◌++◌, length, min, arith, take, sym, ap, subst, append-nil, append_assoc, Line, listener_after, Record, record_step, unwind, Undone, Redone, Redos, begun, ended, ended_one, level, last_of, last_units, opens, redo_of, truncated, undone, Effect, by_steps, puts_begin, puts_ends, puts_end, shortens, takes_back, puts_again, Became, effect, Does, readied, with_changes, AllRedone, History, Holds, WasHeld, WasRefused, Row, Leads, Run, held, held_by, held_of, steps_in, texts_of_steps, State, with_ring, reset, Append, Command, Undo, Redo, Reply}
+use Rattle.rl_session.proofs.Common.{◌≡◌, ◌∙◌, inr, same_Some, replay_entries, true, Cursors, Entry, rules, ℕ, Bool, List, [], ◌∷◌, ◌++◌, length, min, arith, take, sym, ap, subst, append-nil, append_assoc, Line, listener_after, Record, record_step, unwind, Undone, Redone, Redos, begun, ended, ended_one, level, last_of, last_units, opens, redo_of, truncated, undone, Effect, by_steps, puts_begin, puts_ends, puts_end, shortens, takes_back, puts_again, Became, effect, Does, readied, with_changes, AllRedone, History, Holds, WasHeld, WasRefused, Row, Leads, Run, held, held_by, held_of, steps_in, texts_of_steps, State, with_ring, reset, Append, Command, Undo, Redo, Reply, inl}
 use Rattle.rl_line.specs.Plan.{Step as PlanStep}
 use Rattle.rl_line.proofs.Records.MarkLemmas.{agree-same}
 use Rattle.rl_line.proofs.Records.RecordLemmas.{replay-IsUtf8}
