@@ -27,6 +27,8 @@ pub mod GoingLemmas
 pub mod WayLemmas
 pub mod WalkLemmas
 pub mod AbandonLemmas
+pub mod KeepLemmas
+pub mod RoundLemmas
 pub mod ForgettingLemmas
 pub mod RedoLemmas
 pub mod Laws

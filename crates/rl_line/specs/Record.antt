@@ -284,6 +284,16 @@ abbrev pub inverse : Entry → Entry
 inverse (Changed kind swap) = Changed (opposite kind) (record { place = swap.place; old = swap.new; new = swap.old; cursors = swapped swap.cursors })
 inverse mark = mark
 
+-- the other mark of a group; a change stays
+abbrev pub flipped : Entry → Entry
+flipped Begin = End
+flipped End = Begin
+flipped (Changed kind swap) = Changed kind swap
+
+-- entries gone over the other way round: each change is taken back, the last first, and the marks of a group change places
+abbrev pub turned_all : List Entry → List Entry
+turned_all es = map (λ (e : Entry). flipped (inverse e)) (reverse es)
+
 -- the text that stood at a change's place before it, and the one that stood there after it
 abbrev pub old_text : Entry → List ℕ
 old_text (Changed kind swap) = swap.old

@@ -7,7 +7,7 @@ ghost use Rattle.rl_base.specs.Event.{InsertChar, Delete, Replace, apply};
 ghost use Rattle.rl_base.specs.declared.listeners.Direction.TheVariants.{Forward};
 ghost use Rattle.rl_base.specs.declared.listeners.Refusal.TheVariants.{NoMemory};
 ghost use Rattle.rl_line.specs.Plan.{NeverRefuses, listener_after};
-ghost use Rattle.rl_line.specs.Record.{bytes_back, cursors_of, entry_of, event_of, freshness_joined, freshness_told, inverse, is_parted, new_text, old_text, with_cursors};
+ghost use Rattle.rl_line.specs.Record.{bytes_back, cursors_of, entry_of, event_of, freshness_joined, freshness_told, inverse, is_parted, new_text, old_text, with_cursors, flipped, swapped};
 ghost use Rattle.rl_line.specs.Undo.{Reaches, count_over, cursor_after, cursor_told, cursor_stands, line_back, steps_ahead};
 ghost use Rattle.rl_line.specs.Units.{is_begin, is_change, is_end};
 ghost use Rattle.rl_line.specs.Change.{Outgrows, TakesIn, text_after, text_back, place, entry_to_undo, greatest_back_over, length_back, order, entries_to_undo};
@@ -142,6 +142,42 @@ impl Change {
             | Change::Insert(_, _, _)
             | Change::Delete(_, _, _)
             | Change::Replace(_, _, _) => false,
+        }
+    }
+
+    /// The change that takes this one back; a mark stays.
+    pub(crate) fn inverse(&self, alloc: Global) -> Result<Change, Refusal>
+        ensures ok { IfOk result (λ change. entry_of change ≡ inverse (entry_of self.now)) }
+        ensures err { IfErr result (λ r. r ≡ NoMemory) }
+    {
+        match self {
+            Change::Begin => Ok(Change::Begin),
+            Change::End => Ok(Change::End),
+            Change::Insert(cursors, at, new) => {
+                let old = Gathered::of(alloc, new.as_str())?;
+                Ok(Change::Delete(swapped(*cursors), *at, old))
+            }
+            Change::Delete(cursors, at, old) => {
+                let new = Inserted::of_str(alloc, old.as_str())?;
+                Ok(Change::Insert(swapped(*cursors), *at, new))
+            }
+            Change::Replace(cursors, at, texts) => {
+                let before = copied(alloc, texts.after.as_str())?;
+                let after = copied(alloc, texts.before.as_str())?;
+                let texts = Box::new(alloc, Texts { before, after })?;
+                Ok(Change::Replace(swapped(*cursors), *at, texts))
+            }
+        }
+    }
+
+    /// The other mark of a group; a change stays.
+    pub(crate) fn flipped(self) -> Change
+        ensures { entry_of result ≡ flipped (entry_of self) }
+    {
+        match self {
+            Change::Begin => Change::End,
+            Change::End => Change::Begin,
+            change => change,
         }
     }
 
@@ -454,6 +490,14 @@ pub(crate) fn text_over(
         Some(over) => Ok(Some(over.whole(alloc)?)),
         None => Ok(None),
     }
+}
+
+// The same places the other way round.
+fn swapped(cursors: Cursors) -> Cursors
+    ensures { result ≡ swapped cursors }
+{
+    let (before, after) = cursors?;
+    Some((after, before))
 }
 
 /// A copy of a text.

@@ -11,7 +11,7 @@ ghost use Rattle.rl_line.specs.Change.{entries_to_undo, greatest_ahead_over, gre
 ghost use Rattle.rl_line.specs.Plan.{NeverRefuses};
 ghost use Rattle.rl_line.specs.Record.{IsOfKind, Record, entry_of, is_saved, last_insert, no_changes, parted, record_step, replays_to, saved_here};
 ghost use Rattle.rl_line.specs.Undo.{Abandoned, CopiesBack, GoesOver, LineOutOfRoom, OutOfRoom, Redone, StandsStill, TriesAhead, TriesBack, Undone, line_ahead, line_back, line_over, listener_ahead, listener_back, listener_over, texts_ahead, texts_back, texts_over, unit_of};
-ghost use Rattle.rl_line.specs.Units.{BothMatched, IsMatched, adds_end, begun, ended, ended_one, ends_in_end, has_change, is_change, last_of, level, open_group, redo_of, reopened, truncated, with_closed};
+ghost use Rattle.rl_line.specs.Units.{BothMatched, IsMatched, adds_end, begun, ended, ended_one, ends_in_end, has_change, is_change, last_of, level, open_group, redo_of, reopened, truncated, with_closed, kept_undone, waits};
 
 mod foretelling;
 
@@ -142,6 +142,21 @@ impl Changeset {
         let len = self.entries.len();
         self.truncate(len - 1);
         true
+    }
+
+    /// Keeps what was undone, so that undos lead where redos led: what waits to be redone is recorded again as it was, an open
+    /// group in it is closed, and then the inverse of each of its units, the last first. So the text stays, and an undo of n
+    /// units leads where n redos led before. Answers whether anything waited; else it changes nothing, and so does `NoMemory`.
+    pub fn keep_undone(&mut self) -> Result<bool, Refusal>
+        ensures done { IfOk result (λ answer. (answer ≡ waits self.old.pending) × (self.new ≡ kept_undone self.old)) }
+        ensures err { IfErr result (λ r. (r ≡ NoMemory) × (self.new ≡ self.old) × (waits self.old.pending ≡ true)) }
+    {
+        if self.pending().is_empty() {
+            return Ok(false);
+        }
+        let open = units::level(self.pending());
+        self.entries.keep_undone(open)?;
+        Ok(true)
     }
 
     // Closes so many groups, the one that was opened last first. Answers whether one of them holds something.

@@ -1,6 +1,6 @@
 //! The entries of a record: what an event makes of them, how its groups are closed, and whether a line can go over them. A
 //! function that records drops what was undone; refused, it leaves every entry.
-ghost use Rattle.std.specs.Prelude.{◌≡◌, ◌+◌, ◌^◌, ◌≤◌, ◌<◌, [], ◌++◌, All, encode_utf8, is_some, length, map, take, drop, true, false, None, IfOk, IfErr, OnOk, OnErr};
+ghost use Rattle.std.specs.Prelude.{◌≡◌, ◌+◌, ◌^◌, ◌≤◌, ◌<◌, [], ◌++◌, All, encode_utf8, is_some, length, map, take, drop, true, false, None, IfOk, IfErr, OnOk, OnErr, reverse};
 ghost use Rattle.std.specs.Option.{option_map};
 ghost use Rattle.std.specs.String.{string_bytes};
 ghost use Rattle.std.specs.Vec.{vec_len, vec_capacity};
@@ -9,9 +9,9 @@ ghost use Rattle.rl_base.specs.Text.{HasText};
 ghost use Rattle.rl_base.specs.declared.listeners.Direction.TheVariants.{Forward};
 ghost use Rattle.rl_base.specs.declared.listeners.Refusal.TheVariants.{NoMemory};
 ghost use Rattle.rl_line.specs.declared.change.Freshness.TheVariants.{Added, Stale};
-ghost use Rattle.rl_line.specs.Record.{Changed, Insertion, IsOfKind, untold, entry_of, freshness_at, freshness_told, is_at, is_saved, kept_point, last_insert, no_changes, parted, point_past, record_step, saved_here};
+ghost use Rattle.rl_line.specs.Record.{Changed, Insertion, IsOfKind, untold, entry_of, freshness_at, freshness_told, is_at, is_saved, kept_point, last_insert, no_changes, parted, point_past, record_step, saved_here, arrived, flipped, inverse};
 ghost use Rattle.rl_line.specs.Undo.{Tries, line_over};
-ghost use Rattle.rl_line.specs.Units.{adds_end, end_one, end_times, ends_in_begin, ends_in_end, has_change, point_closed, truncated, with_closed};
+ghost use Rattle.rl_line.specs.Units.{adds_end, end_one, end_times, ends_in_begin, ends_in_end, has_change, point_closed, truncated, with_closed, IsMatched, level, there_and_back};
 ghost use Rattle.rl_line.specs.Entries.{Joins, added, cut_at, settled};
 
 use crate::change::{Change, Freshness, Texts, Way, copied, patch_over, seldom};
@@ -321,6 +321,23 @@ impl Entries {
         Ok(adds)
     }
 
+    /// Keeps what was undone, in which that many groups are open: it is recorded with these closed, and then the other way round.
+    #[tactic(auto, using(crate::proofs::Records::KeepLemmas::keeps))]
+    pub(crate) fn keep_undone(&mut self, groups: usize) -> Result<(), Refusal>
+        requires matched { IsMatched self.old.pending }
+        requires level { groups ≡ level self.old.pending }
+        ensures done { OnOk result (self.new ≡ arrived (self.old.recorded ++ there_and_back self.old.pending) [] (point_closed groups (self.old.recorded ++ self.old.pending) self.old.saved)) }
+        ensures err { IfErr result (λ r. (r ≡ NoMemory) × (self.new ≡ self.old)) }
+    {
+        let back = inverses(self.allocator(), self.pending(), groups)?;
+        self.list.reserve(groups + back.len())?;
+        close_groups(&mut self.list, &mut self.saved, groups);
+        push_turned(&mut self.list, back);
+        self.recorded = self.list.len();
+        self.fresh = freshness_at(self.recorded, self.saved);
+        Ok(())
+    }
+
     /// Makes the first `recorded` entries those that are recorded. The others wait to be redone.
     #[inline(always)]
     pub(crate) fn cut(&mut self, recorded: usize)
@@ -454,10 +471,42 @@ fn close_groups(entries: &mut Vec<Change>, saved: &mut Option<usize>, count: usi
     ensures entries { map entry_of entries.new.items ≡ end_times count (map entry_of entries.old.items) }
     ensures saved { saved.new ≡ point_closed count (map entry_of entries.old.items) saved.old }
     ensures within { kept_point (length entries.new.items) saved.new ≡ saved.new }
+    ensures len { vec_len entries.new ≤ vec_len entries.old + count }
+    ensures capacity { vec_capacity entries.old ≤ vec_capacity entries.new }
 {
     for _ in 0..count {
         close_last(entries);
         *saved = kept_point(*saved, entries.len());
+    }
+}
+
+// What takes the entries back, each in its place, once so many open groups are closed.
+#[tactic(auto, using(crate::proofs::Records::KeepLemmas::keeps))]
+fn inverses(alloc: Global, entries: &[Change], count: usize) -> Result<Vec<Change>, Refusal>
+    ensures ok { IfOk result (λ made. map entry_of made.items ≡ map inverse (end_times count (map entry_of entries.now))) }
+    ensures err { IfErr result (λ r. r ≡ NoMemory) }
+{
+    let mut made = Vec::new(alloc);
+    for entry in entries {
+        made.push(entry.inverse(alloc)?)?;
+    }
+    find_ends(&mut made, true, count)?;
+    close_groups(&mut made, &mut None, count);
+    Ok(made)
+}
+
+// Adds entries in a list that has room for them, the last first, and each mark as the other one.
+#[tactic(auto, using(crate::proofs::Records::KeepLemmas::keeps))]
+fn push_turned(entries: &mut Vec<Change>, back: Vec<Change>)
+    requires { vec_len entries.old + vec_len back ≤ vec_capacity entries.old }
+    ensures items { map entry_of entries.new.items ≡ map entry_of entries.old.items ++ map flipped (reverse (map entry_of back.items)) }
+{
+    let mut back = back;
+    while let Some(change) = back.pop() {
+        match entries.push(change.flipped()) {
+            Ok(()) => {}
+            Err(_) => unreachable!(),
+        }
     }
 }
 

@@ -1,5 +1,5 @@
 -- Units: they make up the list, each by itself is one unit, and lists with matched marks cut apart.
-use Rattle.rl_line.proofs.Common.{common_steps, drop_at, ◌≡◌, ℕ, ◌+◌, ◌≤◌, suc, add-zero, length-append, reverse, Bool, true, false, cond, List, [], ◌∷◌, ◌++◌, length, take, drop, Option, Some, None, refl, sym, ap, subst, ◌∙◌, arith, append_assoc, append-nil, or-true, take-append-drop, reverse-append, reverse-reverse, option_and_then, IsSome, ◌||◌, max, Entry, Begin, End, Changed, UndoUnit, Open, Whole, entries, close, add_entry, cut_more, units, together, opens, last_of, kept_of, redo_from, redo_of, is_change, touched, mark, marks, IsMatched}
+use Rattle.rl_line.proofs.Common.{common_steps, drop_at, ◌≡◌, ℕ, ◌+◌, ◌≤◌, suc, add-zero, length-append, reverse, Bool, true, false, cond, List, [], ◌∷◌, ◌++◌, length, take, drop, Option, Some, None, refl, sym, ap, subst, ◌∙◌, arith, append_assoc, append-nil, or-true, take-append-drop, reverse-append, reverse-reverse, option_and_then, IsSome, ◌||◌, max, Entry, Begin, End, Changed, UndoUnit, Open, Whole, entries, close, add_entry, cut_more, units, together, opens, last_of, kept_of, redo_from, redo_of, is_change, touched, mark, marks, IsMatched, flipped, inverse, map, map-append, turned_all}
 use Rattle.rl_line.proofs.Records.Counts.{back_len, ahead_len, size_back}
 use Rattle.rl_line.proofs.Records.RecordLemmas.{value_of, IsSome-through, then_both}
 
@@ -56,6 +56,13 @@ marks-append (x ∷ xs) ys flags = then_both (marks (xs ++ ys)) (marks xs) (mark
 pub IsMatched-front : (xs ys : List Entry) → IsMatched (xs ++ ys) → IsMatched xs
 IsMatched-front xs ys h = IsSome-through (marks ys) (marks xs []) (subst IsSome (marks-append xs ys []) h)
 
+-- lists gone over the other way round
+pub turned-append : (xs ys : List Entry) → turned_all (xs ++ ys) ≡ turned_all ys ++ turned_all xs
+turned-append xs ys = ap (map (λ (e : Entry). flipped (inverse e))) (reverse-append xs ys) ∙ map-append (λ (e : Entry). flipped (inverse e)) (reverse ys) (reverse xs)
+
+turned-group : (inner : List Entry) → turned_all (Begin ∷ (inner ++ (End ∷ []))) ≡ Begin ∷ (turned_all inner ++ (End ∷ []))
+turned-group inner = turned-append (Begin ∷ []) (inner ++ (End ∷ [])) ∙ ap (λ x. x ++ (End ∷ [])) (turned-append inner (End ∷ []))
+
 -- entries that are one unit wherever they stand, and hold a change; a count from the end or from the front passes them
 pub record Settles (es : List Entry) : Type 0 where
   pub flags : (fs : List Bool) → marks es fs ≡ Some (touched fs)
@@ -64,6 +71,8 @@ pub record Settles (es : List Entry) : Type 0 where
   pub back_within : (k d : ℕ) (rs : List Entry) → back_len (suc d) k (reverse es ++ rs) ≡ length es + back_len (suc d) k rs
   pub size : (rs : List Entry) → size_back 0 (reverse es ++ rs) ≡ suc (size_back 0 rs)
   pub size_within : (d : ℕ) (rs : List Entry) → size_back (suc d) (reverse es ++ rs) ≡ size_back (suc d) rs
+  pub flags_turned : (fs : List Bool) → marks (turned_all es) fs ≡ Some (touched fs)
+  pub cuts_turned : (us : List UndoUnit) → cut_more us (turned_all es) ≡ Whole (turned_all es) ∷ us
   pub ahead : (rs : List Entry) → ahead_len 0 (es ++ rs) ≡ length es
   pub ahead_within : (d : ℕ) (rs : List Entry) → ahead_len (suc d) (es ++ rs) ≡ length es + ahead_len (suc d) rs
 
@@ -85,6 +94,8 @@ flags_on (Whole es ∷ us) fs = touched (flags_on us fs)
 pub record Gathers (b : Bool) (inner : List Entry) : Type 0 where
   pub flags : (fs : List Bool) → marks inner fs ≡ Some (cond b (touched fs) fs)
   pub gathers : (acc : List Entry) (us : List UndoUnit) → close acc (cut_more us inner) ≡ close (inner ++ acc) us
+  pub flags_turned : (fs : List Bool) → marks (turned_all inner) fs ≡ Some (cond b (touched fs) fs)
+  pub gathers_turned : (acc : List Entry) (us : List UndoUnit) → close acc (cut_more us (turned_all inner)) ≡ close (turned_all inner ++ acc) us
   pub back_within : (k d : ℕ) (rs : List Entry) → back_len (suc d) k (reverse inner ++ rs) ≡ length inner + back_len (suc d) k rs
   pub size_within : (d : ℕ) (rs : List Entry) → size_back (suc d) (reverse inner ++ rs) ≡ size_back (suc d) rs
   pub ahead_within : (d : ℕ) (rs : List Entry) → ahead_len (suc d) (inner ++ rs) ≡ length inner + ahead_len (suc d) rs
@@ -96,6 +107,11 @@ touched_twice : (b : Bool) (fs : List Bool) → cond b (touched (touched fs)) (t
 touched_twice true [] = refl
 touched_twice true (f ∷ fs) = refl
 touched_twice false fs = refl
+
+touched_once : (b : Bool) (fs : List Bool) → touched (cond b (touched fs) fs) ≡ touched fs
+touched_once true [] = refl
+touched_once true (f ∷ fs) = refl
+touched_once false fs = refl
 
 swap_sum : (a b c : ℕ) → a + (b + c) ≡ (b + a) + c
 swap_sum a b c = omega arith
@@ -112,6 +128,10 @@ Gathers-more b es inner s g = record {
   back_within = λ k d rs. ap (λ x. back_len (suc d) k (x ++ rs)) (reverse-append es inner) ∙ ap (back_len (suc d) k) (append_assoc (reverse inner) (reverse es) rs)
       ∙ g.back_within k d (reverse es ++ rs) ∙ ap (λ n. length inner + n) (s.back_within k d rs) ∙ swap_sum (length inner) (length es) (back_len (suc d) k rs)
       ∙ ap (λ n. n + back_len (suc d) k rs) (sym (length-append es inner));
+  flags_turned = λ fs. ap (λ x. marks x fs) (turned-append es inner) ∙ marks-append (turned_all inner) (turned_all es) fs
+      ∙ ap (option_and_then (marks (turned_all es))) (g.flags_turned fs) ∙ s.flags_turned (cond b (touched fs) fs) ∙ ap Some (touched_once b fs);
+  gathers_turned = λ acc us. ap (λ x. close acc (cut_more us x)) (turned-append es inner) ∙ ap (close acc) (cut_more-append us (turned_all inner) (turned_all es) ∙ s.cuts_turned (cut_more us (turned_all inner)))
+      ∙ g.gathers_turned (turned_all es ++ acc) us ∙ ap (λ x. close x us) (sym (append_assoc (turned_all inner) (turned_all es) acc) ∙ ap (λ x. x ++ acc) (sym (turned-append es inner)));
   size_within = λ d rs. ap (λ x. size_back (suc d) (x ++ rs)) (reverse-append es inner) ∙ ap (size_back (suc d)) (append_assoc (reverse inner) (reverse es) rs)
       ∙ g.size_within d (reverse es ++ rs) ∙ s.size_within d rs;
   ahead_within = λ d rs. ap (ahead_len (suc d)) (append_assoc es inner rs) ∙ s.ahead_within d (inner ++ rs) ∙ ap (λ n. length es + n) (g.ahead_within d rs)
@@ -133,6 +153,9 @@ Settles-group inner g = record {
   back = λ k rs. ap (back_len 0 (suc k)) (group_back inner rs) ∙ group_len inner (back_len 1 k (reverse inner ++ (Begin ∷ rs))) (back_len 0 k rs) (g.back_within k 0 (Begin ∷ rs));
   back_within = λ k d rs. ap (back_len (suc d) k) (group_back inner rs)
       ∙ group_len inner (back_len (suc (suc d)) k (reverse inner ++ (Begin ∷ rs))) (back_len (suc d) k rs) (g.back_within k (suc d) (Begin ∷ rs));
+  flags_turned = λ fs. ap (λ x. marks x fs) (turned-group inner) ∙ marks-append (turned_all inner) (End ∷ []) (false ∷ fs) ∙ ap (option_and_then (marks (End ∷ []))) (g.flags_turned (false ∷ fs));
+  cuts_turned = λ us. ap (cut_more us) (turned-group inner) ∙ cut_more-append (Open ∷ us) (turned_all inner) (End ∷ []) ∙ g.gathers_turned [] (Open ∷ us)
+      ∙ ap (λ x. Whole (Begin ∷ (x ++ (End ∷ []))) ∷ us) (append-nil (turned_all inner)) ∙ ap (λ x. Whole x ∷ us) (sym (turned-group inner));
   size = λ rs. ap (size_back 0) (group_back inner rs) ∙ ap suc (g.size_within 0 (Begin ∷ rs));
   size_within = λ d rs. ap (size_back (suc d)) (group_back inner rs) ∙ g.size_within (suc d) (Begin ∷ rs);
   ahead = λ rs. ap (λ x. suc (ahead_len 1 x)) (append_assoc inner (End ∷ []) rs) ∙ group_len inner (ahead_len 1 (inner ++ End ∷ rs)) 0 (g.ahead_within 0 (End ∷ rs))
@@ -174,6 +197,8 @@ add_good (Changed k c) us t good h = (
       cuts = λ us. refl;
       back = λ k rs. one_more (back_len 0 k rs);
       back_within = λ k d rs. one_more (back_len (suc d) k rs);
+      flags_turned = λ fs. refl;
+      cuts_turned = λ us. refl;
       size = λ rs. refl;
       size_within = λ d rs. refl;
       ahead = λ rs. refl;

@@ -206,7 +206,7 @@ Walks-begun r text w = record {
   stale = refl;
 }
 
-Walk-end_one : (es : List Entry) (x y : List ℕ) → Walk es x y → Walk (end_one es) x y
+pub Walk-end_one : (es : List Entry) (x y : List ℕ) → Walk es x y → Walk (end_one es) x y
 unfolding apply
 Walk-end_one [] x y e = (x, (mark-leads x).1, e)
 Walk-end_one (Begin ∷ []) x y w = same_Some _ _ w.1.makes ∙ w.2

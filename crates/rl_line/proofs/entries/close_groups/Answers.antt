@@ -18,5 +18,7 @@ loop-preserved c =
           omega (arith, c.loop.invariant.room more, closed.len, closed.capacity, c.loop-test.true);
       saved = point-next c.args.count c.loop.counter c.len.result (map entry_of c.loop.entries.items) _ c.loop.saved _ _ c.loop-test.true closed.entries
           (long ∙ sym (length-map c.close_last.new.entries.items entry_of)) c.kept_point.ensures c.loop.invariant.saved;
+      len = omega (arith, c.loop.invariant.len, closed.len);
+      capacity = omega (arith, c.loop.invariant.capacity, closed.capacity);
       within = kept-here (length c.close_last.new.entries.items) c.len.result c.loop.saved _ long c.kept_point.ensures;
     }

@@ -7,4 +7,6 @@ invariant-loop l = record {
   room : adds_end (l.count - l.counter) (map entry_of l.entries.items) ≡ true → vec_len l.entries + (l.count - l.counter) ≤ vec_capacity l.entries;
   saved : point_closed (l.count - l.counter) (map entry_of l.entries.items) l.saved ≡ point_closed l.count (map entry_of l.fn.entries.items) l.fn.saved;
   within : kept_point (length l.entries.items) l.saved ≡ l.saved;
+  len : vec_len l.entries ≤ vec_len l.fn.entries + l.counter;
+  capacity : vec_capacity l.fn.entries ≤ vec_capacity l.entries;
 }
