@@ -162,6 +162,10 @@ redone r = arrived (r.recorded ++ redo_of r.pending) (drop (length (redo_of r.pe
 abbrev pub truncated : ℕ → Record → Record
 truncated len r = arrived (take len r.recorded) [] (kept_point (length (take len r.recorded)) r.saved)
 
+-- the entries of the next n units, at least one, or all if there are fewer: the first first
+abbrev pub next_of : ℕ → List Entry → List Entry
+next_of n es = together (reverse (take (max n 1) (reverse (units es))))
+
 -- whether entries wait to be redone
 abbrev pub waits : List Entry → Bool
 waits [] = false

@@ -149,6 +149,7 @@ impl Changeset {
     /// units leads where n redos led before. Answers whether anything waited; else it changes nothing, and so does `NoMemory`.
     pub fn keep_undone(&mut self) -> Result<bool, Refusal>
         ensures done { IfOk result (λ answer. (answer ≡ waits self.old.pending) × (self.new ≡ kept_undone self.old)) }
+        ensures matched { IsMatched self.old.pending }
         ensures err { IfErr result (λ r. (r ≡ NoMemory) × (self.new ≡ self.old) × (waits self.old.pending ≡ true)) }
     {
         if self.pending().is_empty() {

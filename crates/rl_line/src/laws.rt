@@ -1,7 +1,7 @@
 //! The laws of the record: what undo, redo, groups and forgetting come to, over any entries.
 #![tactic(auto, using(crate::proofs::Records::Laws::laws))]
 
-ghost use Rattle.std.specs.Prelude.{◌≡◌, ◌≤◌, ◌↔◌, ℕ, List, Bool, [], ◌∷◌, ◌++◌, ◌-◌, min, suc, true, false, drop, length, IsSome, Some};
+ghost use Rattle.std.specs.Prelude.{◌≡◌, ◌≤◌, ◌↔◌, ℕ, List, Bool, [], ◌∷◌, ◌++◌, ◌-◌, min, suc, true, false, drop, length, IsSome, Some, ◌<◌};
 ghost use Rattle.std.specs.Str.{IsCharBoundary, IsUtf8};
 ghost use Rattle.rl_base.specs.Event.{Event};
 ghost use Rattle.rl_line.specs.Forgetting.{fits, forgotten, gone_within, kept_within};
@@ -10,7 +10,7 @@ ghost use Rattle.rl_line.specs.Plan.{after};
 ghost use Rattle.rl_line.specs.Record.{Begin, Entry, End, IsRecorded, Record, SavedAt, StaysSaved, arrived, entries_of, is_saved, parted, point_kept, record_step, saved_here, replay_entries, unwind};
 ghost use Rattle.rl_line.specs.declared.change.Freshness.TheVariants.{Parted};
 ghost use Rattle.rl_line.specs.Undo.{Redone, Redos, StandAfter, StandBefore, Undone, line_ahead, line_back, steps_ahead, steps_back};
-ghost use Rattle.rl_line.specs.Units.{BothMatched, GroupAt, InGroup, IsMatched, abandoned, adds_end, after_in_group, begun, ended, ended_one, group_of, has_change, in_group, kept_of, last_of, last_units, level, open_group, opens, redo_of, redone, reopened, truncated, undone, with_closed};
+ghost use Rattle.rl_line.specs.Units.{BothMatched, GroupAt, InGroup, IsMatched, abandoned, adds_end, after_in_group, begun, ended, ended_one, group_of, has_change, in_group, kept_of, last_of, last_units, level, open_group, opens, redo_of, redone, reopened, truncated, undone, with_closed, closed_all, kept_undone, next_of, there_and_back, units, waits};
 
 /// Where entries lead from one text to another, unwinding them leads back from that to the first, and conversely.
 pub fn unwinding_is_replaying()
@@ -95,6 +95,16 @@ pub fn abandoned_group_was_never_begun()
         × ((abandoned (in_group events r)).recorded ≡ r.recorded) × ((abandoned (in_group events r)).pending ≡ []) }
 {}
 
+/// What was undone and is kept can be had by undos: of a record that keeps it, an undo of n units leads where the next n units
+/// led that waited to be redone, with their groups closed, and as many undos as there were units there and back come to what was
+/// recorded before.
+pub fn undos_lead_where_redos_led()
+    ensures lead { (n : ℕ) (r : Record) (text : List ℕ) → IsMatched r.pending → waits r.pending ≡ true → 0 < n → n ≤ length (units (closed_all r.pending))
+        → unwind (last_of n (kept_undone r).recorded) text ≡ replay_entries (next_of n (closed_all r.pending)) text }
+    ensures pass { (r : Record) → IsMatched r.pending → waits r.pending ≡ true → 0 < length (units (there_and_back r.pending))
+        → kept_of (length (units (there_and_back r.pending))) (kept_undone r).recorded ≡ r.recorded }
+{}
+
 /// A save point stays as long as the entries that were recorded at the save begin the record, recorded and undone ones
 /// together: no call changes them and leaves the point, and one that drops one of them, or forgets the one before the first,
 /// takes the point away. So if the record says that it is saved, those entries are recorded, no more and no fewer.
@@ -110,6 +120,7 @@ pub fn save_point_stays()
     ensures undone { (es : List Entry) (r : Record) (n : ℕ) → StaysSaved es r → StaysSaved es (undone n r) }
     ensures abandoned { (es : List Entry) (r : Record) → StaysSaved es r → StaysSaved es (abandoned r) }
     ensures redone { (es : List Entry) (r : Record) → StaysSaved es r → StaysSaved es (redone r) }
+    ensures kept { (es : List Entry) (r : Record) → IsMatched r.pending → StaysSaved es r → StaysSaved es (kept_undone r) }
     ensures truncated { (es : List Entry) (r : Record) (len : ℕ) → StaysSaved es r → StaysSaved es (truncated len r) }
     ensures forgotten { (most bytes : ℕ) (es : List Entry) (r : Record) → StaysSaved es r
         → StaysSaved (drop (length r.recorded - length (kept_within most bytes r.recorded)) es) (forgotten most bytes r) }

@@ -1,9 +1,9 @@
 -- The record after a begin, an end, a redo and a truncation leads back to the same text.
-use Rattle.rl_line.proofs.Common.{◌≡◌, ℕ, Bool, true, List, [], ◌∷◌, take, length, ◌-◌, Option, Some, None, refl, sym, ap, ◌∙◌, same_text, option_and_then, IsUtf8, Line, Entry, Begin, End, Record, cond_both, ends_in_end, reopened, event_of, inverse, agree, replays_to, unwind, Redone, begun, end_one, redo_of, truncated, with_closed}
+use Rattle.rl_line.proofs.Common.{◌≡◌, ℕ, Bool, true, List, [], ◌∷◌, take, length, ◌-◌, Option, Some, None, refl, sym, ap, ◌∙◌, same_text, option_and_then, IsUtf8, Line, Entry, Begin, End, Record, cond_both, ends_in_end, reopened, event_of, inverse, agree, replays_to, unwind, Redone, begun, end_one, redo_of, truncated, with_closed, inl, inr, ◌++◌, replay_entries}
 use Rattle.rl_base.specs.Event.{apply}
-use Rattle.rl_line.proofs.Records.LastLemmas.{end-last, end_times-keeps}
+use Rattle.rl_line.proofs.Records.LastLemmas.{end-last, end_times-keeps, end_one-cases}
 use Rattle.rl_line.proofs.Records.OriginLemmas.{Kept}
-use Rattle.rl_line.proofs.Records.RecordLemmas.{replay-IsUtf8, unwind-append, unwind-replay}
+use Rattle.rl_line.proofs.Records.RecordLemmas.{replay-IsUtf8, unwind-append, unwind-replay, replay-append, then_some}
 use Rattle.rl_line.proofs.Records.UndoLemmas.{line_ahead-replay}
 
 -- a mark changes nothing
@@ -17,6 +17,22 @@ unwind-end_one [] text = refl
 unwind-end_one (Begin ∷ []) text = refl
 unwind-end_one (e ∷ []) text = refl
 unwind-end_one (e ∷ (d ∷ ds)) text = ap (option_and_then (apply (event_of (inverse e)))) (unwind-end_one (d ∷ ds) text)
+
+-- nor where entries lead
+pub replay-begin : (es : List Entry) (start : List ℕ) → replay_entries (es ++ (Begin ∷ [])) start ≡ replay_entries es start
+unfolding apply
+replay-begin es start = replay-append es (Begin ∷ []) start ∙ then_some (replay_entries es start)
+
+pub replay-end : (es : List Entry) (start : List ℕ) → replay_entries (es ++ (End ∷ [])) start ≡ replay_entries es start
+unfolding apply
+replay-end es start = replay-append es (End ∷ []) start ∙ then_some (replay_entries es start)
+
+pub replay-end_one : (es : List Entry) (start : List ℕ) → replay_entries (end_one es) start ≡ replay_entries es start
+replay-end_one es start =
+    elim (end_one-cases es) [
+      | inl c ↦ ap (λ x. replay_entries x start) c.after_is ∙ sym (replay-begin c.front start) ∙ ap (λ x. replay_entries x start) (sym c.list_is)
+      | inr c ↦ ap (λ x. replay_entries x start) c.after_is ∙ replay-end es start
+    ]
 
 pub agree-same : (o p : Option (List ℕ)) → agree o p ≡ true → o ≡ p
 agree-same (Some a) (Some b) h = ap (λ t. Some t) (same_text a b (sym h))

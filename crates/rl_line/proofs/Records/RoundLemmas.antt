@@ -1,14 +1,18 @@
 -- Going over what was undone there and back: it ends where it began, and undos lead where redos led.
-use Rattle.rl_line.proofs.Common.{◌≡◌, ◌≤◌, ℕ, ◌+◌, suc, max, arith, Bool, true, false, List, [], ◌∷◌, ◌++◌, length, take, drop, map, reverse, Option, Some, refl, sym, ap, subst, ◌∙◌, cond_both, append-nil, append_assoc, reverse-append, reverse-reverse, take-append-le, length-reverse, option_and_then, IsSome, IsUtf8, Line, Entry, Begin, End, Changed, Record, UndoUnit, Open, Whole, AtLevel, BothMatched, IsMatched, StaysSaved, Walk, Walks, LeadsTo, arrived, closed_all, cursor_stands, cut_more, end_one, end_times, entries, event_of, flipped, inverse, kept_of, kept_undone, last_of, level, marks, opens, point_closed, replay_entries, there_and_back, together, touched, turned_all, units, unwind, waits}
+use Rattle.rl_line.proofs.Common.{◌≡◌, ◌≤◌, ℕ, ◌+◌, suc, max, arith, Bool, true, false, List, [], ◌∷◌, ◌++◌, length, take, drop, map, reverse, Option, Some, refl, sym, ap, subst, ◌∙◌, cond_both, append-nil, append_assoc, reverse-append, reverse-reverse, take-append-le, length-reverse, option_and_then, IsSome, IsUtf8, Line, Entry, Begin, End, Changed, Record, UndoUnit, Open, Whole, AtLevel, BothMatched, IsMatched, StaysSaved, Walk, Walks, LeadsTo, arrived, closed_all, cursor_stands, cut_more, end_one, end_times, entries, event_of, flipped, inverse, kept_of, kept_undone, last_of, level, marks, opens, point_closed, replay_entries, there_and_back, together, touched, turned_all, units, unwind, waits, None, cond, drop_at, length-map, next_of, take-append-drop, take-map, ◌<◌}
 use Rattle.rl_base.specs.Event.{apply}
-use Rattle.rl_line.proofs.Records.LastLemmas.{end_times-keeps}
+use Rattle.rl_line.proofs.Records.LastLemmas.{end_times-keeps, map-reverse}
 use Rattle.rl_line.proofs.Records.LevelLemmas.{level-append}
 use Rattle.rl_line.proofs.Records.MatchLemmas.{Lower-end_times}
-use Rattle.rl_line.proofs.Records.RecordLemmas.{inverse-inverse, inverse-undoes, then_both, unwind-append}
-use Rattle.rl_line.proofs.Records.SavedLemmas.{told-at}
+use Rattle.rl_line.proofs.Records.RecordLemmas.{inverse-inverse, inverse-undoes, then_both, unwind-append, unwind-replay, value_of}
+use Rattle.rl_line.proofs.Records.SavedLemmas.{told-at, StaysIn, arrived-stays, closed-in, longer, stays-in}
 use Rattle.rl_line.proofs.Records.UnitLemmas.{AllGood, AllGood-append, AllGood-reverse, IsMatched-append, cut_more-append, marks-append, on, together-append, together-reverse, together-units, turned-append, units-append, units-good, opens-append, opens-reverse}
 use Rattle.rl_line.proofs.Records.WalkLemmas.{Walk-append, Walk-end_one, Walk-IsUtf8}
 use Rattle.rl_base.proofs.Texts.SwapLemmas.{apply-IsUtf8}
+use Rattle.rl_line.proofs.Records.MarkLemmas.{replay-end_one}
+use Rattle.rl_line.proofs.Records.OriginLemmas.{Kept}
+use Rattle.rl_line.proofs.Records.KeepLemmas.{ends_past}
+use Rattle.rl_line.proofs.Records.GroupLemmas.{Inside}
 
 -- ---- its marks match, and it leaves no group open
 marks_turned : (us : List UndoUnit) → AllGood us → opens us ≡ 0 → (fs : List Bool) → IsSome (marks (turned_all (together us)) fs)
@@ -126,3 +130,98 @@ Walks-round r text w =
 
 pub Walks-kept : (r : Record) (text : List ℕ) → Walks r text → Walks (kept_undone r) text
 Walks-kept r text w = kept-either (λ k. Walks k text) r w (Walks-round r text w)
+
+-- ---- where undos lead
+same_then : (f g : List ℕ → Option (List ℕ)) → ((t : List ℕ) → f t ≡ g t) → (o : Option (List ℕ)) → option_and_then f o ≡ option_and_then g o
+same_then f g h None = refl
+same_then f g h (Some t) = h t
+
+back_and_ahead : (e : Entry) (text : List ℕ) → apply (event_of (inverse (flipped (inverse e)))) text ≡ apply (event_of e) text
+unfolding apply
+back_and_ahead Begin text = refl
+back_and_ahead End text = refl
+back_and_ahead (Changed k s) text = ap (λ e. apply (event_of e) text) (inverse-inverse (Changed k s))
+
+-- taking entries back that were turned round is making them again
+pub unwind-turned : (es : List Entry) (text : List ℕ) → unwind (turned_all es) text ≡ replay_entries es text
+unwind-turned [] text = refl
+unwind-turned (e ∷ es) text =
+    ap (λ l. unwind l text) (turned-append (e ∷ []) es) ∙ unwind-append (turned_all es) (flipped (inverse e) ∷ []) text
+    ∙ ap (option_and_then (unwind (turned_all es))) (back_and_ahead e text)
+    ∙ same_then (unwind (turned_all es)) (replay_entries es) (unwind-turned es) (apply (event_of e) text)
+
+turned-together : (us : List UndoUnit) → opens us ≡ 0 → together (map unit_turned us) ≡ turned_all (on us)
+turned-together [] o = refl
+turned-together (Open ∷ us) o = absurd (omega (arith, o))
+turned-together (Whole es ∷ us) o = ap (λ l. l ++ turned_all es) (turned-together us o) ∙ sym (turned-append es (on us))
+
+opens-first : (n : ℕ) (us : List UndoUnit) → opens us ≡ 0 → opens (take n us) ≡ 0
+opens-first n us o = omega (arith, o, ap opens (take-append-drop n us), opens-append (take n us) (drop n us))
+
+-- the last units of a record that went there and back are the next ones the other way round
+last-round : (n : ℕ) (front es : List Entry) → IsMatched es → 0 < n → n ≤ length (units (closed_all es))
+    → last_of n (front ++ there_and_back es) ≡ turned_all (next_of n (closed_all es))
+last-round n front es m some few =
+    let c = Closed-all es m in
+    let us = units (closed_all es) in
+    let vs = reverse us in
+    let turned : units (front ++ there_and_back es) ≡ map unit_turned vs ++ (us ++ units front) =
+    units-append front (there_and_back es) (IsMatched-round es m) ∙ ap (λ l. l ++ units front) (round_units es m)
+    ∙ append_assoc (reverse (map unit_turned us)) us (units front) ∙ ap (λ l. l ++ (us ++ units front)) (sym (map-reverse unit_turned us)) in
+    let one : max n 1 ≡ n = omega (arith, some) in
+    let long : n ≤ length (map unit_turned vs) = omega (arith, few, length-map vs unit_turned, length-reverse us) in
+    let none : opens vs ≡ 0 = opens-reverse us ∙ c.closed in
+    ap (λ k. together (take k (units (front ++ there_and_back es)))) one ∙ ap (λ l. together (take n l)) turned
+    ∙ ap together (take-append-le n (map unit_turned vs) (us ++ units front) long) ∙ ap together (take-map unit_turned n vs)
+    ∙ turned-together (take n vs) (opens-first n vs none) ∙ ap turned_all (sym (together-reverse (take n vs)))
+    ∙ ap (λ k. turned_all (together (reverse (take k vs)))) (sym one)
+
+-- an undo of n units then leads where the next n units led
+pub undos-lead : (n : ℕ) (r : Record) (text : List ℕ) → IsMatched r.pending → waits r.pending ≡ true → 0 < n → n ≤ length (units (closed_all r.pending))
+    → unwind (last_of n (kept_undone r).recorded) text ≡ replay_entries (next_of n (closed_all r.pending)) text
+undos-lead n r text m some pos few =
+    ap (λ b. unwind (last_of n (cond b (round r) r).recorded) text) some ∙ ap (λ l. unwind l text) (last-round n r.recorded r.pending m pos few)
+    ∙ unwind-turned (next_of n (closed_all r.pending)) text
+
+-- and as many as it has units come to what was recorded before
+pub undos-pass : (r : Record) → IsMatched r.pending → waits r.pending ≡ true → 0 < length (units (there_and_back r.pending))
+    → kept_of (length (units (there_and_back r.pending))) (kept_undone r).recorded ≡ r.recorded
+undos-pass r m some pos =
+    let us = units (there_and_back r.pending) in
+    let one : max (length us) 1 ≡ length us = omega (arith, pos) in
+    ap (λ b. kept_of (length us) (cond b (round r) r).recorded) some
+    ∙ ap (λ k. together (drop k (units (r.recorded ++ there_and_back r.pending)))) one
+    ∙ ap (λ l. together (drop (length us) l)) (units-append r.recorded (there_and_back r.pending) (IsMatched-round r.pending m))
+    ∙ ap together (drop_at us (units r.recorded) (length us) refl) ∙ together-units r.recorded
+
+-- ---- what it keeps
+-- what waits fits the text
+replays-closed : (es : List Entry) (text end : List ℕ) → replay_entries es text ≡ Some end → replay_entries (closed_all es) text ≡ Some end
+replays-closed es text end h = end_times-keeps (λ l. replay_entries l text ≡ Some end) (λ l k. replay-end_one l text ∙ k) (level es) es h
+
+pub unwind-round : (r : Record) (text : List ℕ) → IsUtf8 text → IsSome (replay_entries r.pending text) → unwind (round r).recorded text ≡ unwind r.recorded text
+unwind-round r text u h =
+    let c = closed_all r.pending in
+    let (end, ahead) = value_of (replay_entries r.pending text) h in
+    let there = replays-closed r.pending text end ahead in
+    unwind-append r.recorded (there_and_back r.pending) text
+    ∙ ap (option_and_then (unwind r.recorded)) (unwind-append c (turned_all c) text ∙ ap (option_and_then (unwind c)) (unwind-turned c text ∙ there) ∙ unwind-replay c text end u there)
+
+pub Kept-kept : (r : Record) (line : Line) → IsUtf8 line.text → IsSome (replay_entries r.pending line.text) → Kept r (kept_undone r) line line
+Kept-kept r line u h = kept-either (λ k. Kept r k line line) r (record { origin_is = λ start e. e; utf8 = u }) (record { origin_is = λ start e. unwind-round r line.text u h ∙ e; utf8 = u })
+
+pub saved-kept : (es : List Entry) (r : Record) → IsMatched r.pending → StaysSaved es r → StaysSaved es (kept_undone r)
+saved-kept es r m s =
+    let c = closed_all r.pending in
+    let point = point_closed (level r.pending) (r.recorded ++ r.pending) r.saved in
+    let closed : StaysIn es (r.recorded ++ c) point =
+    subst (λ l. StaysIn es l point) (ends_past (level r.pending) r.recorded r.pending m refl) (closed-in es (level r.pending) (r.recorded ++ r.pending) r.saved (stays-in es r s)) in
+    let all : StaysIn es (r.recorded ++ there_and_back r.pending) point = subst (λ l. StaysIn es l point) (append_assoc r.recorded c (turned_all c)) (longer es (r.recorded ++ c) (turned_all c) point closed) in
+    kept-either (StaysSaved es) r s (arrived-stays es (r.recorded ++ there_and_back r.pending) [] point (longer es (r.recorded ++ there_and_back r.pending) [] point all))
+
+pub Inside-kept : (front : List Entry) (r : Record) → IsMatched r.pending → Inside front r → Inside front (kept_undone r)
+Inside-kept front r m k = kept-either (Inside front) r k (record {
+  inner = k.inner ++ there_and_back r.pending;
+  is = ap (λ l. l ++ there_and_back r.pending) k.is ∙ append_assoc front (Begin ∷ k.inner) (there_and_back r.pending);
+  matched = IsMatched-append k.inner (there_and_back r.pending) k.matched (IsMatched-round r.pending m);
+})

@@ -55,7 +55,7 @@ point-next count i len es next point now all lt e long is h =
 
 -- ---- a save point that stays
 -- a save point in a list has these entries before it, if it is there
-abbrev StaysIn : List Entry → List Entry → Option ℕ → Type 0
+abbrev pub StaysIn : List Entry → List Entry → Option ℕ → Type 0
 StaysIn es l point = (point ≡ None) ⊎ ((point ≡ Some (length es)) × (take (length es) l ≡ es))
 
 fits-in : (es l : List Entry) → take (length es) l ≡ es → length es ≤ length l
@@ -80,7 +80,7 @@ kept-in es l k None s = s
 kept-in es l k (Some n) s = cond_both (nat_le n k) (Some n) None (StaysIn es l) (λ _. s) (λ _. inl refl)
 
 -- in a record
-stays-in : (es : List Entry) (r : Record) → StaysSaved es r → StaysIn es (r.recorded ++ r.pending) r.saved
+pub stays-in : (es : List Entry) (r : Record) → StaysSaved es r → StaysIn es (r.recorded ++ r.pending) r.saved
 stays-in es r s = elim s [ inl none ↦ inl none | inr a ↦ inr (a.point, a.begins) ]
 
 -- in its recorded entries, once what was undone is dropped
@@ -119,7 +119,7 @@ saved-truncated es r len s =
 pub saved-reopened : (es : List Entry) (r : Record) → StaysSaved es r → StaysSaved es (reopened r)
 saved-reopened es r s = cond_both (ends_in_end r.recorded) _ _ (StaysSaved es) (λ _. saved-truncated es r (length r.recorded - 1) s) (λ _. s)
 
-closed-in : (es : List Entry) (n : ℕ) (l : List Entry) (point : Option ℕ) → StaysIn es l point → StaysIn es (end_times n l) (point_closed n l point)
+pub closed-in : (es : List Entry) (n : ℕ) (l : List Entry) (point : Option ℕ) → StaysIn es l point → StaysIn es (end_times n l) (point_closed n l point)
 closed-in es zero l point s = s
 closed-in es (suc n) l point s = closed-in es n (end_one l) (kept_point (length (end_one l)) point) (elim (end_one-cases l) [
   | inl c ↦ shorter es (end_one l) (Begin ∷ []) l point (c.list_is ∙ ap (λ f. f ++ Begin ∷ []) (sym c.after_is)) s

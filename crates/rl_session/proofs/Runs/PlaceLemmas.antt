@@ -5,7 +5,7 @@ use Rattle.rl_base.proofs.Texts.SwapLemmas.{apply-IsUtf8}
 use Rattle.rl_line.specs.Plan.{Step, after}
 use Rattle.rl_line.specs.Record.{record_step}
 use Rattle.rl_line.specs.Units.{ends_in_end, reopened, redo_dropped}
-use Rattle.rl_line.proofs.Records.MarkLemmas.{unwind-cut}
+use Rattle.rl_line.proofs.Records.MarkLemmas.{unwind-cut, replay-begin, replay-end, replay-end_one}
 use Rattle.rl_line.proofs.Records.JoinLemmas.{heard, step-cases}
 use Rattle.rl_line.proofs.Records.LastLemmas.{after-cases, end_one-cases, end_times-keeps, map-reverse}
 use Rattle.rl_line.proofs.Records.MatchLemmas.{IsMatched-after, BothMatched-begun, BothMatched-closed, BothMatched-undone, BothMatched-redone, BothMatched-truncated, Redoes-of, BothMatched-step}
@@ -75,22 +75,6 @@ Placed-mark : (start : List ℕ) (es : List Entry) (e : Entry) (held : List (Lis
 Placed-mark start es e held p h = grind (arith, common_steps, lands, reverse-append, with_last_first, back_again)
 
 -- ---- marks of groups
-replay-begin : (es : List Entry) (start : List ℕ) → replay_entries (es ++ (Begin ∷ [])) start ≡ replay_entries es start
-unfolding apply
-replay-begin es start = replay-append es (Begin ∷ []) start ∙ then_some (replay_entries es start)
-
-replay-end : (es : List Entry) (start : List ℕ) → replay_entries (es ++ (End ∷ [])) start ≡ replay_entries es start
-unfolding apply
-replay-end es start = replay-append es (End ∷ []) start ∙ then_some (replay_entries es start)
-
--- an end takes off a Begin, or adds an End; either keeps where the entries lead, and their place
-replay-end_one : (es : List Entry) (start : List ℕ) → replay_entries (end_one es) start ≡ replay_entries es start
-replay-end_one es start =
-    elim (end_one-cases es) [
-      | inl c ↦ ap (λ x. replay_entries x start) c.after_is ∙ sym (replay-begin c.front start) ∙ ap (λ x. replay_entries x start) (sym c.list_is)
-      | inr c ↦ ap (λ x. replay_entries x start) c.after_is ∙ replay-end es start
-    ]
-
 Placed-end_one : (es : List Entry) (start : List ℕ) (held : List (List ℕ)) → Placed start es held → Placed start (end_one es) held
 Placed-end_one es start held p =
     elim (end_one-cases es) [
