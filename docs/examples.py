@@ -11,7 +11,8 @@ Before each fenced block of code stands a comment that says what it is:
     <!-- run: python -->    a program in Python, with the folder clients/python to import from, whose module is built
     <!-- run: rust -->      a program in Rust, in a package that depends on clients/rust/lodvarn
     <!-- run: script -->    lines for the program at PATH (crates/rl_script/out/rl_script)
-    <!-- run: sh -->        commands for bash, run in a copy of the repository that has the library and the program
+    <!-- run: sh -->        commands for bash, run in a copy of the repository that has the library, the program and the
+                            module for Python
     <!-- prints -->         what the example before it must print, exactly. Instead, a line may stand right after the
                             example: It prints `..`. Only an example for bash may do without both
     <!-- shown -->          what is not run; a piece of code must stand whole in an example that is run

@@ -338,9 +338,9 @@ int lodvarn_restart(lodvarn *s, const char *text, size_t len);
  * oldest text as long as all have more than max_ring_bytes bytes together. If that was the current one, the newest is
  * current then, and a kill begins a new text. Where limit_holds is set, no command makes the text longer than limit,
  * nor does a step of one: what would returns NO_ROOM and changes nothing. Else lodvarn_insert_at, lodvarn_replace,
- * lodvarn_change_case, lodvarn_indent, lodvarn_transpose_words, lodvarn_undo, lodvarn_redo and lodvarn_restart raise
- * the limit. Errors: NO_SUCH_NUMBER, also if size is none that this version knows, or ring_size is not the
- * session's. */
+ * lodvarn_change_case, lodvarn_indent, lodvarn_transpose_words, lodvarn_abandon_group, lodvarn_undo, lodvarn_redo and
+ * lodvarn_restart raise the limit. Errors: NO_SUCH_NUMBER, also if size is none that this version knows, or ring_size
+ * is not the session's. */
 int lodvarn_set_options(lodvarn *s, const lodvarn_options *options);
 
 /* Writes what is chosen to *options, whose size the caller has set. A read. Errors: NO_SUCH_NUMBER if size is none that
@@ -449,7 +449,7 @@ int lodvarn_indent(lodvarn *s, lodvarn_movement movement, uint8_t amount, enum l
 
 /* Parts what comes from what was done: the next change joins no other, so that it is undone alone, the next kill begins
  * a new text of the ring, and lodvarn_yank_pop finds nothing. Text, cursor, groups and what was undone stay. A change
- * of nothing leaves it so; an undo, a redo, lodvarn_truncate and the begin or end of a group take it back. */
+ * of nothing leaves it so; an undo, a redo, lodvarn_truncate and the begin, end or abandon of a group take it back. */
 int lodvarn_part(lodvarn *s);
 
 /* Says that the text is saved as it is. The next change is undone alone, so that an undo may come back to it. No
@@ -469,6 +469,12 @@ int lodvarn_end_all_groups(lodvarn *s);
  * of it, until it is closed once more. What was undone is forgotten then. Returns NOTHING if there is no such group,
  * and the record stays. */
 int lodvarn_reopen_group(lodvarn *s);
+
+/* Takes back the innermost group that is open, with those that were closed in it, and forgets it, as for a completion
+ * that is tried and dropped. Text and record are as they were at its begin, and nothing can be redone. The cursor goes
+ * to where it was before the first change of the group, and the ring keeps what was killed. Returns NOTHING if no group
+ * is open, and text and record stay. Errors: NO_ROOM as for an undo, NO_MEMORY. */
+int lodvarn_abandon_group(lodvarn *s);
 
 /* Undoes the last n changes and groups, all if there are fewer. The cursor goes to where it was before them. An edit is
  * a change of its own, or several, as its comment says. But it joins the last change, and is undone with it, if it is
@@ -598,8 +604,8 @@ bool lodvarn_can_undo(lodvarn *s);
 bool lodvarn_can_redo(lodvarn *s);
 
 /* Returns whether the text is the one for which lodvarn_set_saved was called last, by the record: it was not changed
- * since, or undos and redos came back to it. It is false for good once a change that was made before the save is
- * dropped, since something else was done after it was undone, or forgotten. */
+ * since, or undos, redos and abandons came back to it. It is false for good once a change that was made before the save
+ * is dropped, since its group was abandoned or something else was done after it was undone, or forgotten. */
 bool lodvarn_is_saved(lodvarn *s);
 
 /* Returns how many texts the kill ring has. */

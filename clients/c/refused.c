@@ -120,6 +120,8 @@ static int step(unsigned which) {
     CALL(lodvarn_insert(s, 'x', 1));
     CALL(lodvarn_end_group(s));
     CALL(lodvarn_end_group(s));
+    CALL(lodvarn_reopen_group(s));
+    CALL(lodvarn_abandon_group(s));
     return NO_MORE;
 }
 

@@ -415,6 +415,22 @@ static void groups_are_closed(void) {
     DOES(DONE, lodvarn_undo(s, 1), "ONEbc|");
 }
 
+static void groups_are_abandoned(void) {
+    open_at("one two|", 64);
+    lodvarn_insert(s, '-', 1), lodvarn_undo(s, 1);
+    DOES(NOTHING, lodvarn_abandon_group(s), "one two|");
+    DOES(DONE, lodvarn_redo(s), "one two-|");
+    lodvarn_begin_group(s), lodvarn_kill(s, WORD_BACK);
+    lodvarn_begin_group(s), lodvarn_paste(s, "three", 5, 1), lodvarn_end_group(s);
+    lodvarn_set_pos(s, 0);
+    lodvarn_begin_group(s), lodvarn_insert(s, 'x', 1);
+    DOES(DONE, lodvarn_abandon_group(s), "|one three#two-");
+    DOES(DONE, lodvarn_abandon_group(s), "one two-|#two-");
+    SEE(!lodvarn_level(s) && lodvarn_entries(s) == 1 && !lodvarn_can_redo(s));
+    DOES(NOTHING, lodvarn_abandon_group(s), "one two-|#two-");
+    DOES(DONE, lodvarn_undo(s, 1), "one two|");
+}
+
 static void options_take_effect(void) {
     open_at("abcd\nefg|h", 64);
     DOES(DONE, SET(prompt, 2), "abcd\nefg|h");
@@ -464,6 +480,11 @@ static void a_limit_holds(void) {
     DOES(NO_ROOM, lodvarn_undo(s, 1), "|bc");
     DOES(DONE, SET(limit, 4), "|bc");
     DOES(DONE, lodvarn_undo(s, 1), "xy|bc");
+    lodvarn_begin_group(s), lodvarn_delete_range(s, (lodvarn_range){0, 2});
+    DOES(DONE, SET(limit, 2), "|bc");
+    DOES(NO_ROOM, lodvarn_abandon_group(s), "|bc");
+    DOES(DONE, SET(limit, 4), "|bc");
+    DOES(DONE, lodvarn_abandon_group(s), "xy|bc");
     DOES(NO_ROOM, lodvarn_restart(s, "12345", 5), "xy|bc");
     DOES(DONE, lodvarn_restart(s, "1234", 4), "1234|");
     SEE(chosen().limit == 4);
@@ -1287,6 +1308,7 @@ static const struct reported {
     {{"pos 3", "ins 1 é", "undo 1"}, "redo", 8, 64, "REPLACED 3 0 2 3 5 é\n"},
     {{"back 1", "pos 2"}, "undo 1", 8, 64, "REPLACED 6 0 1 2 7 o\n"},
     {{"pos 3", "ins 1 x", "rep 0 1 O"}, "undo 2", 8, 64, "REPLACED 0 1 1 1 4 Oo\nREPLACED 3 1 0 4 3 x\n"},
+    {{"begin", "ins 1 x", "rep 0 1 O"}, "abandon", 8, 64, "REPLACED 0 1 1 1 8 Oo\nREPLACED 7 1 0 8 7 x\n"},
     {{0}, "move home", 8, 64, ""},
     {{0}, "kill eol", 8, 1, KILL("")},
     {{0}, "kill eol", 8, 0, "FOLDED 0 0 0 0 0 \n"},
@@ -1414,6 +1436,7 @@ int main(void) {
     the_ring_has_what_was_killed_and_kept();
     a_saved_text_comes_back();
     groups_are_closed();
+    groups_are_abandoned();
     options_take_effect();
     widths_are_measured();
     clusters_are_found();

@@ -212,6 +212,14 @@ static int reopen(lodvarn *s) {
     return answer;
 }
 
+static int abandon(lodvarn *s) {
+    size_t level = lodvarn_level(s);
+    int answer = lodvarn_abandon_group(s);
+    see("abandon", answer < 0 || (answer == (level > 0) && lodvarn_level(s) + (level > 0) == level));
+    see("abandon", answer <= 0 || !lodvarn_can_redo(s));
+    return answer;
+}
+
 static int end_one(lodvarn *s) {
     size_t level = lodvarn_level(s);
     int answer = lodvarn_end_group(s);
@@ -276,6 +284,7 @@ enum reply { OK, TRUTH, AT_END, TEXT, MARK, AT };
     ROW(end, TRUTH, "", end(s))                                                                        \
     ROW(endone, TRUTH, "", end_one(s))                                                                 \
     ROW(reopen, TRUTH, "", reopen(s))                                                                  \
+    ROW(abandon, TRUTH, "", abandon(s))                                                                \
     ROW(undo, TRUTH, "N", undo(s, g->n))                                                               \
     ROW(redo, TRUTH, "", redo(s))                                                                      \
     ROW(trunc, OK, "N", lodvarn_truncate(s, g->n))                                                     \

@@ -260,6 +260,17 @@ class Groups(Scripts):
             session.insert("c")
         self.assertEqual((session.text, session.undo(), session.text, session.level), ("one-c", True, "one-", 0))
 
+    def test_a_group_is_abandoned(self):
+        session = Session("né two")
+        with session.group():
+            session.kill(BACK)
+            with session.group():
+                session.paste("日本")
+            self.assertTrue(session.abandon_group())
+        self.stands(session, "né two", 6)
+        self.assertEqual((session.level, session.entries, session.can_redo, session.ring), (0, 0, False, ["two"]))
+        self.assertFalse(session.abandon_group())
+
     def test_it_hides_no_exception(self):
         session = Session("")
         with mock.patch.object(Session, "end_group", side_effect=lodvarn.NoMemoryError):
@@ -273,6 +284,7 @@ class Groups(Scripts):
             ("a group", lambda it: it.begin_group(), 1),
             ("two, with a change", lambda it: (it.begin_group(), it.begin_group(), it.insert("b")), 1),
             ("all are ended", lambda it: it.end_all_groups(), 0),
+            ("it is abandoned", lambda it: it.abandon_group(), 1),
             ("and what was before it is undone", lambda it: it.undo(3), 0),
             ("it is forgotten", lambda it: it.truncate(2), 1),
             ("all is begun anew", lambda it: it.restart("x"), 0),

@@ -687,7 +687,7 @@ class Session:
         """Parts what comes from what was done: the next change is undone alone, and the next kill begins a new text.
 
         Text, cursor, groups and what was undone stay. A change of nothing between leaves it so; an undo, a redo,
-        `truncate` and the begin or the end of a group take it back.
+        `truncate` and the begin, end or abandon of a group take it back.
         """
         self._do(lib.py_part)
 
@@ -712,6 +712,14 @@ class Session:
         What was undone is forgotten then. Returns False if something was recorded after it, or there is none.
         """
         return self._do(lib.py_reopen_group)
+
+    def abandon_group(self) -> bool:
+        """Takes back the innermost group that is open, and forgets it, as for a completion that is tried and dropped.
+
+        Text and record are as they were at its begin, and nothing can be redone. The cursor goes to where it was before
+        the first change of the group, and the ring keeps what was killed. Returns False if no group is open.
+        """
+        return self._do(lib.py_abandon_group)
 
     @contextmanager
     def group(self, reopen: bool = False) -> Iterator[None]:

@@ -27,6 +27,16 @@ fn redo(rt: &impl Abort, line: &mut LineBuffer, record: &mut Changeset) -> Resul
     record.redo(line)
 }
 
+// An abandon, of a record that leads back.
+fn abandon(
+    rt: &impl Abort,
+    line: &mut LineBuffer,
+    record: &mut Changeset,
+) -> Result<bool, Refusal> {
+    assert!(rt; record.can_undo(line)?, "the record leads back");
+    record.abandon_telling(line, &mut NoListener)
+}
+
 // It is so, of a line with that cursor, whose record has that many entries.
 fn is_so(rt: &impl Abort, is_so: bool, what: &str, cursor: usize, entries: usize) {
     assert!(rt;
@@ -71,6 +81,7 @@ pub(crate) enum Call {
     End,
     EndOne,
     Reopen,
+    Abandon,
     Truncate(usize),
     HasUndo,
     HasRedo,
@@ -170,6 +181,7 @@ pub(crate) fn make(
         Call::End => truth(record.end()),
         Call::EndOne => truth(record.end_one()),
         Call::Reopen => Ok(usize::from(record.reopen())),
+        Call::Abandon => truth(abandon(rt, line, record)),
         Call::Truncate(len) => {
             record.truncate(len);
             Ok(1)
@@ -260,6 +272,13 @@ fn a_record_comes_back_to_its_save(rt: HostRuntime) -> Result<(), Fail> {
         (Call::Insert('b', 1), 1, "ab", 2, 1, 0),
         (Call::Insert('-', 1), 1, "ab-", 3, 2, 0),
         (Call::IsSaved, 0, "ab-", 3, 2, 0),
+        // an abandon comes to the save too
+        (Call::SetSaved, 1, "ab-", 3, 2, 0),
+        (Call::Begin, 2, "ab-", 3, 3, 1),
+        (Call::Insert('c', 1), 1, "ab-c", 4, 4, 1),
+        (Call::Abandon, 1, "ab-", 3, 2, 0),
+        (Call::IsSaved, 1, "ab-", 3, 2, 0),
+        (Call::Insert('c', 1), 1, "ab-c", 4, 3, 0),
     ];
     goes(&rt, rt.alloc(), "", TYPED)?;
     const GROUPS: &[Step] = &[
@@ -292,6 +311,12 @@ fn a_record_comes_back_to_its_save(rt: HostRuntime) -> Result<(), Fail> {
         (Call::Reopen, 1, "ab", 2, 3, 1),
         (Call::EndOne, 1, "ab", 2, 4, 0),
         (Call::IsSaved, 0, "ab", 2, 4, 0),
+        // a save in a group goes with it
+        (Call::Begin, 4, "ab", 2, 5, 1),
+        (Call::SetSaved, 1, "ab", 2, 5, 1),
+        (Call::Abandon, 1, "ab", 2, 4, 0),
+        (Call::Insert('c', 1), 1, "abc", 3, 5, 0),
+        (Call::IsSaved, 0, "abc", 3, 5, 0),
     ];
     goes(&rt, rt.alloc(), "", GROUPS)
 }
@@ -334,6 +359,7 @@ fn other_calls_drop_what_was_undone(rt: HostRuntime) -> Result<(), Fail> {
             Call::EndOne,
             false,
         ),
+        ("an abandon where no group is open", Call::Abandon, true),
         ("whether a redo would find it", Call::HasRedo, true),
         ("a truncation that cuts nothing", Call::Truncate(1), false),
         ("an insertion of nothing, not told", Call::Yank(""), true),

@@ -112,6 +112,40 @@ fn the_last_group_is_closed_alone(rt: HostRuntime) -> Result<(), Fail> {
 }
 
 #[test]
+fn the_last_group_is_abandoned(rt: HostRuntime) -> Result<(), Fail> {
+    const STEPS: &[Step] = &[
+        (Call::Abandon, 0, "", 0, 0, 0),
+        (Call::Yank("ab"), 1, "ab", 2, 1, 0),
+        (Call::Begin, 1, "ab", 2, 2, 1),
+        (Call::Insert('c', 1), 1, "abc", 3, 3, 1),
+        (Call::Begin, 3, "abc", 3, 4, 2),
+        (Call::Back(2), 1, "a", 1, 5, 2),
+        (Call::EndOne, 1, "a", 1, 6, 1),
+        // with the group that was closed in it, and nothing of it can be redone
+        (Call::Abandon, 1, "ab", 2, 1, 0),
+        (Call::Redo, 0, "ab", 2, 1, 0),
+        // what comes joins the change before it
+        (Call::Insert('c', 1), 1, "abc", 3, 1, 0),
+        // no group around it, also if it is empty
+        (Call::Begin, 1, "abc", 3, 2, 1),
+        (Call::Yank("d"), 1, "abcd", 4, 3, 1),
+        (Call::Begin, 3, "abcd", 4, 4, 2),
+        (Call::Abandon, 1, "abcd", 4, 3, 1),
+        // what was undone in it goes too
+        (Call::Begin, 3, "abcd", 4, 4, 2),
+        (Call::Yank("e"), 1, "abcde", 5, 5, 2),
+        (Call::Undo(1), 1, "abcd", 4, 4, 2),
+        (Call::Abandon, 1, "abcd", 4, 3, 1),
+        (Call::Redo, 0, "abcd", 4, 3, 1),
+        // a closed group is none
+        (Call::End, 1, "abcd", 4, 4, 0),
+        (Call::Abandon, 0, "abcd", 4, 4, 0),
+        (Call::Undo(1), 1, "abc", 3, 1, 0),
+    ];
+    goes(&rt, rt.alloc(), "", STEPS)
+}
+
+#[test]
 fn a_record_tells_whether_an_undo_finds_a_change(rt: HostRuntime) -> Result<(), Fail> {
     const STEPS: &[Step] = &[
         (Call::HasUndo, 0, "", 0, 0, 0),

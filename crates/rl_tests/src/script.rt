@@ -88,6 +88,16 @@ fn scripts_print(rt: HostRuntime) -> Result<(), Fail> {
             b"ok 7 one two\nfalse 7 one two\nmark:0 7 one two\nok 0  two\nfalse 1 a two\ntrue 1 a two\ntrue 1 a two\nfalse 2 ab two\nfalse 2 ab two\ntrue 2 ab two\ntrue 7 one two\n",
         ),
         (
+            "a group is abandoned with the one that was closed in it, and the ring keeps what was killed",
+            b"text one two\nabandon\nins 1 .\nbegin\nkill bword 1 emacs\nbegin\nins 1 a\nendone\nabandon\nredo\nend\nyank 1\nundo 2\n",
+            b"ok 7 one two\nfalse 7 one two\ntrue 8 one two.\nmark:1 8 one two.\ntrue 4 one \nmark:3 4 one \ntrue 5 one a\ntrue 5 one a\ntrue 8 one two.\nfalse 8 one two.\nfalse 8 one two.\ntrue 12 one two.two.\ntrue 7 one two\n",
+        ),
+        (
+            "of two open groups the last is abandoned first, and the cursor goes to where it was before the change",
+            b"text ab\nbegin\nins 1 -\nbegin\npos 0\nins 1 c\npos 2\nabandon\nabandon\nabandon\nundo 1\n",
+            b"ok 2 ab\nmark:0 2 ab\ntrue 3 ab-\nmark:2 3 ab-\nok 0 ab-\nfalse 1 cab-\nok 2 cab-\ntrue 0 ab-\ntrue 2 ab\nfalse 2 ab\nfalse 2 ab\n",
+        ),
+        (
             "a number is judged by its value",
             b"ins 1 a\nins 1 -\nundo 000000000000000000000000000000000001\n",
             b"true 1 a\ntrue 2 a-\ntrue 1 a\n",
@@ -416,8 +426,8 @@ fn texts_and_places_are_commanded(rt: HostRuntime) -> Result<(), Fail> {
 fn every_word_does_something(rt: HostRuntime) -> Result<(), Fail> {
     const ROWS: &[Row] = &[(
         "each word once, but two begins, and two kills before the yanks",
-        b"text ab cd\nins 1 e\nback 1\npart\ntrunc 0\nbegin\nbegin\npos 0\npaste 1 x y\nendone\nend\nundo 1\nredo\nreopen\nprevword 1 emacs\nnextword 1 after emacs\ncase up\nto 1 F C\nmove bob\nkill eol\nupdate 7 one two\ntwords 1\ntchars\nkill bword 1 emacs\nyank 1\nyankpop\ncopy bword 1 emacs\nstr 0 ab\\n\nindent 2 buf\ndedent 1 line\nrep 0 4 cd\\ne\nwhere\nmove nonblank\nrange 5 6\ndel 1\npos 3\nkillline\nkillbuf\ndiscline\ndiscbuf\nkeep x\\sy\nyank 1\nkillrange 0 3 b\n",
-        b"ok 5 ab cd\ntrue 6 ab cde\ntrue 5 ab cd\nok 5 ab cd\nok 5 ab cd\nmark:0 5 ab cd\nmark:1 5 ab cd\nok 0 ab cd\nfalse 3 x yab cd\ntrue 3 x yab cd\ntrue 3 x yab cd\ntrue 0 ab cd\ntrue 3 x yab cd\ntrue 3 x yab cd\ntrue 2 x ab cd\ntrue 2 x  cd\ntrue 5 x  CD\ntrue 3 x  \ntrue 0 x  \ntrue 0 \nok 7 one two\ntrue 7 two one\ntrue 7 two oen\ntrue 4 two \ntrue 7 two oen\ntrue 7 two x  \ntext:x\\s\\s 7 two x  \nfalse 7 ab\\ntwo x  \ntrue 11   ab\\n  two x  \ntrue 10   ab\\n two x  \nok 4 cd\\ne\\n two x  \nat:1:1 4 cd\\ne\\n two x  \ntrue 3 cd\\ne\\n two x  \nok 5 cd\\ne\\ntwo x  \ntext:t 5 cd\\ne\\nwo x  \nok 3 cd\\ne\\nwo x  \ntrue 3 cd\\n\\nwo x  \ntrue 3 cd\\n\ntrue 2 cd\ntrue 0 \nok 0 \ntrue 3 x y\ntrue 0 \n",
+        b"text ab cd\nins 1 e\nback 1\npart\ntrunc 0\nbegin\nbegin\npos 0\npaste 1 x y\nendone\nend\nundo 1\nredo\nreopen\nprevword 1 emacs\nnextword 1 after emacs\ncase up\nto 1 F C\nmove bob\nkill eol\nupdate 7 one two\ntwords 1\ntchars\nkill bword 1 emacs\nyank 1\nyankpop\ncopy bword 1 emacs\nstr 0 ab\\n\nindent 2 buf\ndedent 1 line\nrep 0 4 cd\\ne\nwhere\nmove nonblank\nrange 5 6\ndel 1\npos 3\nkillline\nkillbuf\ndiscline\ndiscbuf\nkeep x\\sy\nyank 1\nkillrange 0 3 b\nabandon\n",
+        b"ok 5 ab cd\ntrue 6 ab cde\ntrue 5 ab cd\nok 5 ab cd\nok 5 ab cd\nmark:0 5 ab cd\nmark:1 5 ab cd\nok 0 ab cd\nfalse 3 x yab cd\ntrue 3 x yab cd\ntrue 3 x yab cd\ntrue 0 ab cd\ntrue 3 x yab cd\ntrue 3 x yab cd\ntrue 2 x ab cd\ntrue 2 x  cd\ntrue 5 x  CD\ntrue 3 x  \ntrue 0 x  \ntrue 0 \nok 7 one two\ntrue 7 two one\ntrue 7 two oen\ntrue 4 two \ntrue 7 two oen\ntrue 7 two x  \ntext:x\\s\\s 7 two x  \nfalse 7 ab\\ntwo x  \ntrue 11   ab\\n  two x  \ntrue 10   ab\\n two x  \nok 4 cd\\ne\\n two x  \nat:1:1 4 cd\\ne\\n two x  \ntrue 3 cd\\ne\\n two x  \nok 5 cd\\ne\\ntwo x  \ntext:t 5 cd\\ne\\nwo x  \nok 3 cd\\ne\\nwo x  \ntrue 3 cd\\n\\nwo x  \ntrue 3 cd\\n\ntrue 2 cd\ntrue 0 \nok 0 \ntrue 3 x y\ntrue 0 \ntrue 0 ab cd\n",
     )];
     print_all(&rt, rt.alloc(), ROWS)
 }

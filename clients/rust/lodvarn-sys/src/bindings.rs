@@ -285,6 +285,9 @@ extern "C" {
     pub fn lodvarn_reopen_group(s: *mut lodvarn) -> ::std::os::raw::c_int;
 }
 extern "C" {
+    pub fn lodvarn_abandon_group(s: *mut lodvarn) -> ::std::os::raw::c_int;
+}
+extern "C" {
     pub fn lodvarn_undo(s: *mut lodvarn, n: usize) -> ::std::os::raw::c_int;
 }
 extern "C" {

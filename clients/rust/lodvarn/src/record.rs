@@ -6,7 +6,8 @@ use std::ops::{Deref, DerefMut};
 
 /// An open undo group, from [`Session::group`]. It is the session meanwhile, and closes the group when it is dropped.
 /// Groups that were begun in it and are still open are closed with it. If the group is not open any more, as after an
-/// [`end_all_groups`](Session::end_all_groups) or an undo of its begin, nothing is closed.
+/// [`end_all_groups`](Session::end_all_groups), an [`abandon_group`](Session::abandon_group) or an undo of its begin,
+/// nothing is closed.
 #[derive(Debug)]
 #[must_use = "the group is closed when this is dropped"]
 pub struct Group<'s> {
@@ -87,7 +88,7 @@ impl Session {
 
     /// Parts what comes from what was done: the next change joins no other, so that it is undone alone, and the next kill
     /// begins a new text of the ring. Text, cursor, groups and what was undone stay. A change of nothing between leaves it
-    /// so; an undo, a redo, [`truncate`](Session::truncate) and the begin or the end of a group take it back.
+    /// so; an undo, a redo, [`truncate`](Session::truncate) and the begin, end or abandon of a group take it back.
     ///
     /// ```
     /// # use lodvarn::{Fault, Session};
@@ -149,6 +150,29 @@ methods! {
     /// was undone is forgotten then. False if something was recorded after it, or there is none.
     pub fn reopen_group(&mut self) -> bool = is_done(lodvarn_reopen_group());
 
+    /// Takes back the innermost group that is open, with those that were closed in it, and forgets it, as for a
+    /// completion that is tried and dropped. Text and record are as they were at its begin, and nothing can be redone.
+    /// The cursor goes to where it was before the first change of the group, and the ring keeps what was killed. False if
+    /// no group is open.
+    ///
+    /// ```
+    /// # use lodvarn::{Fault, Session};
+    /// # fn main() -> Result<(), Fault> {
+    /// let mut session = Session::builder().text("git st").open()?;
+    /// session.begin_group()?;
+    /// session.replace(4..6, "status")?;
+    /// assert_eq!(session.text(), "git status");
+    /// session.abandon_group()?;
+    /// assert_eq!((session.text(), session.level(), session.can_redo()), ("git st", 0, false));
+    /// # Ok(())
+    /// # }
+    /// ```
+    ///
+    /// # Errors
+    ///
+    /// [`Fault::NoRoom`] as for an undo; [`Fault::NoMemory`].
+    pub fn abandon_group(&mut self) -> Result<bool, Fault> = found(lodvarn_abandon_group());
+
     /// Closes all open groups. False if they have no change, or none is open.
     ///
     /// # Errors
@@ -160,14 +184,14 @@ methods! {
     ///
     /// # Errors
     ///
-    /// [`Fault::NoMemory`].
+    /// [`Fault::NoRoom`] if a text on the way back is longer than a limit that holds; [`Fault::NoMemory`].
     pub fn undo(&mut self, n: u16) -> Result<bool, Fault> = found(lodvarn_undo(n.into()));
 
     /// Redoes what was undone last, one change or group. False if there is none.
     ///
     /// # Errors
     ///
-    /// [`Fault::NoMemory`].
+    /// [`Fault::NoRoom`] as for an undo; [`Fault::NoMemory`].
     pub fn redo(&mut self) -> Result<bool, Fault> = found(lodvarn_redo());
 
     /// Keeps the first `entries` entries of the record, and forgets the others and what was undone.

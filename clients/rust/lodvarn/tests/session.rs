@@ -152,13 +152,14 @@ fn a_guard_closes_what_was_begun_in_it_alone() -> Result<(), Fault> {
     type Inside = fn(&mut Session) -> Result<(), Fault>;
     let deeper: Inside = |s| s.paste("b", 1).and(s.begin_group()).and(s.begin_group());
     // What is done in the inner one of two groups, whether that has a change then, and how many groups are left.
-    let rows: [(Inside, bool, usize); 5] = [
+    let rows: [(Inside, bool, usize); 6] = [
         (|_| Ok(()), false, 1),
         (|s| s.paste("b", 1).map(drop), true, 1),
         (deeper, true, 1),
         // this takes back its begin
         (|s| s.paste("b", 1).and(s.undo(2)).map(drop), false, 1),
         (|s| s.end_all_groups().map(drop), false, 0),
+        (|s| s.abandon_group().map(drop), false, 1),
     ];
     for (row, (inside, has_change, left)) in rows.into_iter().enumerate() {
         for is_dropped in [false, true] {

@@ -208,6 +208,7 @@ fn truth(s: &mut Session, name: &str, rest: &mut Words) -> Result<String, Fault>
         "end" => s.end_all_groups(),
         "endone" => s.end_group(),
         "reopen" => Ok(s.reopen_group()),
+        "abandon" => s.abandon_group(),
         "case" => {
             let cases = [Case::Capitalize, Case::Lowercase, Case::Uppercase];
             s.change_case(rest.one_of("cap low up", &cases))
