@@ -1,5 +1,5 @@
 -- What each command does.
-use Rattle.std.specs.Prelude.{◌≡◌, ℕ, ◌<◌, min, Bool, true, false, not, ◌&&◌, nat_le, length, List, [], Any, Option, Some, None, Result, Ok, Err, ◌⊎◌, if◌then◌else◌, String}
+use Rattle.std.specs.Prelude.{◌≡◌, ℕ, ◌<◌, min, Bool, true, false, not, ◌&&◌, nat_le, length, List, [], Any, Option, Some, None, Result, Ok, Err, ◌⊎◌, if◌then◌else◌, String, IsSome}
 use Rattle.std.specs.Option.{option_map}
 use Rattle.std.specs.String.{string_bytes}
 use Rattle.std.specs.Str.{IsCharBoundary}
@@ -22,14 +22,14 @@ use Rattle.rl_line.specs.Indents.{indent_plan}
 use Rattle.rl_line.specs.Deletions.{copied, delete_plan, kill_plan, kill_range_plan, is_by_characters, Told}
 use Rattle.rl_line.specs.LetterCase.{edit_word_plan}
 use Rattle.rl_line.specs.Change.{greatest_ahead_over, greatest_back_over}
-use Rattle.rl_line.specs.Record.{Record, parted, replays_to}
+use Rattle.rl_line.specs.Record.{Record, parted, replays_to, replay_entries}
 use Rattle.rl_line.specs.Transpositions.{transpose_chars_plan, transpose_words_plan}
 use Rattle.rl_line.specs.Undo.{Abandoned, CopiesBack, Undone, Redone, steps_ahead, steps_back, texts_ahead, texts_back}
-use Rattle.rl_line.specs.Units.{adds_end, begun, ended, ends_in_end, reopened, last_of, level, open_group, redo_of, truncated, ended_one}
+use Rattle.rl_line.specs.Units.{adds_end, begun, ended, ends_in_end, reopened, last_of, level, open_group, redo_of, truncated, ended_one, IsMatched, kept_undone, waits}
 use Rattle.rl_session.specs.Options.{layout_of}
 use Rattle.rl_session.specs.Pair.{pair_step, pair_refused}
 use Rattle.rl_session.specs.declared.session.Command.{Command}
-use Rattle.rl_session.specs.declared.session.Command.TheVariants.{SetPos, Move, Insert, Paste, Yank, YankPop, Update, InsertStr, Replace, DeleteRange, Delete, Backspace, KillLine, KillBuffer, DiscardLine, DiscardBuffer, DeletePrevWord, DeleteWord, DeleteTo, TransposeChars, TransposeWords, EditWord, Kill, Copy, Indent, Begin, End, EndOne, Undo, Redo, Truncate, LinePlace, KillRange, Keep, Part, Reopen, Abandon}
+use Rattle.rl_session.specs.declared.session.Command.TheVariants.{SetPos, Move, Insert, Paste, Yank, YankPop, Update, InsertStr, Replace, DeleteRange, Delete, Backspace, KillLine, KillBuffer, DiscardLine, DiscardBuffer, DeletePrevWord, DeleteWord, DeleteTo, TransposeChars, TransposeWords, EditWord, Kill, Copy, Indent, Begin, End, EndOne, Undo, Redo, Truncate, LinePlace, KillRange, Keep, Part, Reopen, Abandon, KeepUndone}
 use Rattle.rl_session.specs.declared.session.Fault.{Fault}
 use Rattle.rl_session.specs.declared.session.Fault.TheVariants.{NoMemory, BadPlace, BadYankSize, NotReplaying, TooLong}
 use Rattle.rl_session.specs.declared.session.Reply.{Reply}
@@ -141,6 +141,7 @@ pub data Effect : Type 1 where
   parts : Effect
   reopens : Bool → Effect
   gives_up : Bool → Effect
+  keeps_undone : Bool → Effect
 
 abbrev pub Became : Effect → State → State → Type 0
 Became (by_steps course) old new = Came course old new
@@ -160,6 +161,9 @@ Became parts old new = new ≡ with_changes (parted old.pair.changes) old
 Became (reopens a) old new = (a ≡ ends_in_end old.pair.changes.recorded) × (new ≡ with_changes (reopened old.pair.changes) old)
 Became (gives_up a) old new =
     Abandoned old.pair.changes new.pair.changes old.line new.line a × KeepsRing old new × WatchHears (steps_back old.line.cursor (open_group old.pair.changes.recorded)) old new
+Became (keeps_undone a) old new =
+    (IsMatched old.pair.changes.pending × IsSome (replay_entries old.pair.changes.pending old.line.text) × (a ≡ waits old.pair.changes.pending))
+    × (new ≡ with_changes (kept_undone old.pair.changes) old)
 
 -- how a reply tells the answer of an edit
 pub data Telling : Type 0 → Type 1 where
@@ -242,6 +246,7 @@ other_course old (Undo n) (says.Refused NoMemory) =
     when (Any (NeedsRoom old.line.text) (texts_back (last_of n old.pair.changes.recorded) old.line.text)) stays
 other_course old Abandon (says.Refused NoMemory) =
     when (Any (NeedsRoom old.line.text) (texts_back (open_group old.pair.changes.recorded) old.line.text)) stays
+other_course old KeepUndone (says.Refused NoMemory) = when (waits old.pair.changes.pending ≡ true) stays
 other_course old Redo (says.Refused NoMemory) =
     when (Any (NeedsRoom old.line.text) (texts_ahead (redo_of old.pair.changes.pending) old.line.text)) stays
 other_course old (Truncate len) (says.Refused NotReplaying) = when (replays_to len old.pair.changes old.line.text ≡ false) stays
@@ -293,6 +298,7 @@ allowed old (Keep t) says.Done = keeps (string_bytes t)
 allowed old Part says.Done = parts
 allowed old Reopen (says.Answer a) = reopens a
 allowed old Abandon (says.Answer a) = gives_up a
+allowed old KeepUndone (says.Answer a) = keeps_undone a
 allowed old command reply = by_steps (course_of (asked old.line command) old command reply)
 
 -- what a command did that had this reply, where it is barred or not

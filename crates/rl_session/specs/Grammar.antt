@@ -5,7 +5,7 @@ use Rattle.std.specs.String.{string_bytes}
 use Rattle.std.specs.declared.alloc.Global.{Global}
 use Rattle.rl_session.specs.Spelling.{number_of, Spells, SpellsChar, SpellsRest, word, rest, Numbered, NumberedText}
 use Rattle.rl_session.specs.declared.session.Command.{Command}
-use Rattle.rl_session.specs.declared.session.Command.TheVariants.{SetPos, Move, Insert, Paste, Yank, YankPop, Update, InsertStr, Replace, DeleteRange, Delete, Backspace, KillLine, KillBuffer, DiscardLine, DiscardBuffer, DeletePrevWord, DeleteWord, DeleteTo, TransposeChars, TransposeWords, EditWord, Kill, Copy, Indent, Begin, End, EndOne, Undo, Redo, Truncate, LinePlace, KillRange, Keep, Part, Reopen, Abandon}
+use Rattle.rl_session.specs.declared.session.Command.TheVariants.{SetPos, Move, Insert, Paste, Yank, YankPop, Update, InsertStr, Replace, DeleteRange, Delete, Backspace, KillLine, KillBuffer, DiscardLine, DiscardBuffer, DeletePrevWord, DeleteWord, DeleteTo, TransposeChars, TransposeWords, EditWord, Kill, Copy, Indent, Begin, End, EndOne, Undo, Redo, Truncate, LinePlace, KillRange, Keep, Part, Reopen, Abandon, KeepUndone}
 use Rattle.rl_session.specs.declared.settings.Setting.{Setting}
 use Rattle.rl_session.specs.declared.settings.Setting.TheVariants.{Limit, RingSize, Mode}
 use Rattle.rl_base.specs.declared.layout.GraphemeClusterMode.{GraphemeClusterMode}
@@ -177,6 +177,7 @@ pub data Says : List ℕ → Option (List ℕ) → Meaning → Type 0 where
   endone : Says (codes "endone") None (Do EndOne)
   reopen : Says (codes "reopen") None (Do Reopen)
   abandon : Says (codes "abandon") None (Do Abandon)
+  keepundone : Says (codes "keepundone") None (Do KeepUndone)
   undo : {digits : List ℕ} {n : ℕ} → number_of 65535 digits ≡ Some n → Says (codes "undo") (Some digits) (Do (Undo n))
   redo : Says (codes "redo") None (Do Redo)
   trunc : {digits : List ℕ} {len : ℕ} → number_of (2 ^ 64 - 1) digits ≡ Some len → Says (codes "trunc") (Some digits) (Do (Truncate len))

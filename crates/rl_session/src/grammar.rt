@@ -402,6 +402,7 @@ fn lone_command(alloc: Global, word: &str) -> Option<Command>
         "endone" => Some(Command::EndOne),
         "reopen" => Some(Command::Reopen),
         "abandon" => Some(Command::Abandon),
+        "keepundone" => Some(Command::KeepUndone),
         "redo" => Some(Command::Redo),
         "where" => Some(Command::LinePlace),
         _ => None,

@@ -107,6 +107,8 @@ pub enum Command {
     Reopen,
     /// Takes back the group that was opened last and is open, and forgets it.
     Abandon,
+    /// Keeps what was undone: undos lead where redos led.
+    KeepUndone,
     /// Undoes the given number of units: one for 0, and all if there are fewer.
     Undo(RepeatCount),
     /// Redoes what was undone last.
@@ -383,6 +385,7 @@ impl Session {
             Command::EndOne => self.end_one(),
             Command::Reopen => self.reopen(),
             Command::Abandon => self.abandon(),
+            Command::KeepUndone => self.keep_undone(),
             Command::Undo(n) => self.undo(*n),
             Command::Redo => self.redo(),
             Command::Truncate(len) => self.truncate(*len),

@@ -4,7 +4,7 @@ use Rattle.rl_base.specs.Event.{apply}
 use Rattle.rl_line.proofs.Records.LastLemmas.{end_times-keeps, map-reverse}
 use Rattle.rl_line.proofs.Records.LevelLemmas.{level-append}
 use Rattle.rl_line.proofs.Records.MatchLemmas.{Lower-end_times}
-use Rattle.rl_line.proofs.Records.RecordLemmas.{inverse-inverse, inverse-undoes, then_both, unwind-append, unwind-replay, value_of}
+use Rattle.rl_line.proofs.Records.RecordLemmas.{inverse-inverse, inverse-undoes, then_both, unwind-append, unwind-replay, value_of, replay-append, replay-unwind}
 use Rattle.rl_line.proofs.Records.SavedLemmas.{told-at, StaysIn, arrived-stays, closed-in, longer, stays-in}
 use Rattle.rl_line.proofs.Records.UnitLemmas.{AllGood, AllGood-append, AllGood-reverse, IsMatched-append, cut_more-append, marks-append, on, together-append, together-reverse, together-units, turned-append, units-append, units-good, opens-append, opens-reverse}
 use Rattle.rl_line.proofs.Records.WalkLemmas.{Walk-append, Walk-end_one, Walk-IsUtf8}
@@ -206,6 +206,15 @@ unwind-round r text u h =
     let there = replays-closed r.pending text end ahead in
     unwind-append r.recorded (there_and_back r.pending) text
     ∙ ap (option_and_then (unwind r.recorded)) (unwind-append c (turned_all c) text ∙ ap (option_and_then (unwind c)) (unwind-turned c text ∙ there) ∙ unwind-replay c text end u there)
+
+-- so what goes there and back leads to the text
+pub replays-round : (es : List Entry) (text : List ℕ) → IsUtf8 text → IsSome (replay_entries es text) → replay_entries (there_and_back es) text ≡ Some text
+replays-round es text u h =
+    let c = closed_all es in
+    let (end, ahead) = value_of (replay_entries es text) h in
+    let there = replays-closed es text end ahead in
+    replay-append c (turned_all c) text ∙ ap (option_and_then (replay_entries (turned_all c))) there
+    ∙ replay-unwind (turned_all c) text end u (unwind-turned c text ∙ there)
 
 pub Kept-kept : (r : Record) (line : Line) → IsUtf8 line.text → IsSome (replay_entries r.pending line.text) → Kept r (kept_undone r) line line
 Kept-kept r line u h = kept-either (λ k. Kept r k line line) r (record { origin_is = λ start e. e; utf8 = u }) (record { origin_is = λ start e. unwind-round r line.text u h ∙ e; utf8 = u })

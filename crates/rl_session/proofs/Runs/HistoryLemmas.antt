@@ -1,5 +1,5 @@
 -- Rows of a session: what they make of its history, and what undos and redos among them do.
-use Rattle.rl_session.specs.Commands.{allowed, gives_up}
+use Rattle.rl_session.specs.Commands.{allowed, gives_up, keeps_undone}
 use Rattle.rl_session.proofs.Sessions.CommandLemmas.{done_allowed}
 use Rattle.rl_session.proofs.Common.{◌≡◌, ◌∙◌, inr, same_Some, replay_entries, true, Cursors, Entry, rules, ℕ, Bool, List, [], ◌∷◌, ◌++◌, length, min, arith, take, sym, ap, subst, append-nil, append_assoc, Line, listener_after, Record, record_step, unwind, Undone, Redone, Redos, begun, ended, ended_one, level, last_of, last_units, opens, redo_of, truncated, undone, Effect, by_steps, puts_begin, puts_ends, puts_end, shortens, takes_back, puts_again, Became, effect, Does, readied, with_changes, AllRedone, History, Holds, WasHeld, WasRefused, Row, Leads, Run, held, held_by, held_of, steps_in, texts_of_steps, State, with_ring, reset, Append, Command, Undo, Redo, Reply, inl}
 use Rattle.rl_line.specs.Plan.{Step as PlanStep}
@@ -11,15 +11,16 @@ use Rattle.rl_line.proofs.Records.UnitLemmas.{kept-last}
 use Rattle.rl_session.specs.Commands.{keeps, parts, reopens}
 use Rattle.rl_line.specs.Record.{StaysSaved, is_saved, parted}
 use Rattle.rl_line.proofs.Records.SavedLemmas.{saved-back, saved-begun, saved-closed, saved-marked, saved-parted, saved-redone, saved-reopened, saved-step, saved-truncated, saved-undone}
-use Rattle.rl_line.specs.Units.{reopened}
+use Rattle.rl_line.specs.Units.{reopened, kept_undone, there_and_back}
 use Rattle.rl_session.specs.State.{Begins, saved_now}
 use Rattle.rl_base.specs.KillRing.{killed}
 use Rattle.rl_session.specs.declared.session.Reply.TheVariants as says
 use Rattle.rl_session.proofs.Sessions.CourseLemmas.{Heard, Heard-Came}
 use Rattle.rl_session.proofs.Runs.RowLemmas.{Leads-split}
-use Rattle.rl_session.proofs.Runs.PlaceLemmas.{History-more, History-steps, History-begun, History-closed, History-undone, History-redone, History-reopened, History-truncated, undo-held, History-dropped}
+use Rattle.rl_session.proofs.Runs.PlaceLemmas.{History-more, History-steps, History-begun, History-closed, History-undone, History-redone, History-reopened, History-truncated, undo-held, History-dropped, History-kept}
 use Rattle.rl_line.proofs.Records.AbandonLemmas.{abandoned-as, saved-abandoned}
-use Rattle.rl_line.specs.Undo.{Abandoned}
+use Rattle.rl_line.specs.Undo.{Abandoned, texts_ahead}
+use Rattle.rl_line.proofs.Records.RoundLemmas.{saved-kept}
 
 -- ---- the history
 History-Heard : (start : List ℕ) (held : List (List ℕ)) (steps : List PlanStep) (old : Line) (r : Record) (text : List ℕ) (now : Record) → History start held old.text r
@@ -77,6 +78,8 @@ Holds-Became start held (reopens a) old new d h =
     History-changes start held new (with_changes (reopened old.pair.changes) old) (History-reopened start held old.line.text old.pair.changes h) d.1
 Holds-Became start held (takes_back n a) old new d h = History-TookBack _ start held _ old new a h d.0
 Holds-Became start held (gives_up a) old new d h = History-GaveUp start held _ old new a h d.0
+Holds-Became start held (keeps_undone a) old new d h =
+    subst (λ (s : State). Holds start (held ++ texts_ahead (there_and_back old.pair.changes.pending) old.line.text) s) (sym d.1) (History-kept start held old.line.text old.pair.changes h d.0.1)
 Holds-Became start held (puts_again a) old new d h = History-PutAgain start held _ old new a h d.0
 
 -- a row adds its texts to those that were held
@@ -191,6 +194,7 @@ Saved-Became es parts old new d s = subst (λ (k : State). StaysSaved es k.pair.
 Saved-Became es (reopens a) old new d s = subst (λ (k : State). StaysSaved es k.pair.changes) (sym d.1) (saved-reopened es old.pair.changes s)
 Saved-Became es (takes_back n a) old new d s = subst (StaysSaved es) (sym d.0.record_is) (saved-undone es old.pair.changes n s)
 Saved-Became es (gives_up a) old new d s = subst (StaysSaved es) (sym d.0.record_is) (saved-abandoned es old.pair.changes s)
+Saved-Became es (keeps_undone a) old new d s = subst (λ (k : State). StaysSaved es k.pair.changes) (sym d.1) (saved-kept es old.pair.changes d.0.0 s)
 Saved-Became es (puts_again a) old new d s = subst (StaysSaved es) (sym d.0.record_is) (saved-redone es old.pair.changes s)
 
 pub Saved-Leads : (es : List Entry) (rows : List Row) (old new : State) → StaysSaved es old.pair.changes → Leads old rows new → StaysSaved es new.pair.changes

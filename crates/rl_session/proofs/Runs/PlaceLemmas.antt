@@ -1,10 +1,10 @@
 -- A record is placed among the texts that were held, whatever it hears.
-use Rattle.rl_session.proofs.Common.{◌≡◌, ◌≤◌, ℕ, List, [], ◌∷◌, ◌++◌, length, length-append, cond_both, ◌-◌, take, drop, map, reverse, Some, refl, sym, ap, subst, ◌∙◌, inl, inr, append-nil, append_assoc, arith, same_Some, take-append-drop, reverse-append, reverse-reverse, map-append, option_and_then, IsSome, IsUtf8, Event, Freshness, Cursors, replay, Line, stepped, listener_after, listener_after_step, Entry, Begin, End, Changed, Record, entries_of, entries_after, replay_entries, unwind, event_of, entries_told, last_told, freshness_of, level, last_of, kept_of, redo_of, end_one, end_times, begun, undone, redone, truncated, with_closed, kept_within, HoldsOn, gone, StandsAfter, WasHeld, PlacedBack, Placed, History, Holds, State, texts_of_steps}
+use Rattle.rl_session.proofs.Common.{◌≡◌, ◌≤◌, ℕ, List, [], ◌∷◌, ◌++◌, length, length-append, cond_both, ◌-◌, take, drop, map, reverse, Some, refl, sym, ap, subst, ◌∙◌, inl, inr, append-nil, append_assoc, arith, same_Some, take-append-drop, reverse-append, reverse-reverse, map-append, option_and_then, IsSome, IsUtf8, Event, Freshness, Cursors, replay, Line, stepped, listener_after, listener_after_step, Entry, Begin, End, Changed, Record, entries_of, entries_after, replay_entries, unwind, event_of, entries_told, last_told, freshness_of, level, last_of, kept_of, redo_of, end_one, end_times, begun, undone, redone, truncated, with_closed, kept_within, HoldsOn, gone, StandsAfter, WasHeld, PlacedBack, Placed, History, Holds, State, texts_of_steps, Option, None}
 use Rattle.rl_base.specs.Event.{apply}
 use Rattle.rl_base.proofs.Texts.SwapLemmas.{apply-IsUtf8}
 use Rattle.rl_line.specs.Plan.{Step, after}
 use Rattle.rl_line.specs.Record.{record_step}
-use Rattle.rl_line.specs.Units.{ends_in_end, reopened, redo_dropped}
+use Rattle.rl_line.specs.Units.{ends_in_end, reopened, redo_dropped, kept_undone, there_and_back}
 use Rattle.rl_line.proofs.Records.MarkLemmas.{unwind-cut, replay-begin, replay-end, replay-end_one}
 use Rattle.rl_line.proofs.Records.JoinLemmas.{heard, step-cases}
 use Rattle.rl_line.proofs.Records.LastLemmas.{after-cases, end_one-cases, end_times-keeps, map-reverse}
@@ -17,6 +17,8 @@ use Rattle.rl_line.proofs.Plans.PlanLemmas.{first_step}
 use Rattle.rl_line.proofs.Records.ToldLemmas.{same-event, told-cases}
 use Rattle.std.proofs.lemmas.Grind.{common_steps}
 use Rattle.rl_session.proofs.Common.{rules}
+use Rattle.rl_line.specs.Undo.{texts_ahead}
+use Rattle.rl_line.proofs.Records.RoundLemmas.{BothMatched-round, kept-either, replays-round}
 
 extend : (start : List ℕ) (es : List Entry) (held more : List (List ℕ)) → PlacedBack start es held → PlacedBack start es (held ++ more)
 extend start [] held more p = grind (arith, append_assoc)
@@ -255,6 +257,33 @@ History-dropped start held text r h = record {
   placed = alone start r.recorded held (recorded-placed start held text r h);
   matched = record { recorded = h.matched.recorded; pending = refl };
 }
+
+-- entries that lead on from the text are placed among the texts on their way
+Placed-ahead : (start : List ℕ) (xs ys : List Entry) (held : List (List ℕ)) (text end : List ℕ) → Placed start xs held → replay_entries xs start ≡ Some text
+    → replay_entries ys text ≡ Some end → Placed start (xs ++ ys) (held ++ texts_ahead ys text)
+Placed-ahead start xs [] held text end p h k = subst (λ l. Placed start l (held ++ [])) (sym (append-nil xs)) (Placed-more start xs held [] p)
+Placed-ahead start xs (y ∷ ys) held text end p h k =
+    let (mid, made, on) = through (replay_entries ys) (apply (event_of y) text) end k in
+    let leads = replay-append xs (y ∷ []) start ∙ ap (option_and_then (replay_entries (y ∷ []))) h ∙ ap (option_and_then (λ t. Some t)) made in
+    let more : held ++ texts_ahead (y ∷ ys) text ≡ (held ++ mid ∷ []) ++ texts_ahead ys mid =
+    ap (λ (o : Option (List ℕ)). held ++ elim o [ None ↦ [] | Some next ↦ next ∷ texts_ahead ys next ]) made ∙ sym (append_assoc held (mid ∷ []) (texts_ahead ys mid)) in
+    subst (λ l. Placed start l (held ++ texts_ahead (y ∷ ys) text)) (append_assoc xs (y ∷ []) ys)
+    (subst (Placed start ((xs ++ y ∷ []) ++ ys)) (sym more) (Placed-ahead start (xs ++ y ∷ []) ys (held ++ mid ∷ []) mid end (Placed-add start xs y held mid p leads) leads on))
+
+pub History-kept : (start : List ℕ) (held : List (List ℕ)) (text : List ℕ) (r : Record) → History start held text r → IsSome (replay_entries r.pending text)
+    → History start (held ++ texts_ahead (there_and_back r.pending) text) text (kept_undone r)
+History-kept start held text r h some =
+    let more = texts_ahead (there_and_back r.pending) text in
+    let u = replay-IsUtf8 r.recorded start text h.is_text h.leads in
+    let back = replays-round r.pending text u some in
+    kept-either (History start (held ++ more) text) r (History-more start held more text r h)
+    (record {
+      is_text = h.is_text;
+      leads = replay-append r.recorded (there_and_back r.pending) start ∙ ap (option_and_then (replay_entries (there_and_back r.pending))) h.leads ∙ back;
+      placed = alone start (r.recorded ++ there_and_back r.pending) (held ++ more)
+          (Placed-ahead start r.recorded (there_and_back r.pending) held text text (recorded-placed start held text r h) h.leads back);
+      matched = BothMatched-round r h.matched;
+    })
 
 -- the undone entries can be made again
 pub pending-leads : (start : List ℕ) (held : List (List ℕ)) (text : List ℕ) (r : Record) → History start held text r → IsSome (replay_entries r.pending text)

@@ -9,7 +9,7 @@ use Rattle.rl_line.proofs.Records.ForgettingLemmas.{fitting-stay}
 use Rattle.rl_line.proofs.Records.MarkLemmas.{Kept-begun, Kept-closed, Kept-reopened, Kept-Redone, Kept-truncated}
 use Rattle.rl_line.proofs.Records.OriginLemmas.{Kept, Kept-Taken, Kept-Undone}
 use Rattle.rl_line.proofs.Records.RecordLemmas.{unwind-replay, replay-unwind, replay-IsUtf8, value_of}
-use Rattle.rl_session.specs.Commands.{stops, lent, Step, keeps, parts, reopens, gives_up}
+use Rattle.rl_session.specs.Commands.{stops, lent, Step, keeps, parts, reopens, gives_up, keeps_undone}
 use Rattle.rl_session.proofs.Sessions.CommandLemmas.{Changes, EffectChanges, effect-changes}
 use Rattle.rl_session.proofs.Sessions.CourseLemmas.{Heard, Heard-Came}
 use Rattle.rl_session.proofs.Sessions.IdleLemmas.{ring-Done, ring-Halted}
@@ -17,6 +17,7 @@ use Rattle.rl_session.proofs.Sessions.PairLemmas.{Halted-own}
 use Rattle.rl_session.specs.declared.options.Options.{Options}
 use Rattle.rl_session.proofs.Common.{arith}
 use Rattle.rl_line.proofs.Records.AbandonLemmas.{Kept-Abandoned}
+use Rattle.rl_line.proofs.Records.RoundLemmas.{Kept-kept}
 
 -- the record leads back to the same text
 abbrev KeepsOrigin : State → State → Type 0
@@ -38,6 +39,7 @@ Kept-Became parts old new u d = subst (KeepsOrigin old) (sym d) (record { origin
 Kept-Became (reopens a) old new u d = subst (KeepsOrigin old) (sym d.1) (Kept-reopened old.pair.changes old.line u)
 Kept-Became (takes_back n a) old new u d = Kept-Undone _ old.pair.changes new.pair.changes old.line new.line a u d.0
 Kept-Became (gives_up a) old new u d = Kept-Abandoned old.pair.changes new.pair.changes old.line new.line a u d.0
+Kept-Became (keeps_undone a) old new u d = subst (KeepsOrigin old) (sym d.1) (Kept-kept old.pair.changes old.line u d.0.1)
 Kept-Became (puts_again a) old new u d = Kept-Redone old.pair.changes new.pair.changes old.line new.line a u d.0
 
 -- each row keeps the text from which the record came: the ring's resets touch neither line nor record

@@ -1,5 +1,5 @@
 -- A group that was closed is one unit, whatever happened inside, so that one undo takes it off.
-use Rattle.rl_session.specs.Commands.{allowed, effect_where, is_barred, gives_up}
+use Rattle.rl_session.specs.Commands.{allowed, effect_where, is_barred, gives_up, keeps_undone}
 use Rattle.rl_session.proofs.Common.{Bool, false, rules, ◌≡◌, ◌<◌, ◌+◌, ℕ, inl, inr, zero, suc, true, List, [], ◌∷◌, ◌++◌, length, drop, Some, refl, sym, ap, subst, ◌∙◌, arith, or-false, min, listener_after, listener_after_step, Begin, End, Entry, Record, record_step, replay_entries, IsMatched, begun, end_one, end_times, ended, ended_one, has_change, kept_of, last_of, level, opens, with_closed, Effect, by_steps, puts_begin, puts_end, Became, effect, Does, with_changes, AllStandInGroup, ClosesGroup, Holds, MayStandInGroup, WasRefused, Leads, Row, Run, held, held_of, steps_in, State, with_ring, reset, Append, Command, Reply, Cursors, cond, same_Some}
 use Rattle.rl_line.specs.Plan.{Step}
 use Rattle.rl_line.proofs.Records.GroupLemmas.{has_change-append, Inside, InsideOf, Inside-event, Inside-begun, Inside-reopened, past_begin}
@@ -10,7 +10,7 @@ use Rattle.rl_line.proofs.Records.UndoLemmas.{line_back-unwind}
 use Rattle.rl_session.specs.Commands.{keeps, parts, reopens}
 use Rattle.rl_base.specs.KillRing.{killed}
 use Rattle.rl_line.specs.Record.{parted}
-use Rattle.rl_line.specs.Units.{reopened, open_size, redo_dropped, undone}
+use Rattle.rl_line.specs.Units.{reopened, open_size, redo_dropped, undone, kept_undone}
 use Rattle.rl_session.specs.declared.session.Command.TheVariants as asks
 use Rattle.rl_session.specs.declared.session.Reply.TheVariants as says
 use Rattle.rl_session.proofs.Runs.RowLemmas.{Leads-split}
@@ -20,6 +20,7 @@ use Rattle.rl_session.proofs.Runs.PlaceLemmas.{kept-leads}
 use Rattle.rl_line.proofs.Records.AbandonLemmas.{GroupOpen, Inside-Abandoned, open_after}
 use Rattle.rl_line.specs.Undo.{Abandoned, line_back}
 use Rattle.rl_session.proofs.Sessions.CommandLemmas.{done_allowed}
+use Rattle.rl_line.proofs.Records.RoundLemmas.{Inside-kept}
 
 -- ---- the end of a group
 -- the ends of the groups inside, then the end of the group itself
@@ -64,6 +65,7 @@ StaysOpen below now (puts_end _) = below < now
 StaysOpen below now (keeps _) = Unit {0}
 StaysOpen below now parts = Unit {0}
 StaysOpen below now (reopens _) = Unit {0}
+StaysOpen below now (keeps_undone _) = Unit {0}
 StaysOpen below now (gives_up _) = below < now
 StaysOpen below now _ = ⊥
 
@@ -110,6 +112,7 @@ Inside-Became front (puts_end a) old new i d k =
 Inside-Became front (keeps text) old new i d k = Inside-same front (with_ring (reset (killed text Append old.pair.ring)) old) new k d
 Inside-Became front parts old new i d k = Inside-same front (with_changes (parted old.pair.changes) old) new (record { inner = k.inner; is = k.is; matched = k.matched }) d
 Inside-Became front (reopens a) old new i d k = Inside-same front (with_changes (reopened old.pair.changes) old) new (Inside-reopened front old.pair.changes k) d.1
+Inside-Became front (keeps_undone a) old new i d k = Inside-same front (with_changes (kept_undone old.pair.changes) old) new (Inside-kept front old.pair.changes d.0.0 k) d.1
 Inside-Became front (gives_up a) old new i d k = Inside-Abandoned front old.pair.changes new.pair.changes old.line new.line a k i d.0
 Inside-Became front _ old new i d k = absurd i
 

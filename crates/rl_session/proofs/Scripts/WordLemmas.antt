@@ -1,5 +1,5 @@
 -- The parts of a line, its one meaning, and where it says nothing.
-use Rattle.rl_session.proofs.Common.{◌≡◌, ℕ, ◌-◌, ◌^◌, List, [], ◌∷◌, ◌++◌, Option, Some, None, refl, sym, ap, subst, ◌∙◌, codes, string_bytes, ne_eqb, WordAction, SetPos, Move, Yank, Backspace, TransposeWords, EditWord, Kill, Copy, Undo, Truncate, Limit, RingSize, NamesAction, Meaning, NewText, Set, Do, RangeText, Says, no_text, part, text, pos, move, ins, part, paste, yankpop, update, str, rep, range, del, back, killline, killbuf, discline, discbuf, prevword, nextword, to, tchars, twords, cased, kill, copy, indent, dedent, begin, end, endone, reopen, abandon, undo, redo, trunc, limit, ring, mode, Means, Same, same, pastes, updates, puts_in, replaces, line_place, killrange, keep, number_of, word, rest, SpellsChar, Numbered, SpellsRest, NumberedText, SpellsNoChar, HasNoNumber, HasNoWord, HasNoAt, HasNoSearch, HasNoDirection, HasNoMovement, NamesNoMovement, SaysNoDeletion, SaysNoCommand}
+use Rattle.rl_session.proofs.Common.{◌≡◌, ℕ, ◌-◌, ◌^◌, List, [], ◌∷◌, ◌++◌, Option, Some, None, refl, sym, ap, subst, ◌∙◌, codes, string_bytes, ne_eqb, WordAction, SetPos, Move, Yank, Backspace, TransposeWords, EditWord, Kill, Copy, Undo, Truncate, Limit, RingSize, NamesAction, Meaning, NewText, Set, Do, RangeText, Says, no_text, part, text, pos, move, ins, part, paste, yankpop, update, str, rep, range, del, back, killline, killbuf, discline, discbuf, prevword, nextword, to, tchars, twords, cased, kill, copy, indent, dedent, begin, end, endone, reopen, abandon, keepundone, undo, redo, trunc, limit, ring, mode, Means, Same, same, pastes, updates, puts_in, replaces, line_place, killrange, keep, number_of, word, rest, SpellsChar, Numbered, SpellsRest, NumberedText, SpellsNoChar, HasNoNumber, HasNoWord, HasNoAt, HasNoSearch, HasNoDirection, HasNoMovement, NamesNoMovement, SaysNoDeletion, SaysNoCommand}
 use Rattle.rl_session.specs.declared.session.Command.TheVariants.{Delete}
 use Rattle.rl_session.specs.declared.settings.Setting.TheVariants.{Mode}
 use Rattle.rl_session.specs.Grammar.{yank, keeps}
@@ -42,7 +42,7 @@ RangeText-one {t = t} {d = d} p q =
     let ends = NumberedText-one p.ends (subst (λ l. NumberedText (2 ^ 64 - 1) l d t) (sym same.1) q.ends) in (same.0, ends.0, ends.1)
 
 -- the words by the function that reads them
-pub ruleset lone_words = (no_text, yankpop, keep, killline, killbuf, discline, discbuf, tchars, part, begin, end, endone, reopen, abandon, redo, line_place)
+pub ruleset lone_words = (no_text, yankpop, keep, killline, killbuf, discline, discbuf, tchars, part, begin, end, endone, reopen, abandon, keepundone, redo, line_place)
 
 pub ruleset texts = (text, paste, update, str, rep, keep, new_text, pasted, updated, put_in, replaced, kept)
 
@@ -91,6 +91,7 @@ Says-one end end = same refl
 Says-one endone endone = same refl
 Says-one reopen reopen = same refl
 Says-one abandon abandon = same refl
+Says-one keepundone keepundone = same refl
 Says-one (undo p) (undo q) = same (ap (λ x. Do (Undo x)) (some_same _ p q))
 Says-one redo redo = same refl
 Says-one (trunc p) (trunc q) = same (ap (λ x. Do (Truncate x)) (some_same _ p q))

@@ -83,6 +83,7 @@ allowed-changes old (asks.Truncate len) says.Done = tt
 allowed-changes old (asks.Undo n) (says.Answer a) = tt
 allowed-changes old asks.Redo (says.Answer a) = tt
 allowed-changes old asks.Abandon (says.Answer a) = tt
+allowed-changes old asks.KeepUndone (says.Answer a) = tt
 allowed-changes old (asks.Keep t) says.Done = tt
 allowed-changes old asks.Part says.Done = tt
 allowed-changes old asks.Reopen (says.Answer a) = tt

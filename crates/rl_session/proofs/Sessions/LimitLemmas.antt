@@ -8,7 +8,7 @@ use Rattle.rl_line.specs.Plan.{longest, longest_by, nothing, of_step, resized}
 use Rattle.rl_line.specs.Ranges.{killed}
 use Rattle.rl_line.specs.Transpositions.{clusters_around, meeting_place}
 use Rattle.rl_line.proofs.Plans.LimitLemmas.{SameLimit, SameLimit-same, after-limit, ahead-limit, back-limit, longest-front}
-use Rattle.rl_session.specs.Commands.{Step, keeps, parts, reopens, allowed, barred_course, effect_where, is_barred, is_past_limit, lent, stops, gives_up}
+use Rattle.rl_session.specs.Commands.{Step, keeps, parts, reopens, allowed, barred_course, effect_where, is_barred, is_past_limit, lent, stops, gives_up, keeps_undone}
 use Rattle.rl_session.specs.State.{HoldsLimit}
 use Rattle.rl_session.specs.declared.session.Fault.TheVariants.{NoMemory, BadPlace, TooLong}
 use Rattle.rl_session.specs.declared.session.Command.TheVariants as asks
@@ -150,6 +150,7 @@ Same-Became (puts_end a) old new u f d = SameLimit-same old.line new.line (ap (�
 Same-Became (shortens len) old new u f d = SameLimit-same old.line new.line (ap (λ (s : State). s.line) d.1)
 Same-Became (keeps text) old new u f d = SameLimit-same old.line new.line (ap (λ (s : State). s.line) d)
 Same-Became parts old new u f d = SameLimit-same old.line new.line (ap (λ (s : State). s.line) d)
+Same-Became (keeps_undone a) old new u f d = SameLimit-same old.line new.line (ap (λ (s : State). s.line) d.1)
 Same-Became (reopens a) old new u f d = SameLimit-same old.line new.line (ap (λ (s : State). s.line) d.1)
 
 abbrev AsksFits : Line → Asked → Type 0
@@ -226,6 +227,7 @@ module _ (s : State) (b : Bounds s.line) (at : s.line.cursor ≤ length s.line.t
   allowed-fits (asks.Keep t) says.Done free = tt
   allowed-fits asks.Part says.Done free = tt
   allowed-fits asks.Reopen (says.Answer a) free = tt
+  allowed-fits asks.KeepUndone (says.Answer a) free = tt
   allowed-fits command reply free = course-fits (asked s.line command) command reply (asks-fits command free)
 
   barred-fits : (what : Asked) (reply : Reply) → FitsOn s (barred_course what reply)

@@ -1,11 +1,13 @@
 -- What a command did, by what is replied to the outcome of its call.
-use Rattle.rl_session.proofs.Common.{Outcome, ToldOutcome, Bool, true, false, ◌≡◌, subst, sym, Result, Ok, Err, ℕ, Any, Option, IfOk, IfErr, OnOk, OnErr, Start, Refusal, Movement, NeedsRoom, room_by_step, Told, is_by_characters, kill_plan, Undone, steps_back, texts_back, last_of, Became, Does, lent_plan, KeepsRing, WatchHears, pair_step, pair_refused, Pair, replied, State, Kill, Undo, Yank, YankPop, Reply}
+use Rattle.rl_session.proofs.Common.{Outcome, ToldOutcome, Bool, true, false, ◌≡◌, subst, sym, Result, Ok, Err, ℕ, Any, Option, IfOk, IfErr, OnOk, OnErr, Start, Refusal, Movement, NeedsRoom, room_by_step, Told, is_by_characters, kill_plan, Undone, steps_back, texts_back, last_of, Became, Does, lent_plan, KeepsRing, WatchHears, pair_step, pair_refused, Pair, replied, State, Kill, Undo, Yank, YankPop, Reply, Record, replay_entries, IsSome, IsMatched, ap, ◌∙◌, with_changes}
 use Rattle.rl_base.specs.KillRing.{yank, yank_pop, yank_size}
 use Rattle.rl_base.specs.declared.listeners.Refusal.TheVariants as why
 use Rattle.rl_session.specs.Commands.{StandsYanked, allowed, lent, popped, popped_plan}
 use Rattle.rl_session.specs.declared.session.Reply.TheVariants as says
 use Rattle.rl_session.proofs.Sessions.PairLemmas.{Halted-pair}
 use Rattle.rl_session.proofs.Common.{arith}
+use Rattle.rl_line.specs.Units.{kept_undone, waits}
+use Rattle.rl_session.specs.declared.session.Command.TheVariants.{KeepUndone}
 
 -- what holds of a call's own state and reply holds of those that they are
 carried : (P : State → Reply → Type 0) {inside old : State} {given reply : Reply} → inside ≡ old → reply ≡ given → P inside given → P old reply
@@ -44,3 +46,11 @@ pub Undo-replied : (n : ℕ) {inside old : State} (new : State) (outcome : Resul
     → OnErr outcome (new.pair.watch ≡ inside.pair.watch) → Became (allowed old (Undo n) reply) old new
 Undo-replied n {inside} new (Ok a) v e k d t h same = carried (λ s r. Became (allowed s (Undo n) r) s new) v e (d, k, t)
 Undo-replied n {inside} new (Err w) v e k d t h same = carried (λ s r. Became (allowed s (Undo n) r) s new) v e (h.3, same_state inside new k h.1 h.2 same)
+
+-- what is kept, and where memory is out for it nothing
+pub Keep-replied : {inside old : State} (kept : Record) (outcome : Result Bool Refusal) {reply : Reply} → inside ≡ old → reply ≡ replied says.Answer outcome
+    → IsMatched inside.pair.changes.pending → IsSome (replay_entries inside.pair.changes.pending inside.line.text)
+    → IfOk outcome (λ a. (a ≡ waits inside.pair.changes.pending) × (kept ≡ kept_undone inside.pair.changes))
+    → IfErr outcome (λ w. (w ≡ why.NoMemory) × (kept ≡ inside.pair.changes) × (waits inside.pair.changes.pending ≡ true)) → Does old KeepUndone reply (with_changes kept inside)
+Keep-replied {inside} kept (Ok a) v e m f d h = carried (λ s r. Does s KeepUndone r (with_changes kept inside)) v e ((m, f, d.0), ap (λ k. with_changes k inside) d.1)
+Keep-replied {inside} kept (Err w) v e m f d h = carried (λ s r. Does s KeepUndone r (with_changes kept inside)) v e (h.2, ap (λ k. with_changes k inside) h.1)

@@ -14,6 +14,7 @@ use Rattle.rl_line.proofs.Records.RecordLemmas.{value_of}
 use Rattle.rl_line.proofs.Records.UndoLemmas.{line_ahead-replay, line_back-unwind}
 use Rattle.rl_line.proofs.Records.WalkLemmas.{Walks-truncated, Walks-Done, Walks-Halted, Walks-Redone, Walks-Undone, Walks-ahead, Walks-back, Walks-begun, Walks-closed, Walks-reopened}
 use Rattle.rl_line.proofs.Records.AbandonLemmas.{abandoned-walks}
+use Rattle.rl_line.proofs.Records.RoundLemmas.{Walks-kept}
 
 -- a text that goes into an empty line
 pub put_first : {L : Type 0} (step : L → Event → L) (line new : Line) (limit : ℕ) (text : List ℕ) (b n : L) (a : Bool) → IsUtf8 text
@@ -133,7 +134,7 @@ follows_unwind r line f = grind (arith, value_of, line_back-unwind)
 pub follows_replay : (r : Record) (line : Line) → Follows line r → IsSome (replay_entries r.pending line.text)
 follows_replay r line f = grind (arith, value_of, line_ahead-replay)
 
-pub ruleset resting = (abandoned-walks, Walks-forgotten, killing-within, Walks-begun, Walks-closed, Walks-reopened, Walks-truncated, replays-all, redone-walks, redo-fits, Walks-ahead)
+pub ruleset resting = (Walks-kept, abandoned-walks, Walks-forgotten, killing-within, Walks-begun, Walks-closed, Walks-reopened, Walks-truncated, replays-all, redone-walks, redo-fits, Walks-ahead)
 
 pub ruleset places = (range-before, range-some)
 

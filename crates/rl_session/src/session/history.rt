@@ -105,6 +105,14 @@ impl Session {
         answered(self.pair.changes.abandon_telling(&mut self.line, watch))
     }
 
+    #[tactic(auto, using(crate::proofs::Sessions::SessionLemmas::resting))]
+    pub(super) fn do_keep_undone(&mut self) -> Reply
+        ensures { Does self.old Command.KeepUndone result self.new }
+    {
+        self.follows();
+        answered(self.pair.changes.keep_undone())
+    }
+
     // What is barred has its reply here. Inlined, as the call is.
     #[inline(always)]
     pub(super) fn undo_held(&mut self, n: RepeatCount) -> Reply
