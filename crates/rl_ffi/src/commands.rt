@@ -299,6 +299,14 @@ pub extern "C" fn lodvarn_abandon_group(alloc: Global, s: &mut Handle) -> i32
     of!(s, alloc, Held::Session(session) => ask(session, &Command::Abandon))
 }
 
+/// `lodvarn_keep_undone`.
+#[unsafe(no_mangle)]
+pub extern "C" fn lodvarn_keep_undone(alloc: Global, s: &mut Handle) -> i32
+    ensures { Through a_session (asks Command.KeepUndone) s.old.value result s.new.value }
+{
+    of!(s, alloc, Held::Session(session) => ask(session, &Command::KeepUndone))
+}
+
 /// `lodvarn_end_all_groups`.
 #[unsafe(no_mangle)]
 pub extern "C" fn lodvarn_end_all_groups(alloc: Global, s: &mut Handle) -> i32
