@@ -508,11 +508,12 @@ impl Changeset {
     }
 
     /// Whether all recorded changes can be taken back from the line's text, the last first, and each cursor that was
-    /// told stands between two characters then. So an undo of any number of units can.
+    /// told stands between two characters then. So an undo of any number of units can, and an abandon.
     #[tactic(auto, using(crate::proofs::Records::LeadLemmas::leads))]
     pub fn can_undo(&self, line: &LineBuffer) -> Result<bool, Refusal>
         ensures ok { IfOk result (λ answer. answer ≡ is_some (line_back self.now.recorded line.now)) }
         ensures units { IfOk result (λ answer. answer ≡ true → (n : ℕ) → IsSome (line_back (last_of n self.now.recorded) line.now)) }
+        ensures group { IfOk result (λ answer. answer ≡ true → IsSome (line_back (open_group self.now.recorded) line.now)) }
         ensures err { IfErr result (λ r. (r ≡ NoMemory) × TriesBack self.now.recorded line.now.text) }
     {
         entries::lead(self.entries.allocator(), line, self.recorded(), Way::Back)

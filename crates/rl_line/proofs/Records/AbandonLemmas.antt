@@ -54,7 +54,7 @@ never_begun r events h =
     let now = in_group events r in
     let g : GroupOpen r.recorded w.inner now.recorded = subst (GroupOpen r.recorded w.inner) (sym w.is) (open_after r.recorded w.inner w.matched w.closed) in (
       ap (λ b. cond b (last_of (open_size now.recorded) now.recorded) []) g.opened ∙ g.unit
-      ∙ sym (ap (drop (length r.recorded)) w.is ∙ drop_at r.recorded (Begin ∷ w.inner) (length r.recorded) refl),
+          ∙ sym (ap (drop (length r.recorded)) w.is ∙ drop_at r.recorded (Begin ∷ w.inner) (length r.recorded) refl),
       ap (λ b. (cond b (redo_dropped (undone (open_size now.recorded) now)) now).recorded) g.opened ∙ g.kept,
       ap (λ b. (cond b (redo_dropped (undone (open_size now.recorded) now)) now).pending) g.opened,
     )

@@ -1,9 +1,10 @@
 -- What a question about a record answers, once it was found on a copy of the text whether a line can go over the entries.
-use Rattle.rl_line.proofs.Common.{Ahead, Back, Bool, Change, Entry, Err, IfOk, IsSome, Line, List, Ok, Refusal, Result, Tries, Way, [], ap, arith, bytes_back, entries_to_undo, entry_of, entry_to_undo, get_or, has_change, is_some, last_of, length, length-map, line_ahead, line_back, map, redo_of, refl, sym, true, ℕ, ◌+◌, ◌<◌, ◌∙◌, ◌∷◌, ◌≡◌}
+use Rattle.rl_line.proofs.Common.{Ahead, Back, Bool, Change, Entry, Err, IfOk, IsSome, Line, List, Ok, Refusal, Result, Tries, Way, [], ap, arith, bytes_back, entries_to_undo, entry_of, entry_to_undo, get_or, has_change, is_some, last_of, length, length-map, line_ahead, line_back, map, redo_of, refl, sym, true, ℕ, ◌+◌, ◌<◌, ◌∙◌, ◌∷◌, ◌≡◌, open_group}
 use Rattle.rl_line.proofs.Records.ChangeLemmas.{ahead-inverse}
 use Rattle.rl_line.proofs.Records.MoveLemmas.{redo-fits, undo-fits, GoesAs-all, marks-lead}
 use Rattle.rl_line.proofs.Records.RoomLemmas.{bytes_ahead-back}
 use Rattle.rl_line.proofs.Records.UndoLemmas.{line_back-is_some}
+use Rattle.rl_line.proofs.Records.AbandonLemmas.{abandon-fits}
 
 -- one change alone
 pub lone : (way : Way) (xs : List Change) (x : Change) → length xs ≡ 1 → x ≡ get_or xs 0 x → entries_to_undo way xs ≡ entry_to_undo way x ∷ []
@@ -30,11 +31,16 @@ pub all-units : (result : Result Bool Refusal) (es : List Entry) (line : Line) �
 all-units (Ok a) es line h = λ yes n. undo-fits n es line (sym h ∙ yes)
 all-units (Err r) es line h = h
 
+pub open-unit : (result : Result Bool Refusal) (es : List Entry) (line : Line) → IfOk result (λ a. a ≡ is_some (line_back es line))
+    → IfOk result (λ a. a ≡ true → IsSome (line_back (open_group es) line))
+open-unit (Ok a) es line h = λ yes. abandon-fits es line (sym h ∙ yes)
+open-unit (Err r) es line h = h
+
 pub next-unit : (result : Result Bool Refusal) (es : List Entry) (line : Line) → IfOk result (λ a. a ≡ is_some (line_ahead es line))
     → IfOk result (λ a. a ≡ true → IsSome (line_ahead (redo_of es) line))
 next-unit (Ok a) es line h = λ yes. redo-fits es line (sym h ∙ yes)
 next-unit (Err r) es line h = h
 
-pub ruleset leads = (all-units, next-unit)
+pub ruleset leads = (all-units, next-unit, open-unit)
 
 pub ruleset led = (lone, several, tries, GoesAs-all, marks-lead, line_back-is_some)

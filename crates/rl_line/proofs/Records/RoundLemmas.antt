@@ -21,7 +21,7 @@ marks_turned (Open ∷ us) g o fs = absurd (omega (arith, o))
 marks_turned (Whole es ∷ us) g o fs =
     subst IsSome
     (sym (ap (λ x. marks x fs) (turned-append (together us) es) ∙ marks-append (turned_all es) (turned_all (together us)) fs
-        ∙ ap (option_and_then (marks (turned_all (together us)))) (g.0.flags_turned fs)))
+    ∙ ap (option_and_then (marks (turned_all (together us)))) (g.0.flags_turned fs)))
     (marks_turned us g.1 o (touched fs))
 
 -- a unit the other way round

@@ -6,5 +6,5 @@ pub invariant_of-self-2 : goal.invariant_of-self-2
 invariant_of-self-2 c =
     let r = c.self.inside.entries in
     let now = c.in_ok-keep_undone.ensures.done
-        ∙ ap (λ n. arrived (r.recorded ++ there_and_back r.pending) [] (point_closed n (r.recorded ++ r.pending) r.saved)) (c.level-open.ensures ∙ ap level c.pending-2.ensures.entries ∙ ap (λ (k : Record). level k.pending) (sym c.self.view_is)) in
+    ∙ ap (λ n. arrived (r.recorded ++ there_and_back r.pending) [] (point_closed n (r.recorded ++ r.pending) r.saved)) (c.level-open.ensures ∙ ap level c.pending-2.ensures.entries ∙ ap (λ (k : Record). level k.pending) (sym c.self.view_is)) in
     subst (AtLevel c.self.inside.level) (sym now) (AtLevel-round c.self.inside.level r c.self.invariant)
