@@ -1,5 +1,5 @@
 -- Taking back the group that was opened last: what it makes of a record, and what stands after it.
-use Rattle.rl_line.proofs.Common.{◌≡◌, ◌⊎◌, inl, inr, ℕ, suc, not, ne_eqb, max, arith, Bool, true, false, List, [], ◌∷◌, ◌++◌, length, take, drop, Some, refl, sym, ap, subst, ◌∙◌, same_Some, cond, drop_at, append_assoc, append-nil, take-append-drop, IsUtf8, Line, Event, Entry, Begin, Record, UndoUnit, Open, Whole, IsMatched, StaysSaved, Abandoned, Undone, Walks, abandoned, has_change, in_group, is_open, kept_of, last_of, level, line_back, open_group, open_size, opens, point_kept, redo_dropped, size_to_open, together, undone, units, cond_both, IsSome, ◌<◌}
+use Rattle.rl_line.proofs.Common.{◌≡◌, ◌⊎◌, inl, inr, ℕ, suc, not, ne_eqb, max, arith, Bool, true, false, List, [], ◌∷◌, ◌++◌, length, take, drop, Some, refl, sym, ap, subst, ◌∙◌, same_Some, cond, drop_at, append_assoc, IsUtf8, Line, Event, Entry, Begin, Record, UndoUnit, Open, Whole, IsMatched, StaysSaved, Abandoned, Undone, Walks, abandoned, has_change, in_group, is_open, kept_of, last_of, level, line_back, open_group, open_size, opens, point_kept, redo_dropped, size_to_open, together, undone, units, cond_both, IsSome, ◌<◌}
 use Rattle.rl_line.proofs.Records.EndLemmas.{within, level-group}
 use Rattle.rl_line.proofs.Records.OriginLemmas.{Kept, Kept-Undone}
 use Rattle.rl_line.proofs.Records.SavedLemmas.{arrived-stays, longer, saved-undone, settles-in, told-at}

@@ -1,12 +1,12 @@
 -- Going over what was undone there and back: it ends where it began, and undos lead where redos led.
-use Rattle.rl_line.proofs.Common.{◌≡◌, ◌≤◌, ℕ, ◌+◌, suc, max, arith, Bool, true, false, List, [], ◌∷◌, ◌++◌, length, take, drop, map, reverse, Option, Some, refl, sym, ap, subst, ◌∙◌, cond_both, append-nil, append_assoc, reverse-append, reverse-reverse, take-append-le, length-reverse, option_and_then, IsSome, IsUtf8, Line, Entry, Begin, End, Changed, Record, UndoUnit, Open, Whole, AtLevel, BothMatched, IsMatched, StaysSaved, Walk, Walks, LeadsTo, arrived, closed_all, cursor_stands, cut_more, end_one, end_times, entries, event_of, flipped, inverse, kept_of, kept_undone, last_of, level, marks, opens, point_closed, replay_entries, there_and_back, together, touched, turned_all, units, unwind, waits, None, cond, drop_at, length-map, next_of, take-append-drop, take-map, ◌<◌}
+use Rattle.rl_line.proofs.Common.{◌≡◌, ◌≤◌, ℕ, max, arith, Bool, true, List, [], ◌∷◌, ◌++◌, length, take, drop, map, reverse, Option, Some, refl, sym, ap, subst, ◌∙◌, cond_both, append-nil, append_assoc, reverse-append, take-append-le, length-reverse, option_and_then, IsSome, IsUtf8, Line, Entry, Begin, End, Changed, Record, UndoUnit, Open, Whole, AtLevel, BothMatched, IsMatched, StaysSaved, Walk, Walks, LeadsTo, arrived, closed_all, cursor_stands, cut_more, event_of, flipped, inverse, kept_of, kept_undone, last_of, level, marks, opens, point_closed, replay_entries, there_and_back, together, touched, turned_all, units, unwind, waits, None, cond, drop_at, length-map, next_of, take-append-drop, take-map, ◌<◌}
 use Rattle.rl_base.specs.Event.{apply}
 use Rattle.rl_line.proofs.Records.LastLemmas.{end_times-keeps, map-reverse}
 use Rattle.rl_line.proofs.Records.LevelLemmas.{level-append}
 use Rattle.rl_line.proofs.Records.MatchLemmas.{Lower-end_times}
-use Rattle.rl_line.proofs.Records.RecordLemmas.{inverse-inverse, inverse-undoes, then_both, unwind-append, unwind-replay, value_of, replay-append, replay-unwind}
+use Rattle.rl_line.proofs.Records.RecordLemmas.{inverse-inverse, inverse-undoes, unwind-append, unwind-replay, value_of, replay-append, replay-unwind}
 use Rattle.rl_line.proofs.Records.SavedLemmas.{told-at, StaysIn, arrived-stays, closed-in, longer, stays-in}
-use Rattle.rl_line.proofs.Records.UnitLemmas.{AllGood, AllGood-append, AllGood-reverse, IsMatched-append, cut_more-append, marks-append, on, together-append, together-reverse, together-units, turned-append, units-append, units-good, opens-append, opens-reverse}
+use Rattle.rl_line.proofs.Records.UnitLemmas.{AllGood, IsMatched-append, cut_more-append, marks-append, on, together-reverse, together-units, turned-append, units-append, units-good, opens-append, opens-reverse}
 use Rattle.rl_line.proofs.Records.WalkLemmas.{Walk-append, Walk-end_one, Walk-IsUtf8}
 use Rattle.rl_base.proofs.Texts.SwapLemmas.{apply-IsUtf8}
 use Rattle.rl_line.proofs.Records.MarkLemmas.{replay-end_one}
@@ -93,9 +93,6 @@ AtLevel-round n r a = record {
 -- a fact of a record that holds of it and of the one that goes there and back
 pub kept-either : (P : Record → Type 0) (r : Record) → P r → P (round r) → P (kept_undone r)
 kept-either P r h k = cond_both (waits r.pending) (round r) r P (λ _. k) (λ _. h)
-
-pub AtLevel-kept : (n : ℕ) (r : Record) → AtLevel n r → AtLevel n (kept_undone r)
-AtLevel-kept n r a = kept-either (AtLevel n) r a (AtLevel-round n r a)
 
 -- ---- the text ends where it began
 lead_turned : (e : Entry) (x y : List ℕ) → IsUtf8 x → LeadsTo e x y → LeadsTo (flipped (inverse e)) y x

@@ -1,5 +1,5 @@
 -- The save point of a record: it stays as long as the entries before it do.
-use Rattle.rl_line.proofs.Common.{[], take_all, Begin, Bool, Cursors, End, Entry, Event, List, None, Option, Parted, Record, SavedAt, Some, Stale, StaysSaved, after, ap, append-nil, append_assoc, arith, arrived, begun, close, cond, cond_both, drop, end_one, end_times, ends_in_end, entries, entries_after, eqb-true, false, fits, freshness_added, freshness_at, freshness_of, freshness_told, inl, inr, is_at, is_parted, is_saved, kept_of, kept_point, last_of, last_told, le-leb, leb-false, leb-true, length, length-append, length-take, nat_le, parted, point_closed, point_kept, point_past, redo_of, redone, refl, reopened, saved_here, subst, suc, sym, take, take-append-drop, take-append-le, true, truncated, undone, with_closed, with_cursors, zero, ℕ, ◌++◌, ◌+◌, ◌-◌, ◌<◌, ◌==◌, ◌∙◌, ◌∷◌, ◌≡◌, ◌≤◌, ◌⊎◌}
+use Rattle.rl_line.proofs.Common.{[], take_all, Begin, Bool, Cursors, End, Entry, Event, List, None, Option, Parted, Record, SavedAt, Some, Stale, StaysSaved, ap, append-nil, append_assoc, arith, arrived, begun, cond, cond_both, drop, end_one, end_times, ends_in_end, eqb-true, false, freshness_added, freshness_at, freshness_told, inl, inr, is_at, is_parted, is_saved, kept_of, kept_point, last_of, last_told, le-leb, leb-false, leb-true, length, length-append, length-take, nat_le, parted, point_closed, point_kept, point_past, redo_of, redone, refl, reopened, saved_here, subst, suc, sym, take, take-append-drop, take-append-le, true, truncated, undone, with_closed, with_cursors, zero, ℕ, ◌++◌, ◌+◌, ◌-◌, ◌<◌, ◌==◌, ◌∙◌, ◌∷◌, ◌≡◌, ◌≤◌, ◌⊎◌}
 use Rattle.std.proofs.lemmas.Bool.{eq-eqb}
 use Rattle.rl_line.specs.Record.{record_step, entries_of}
 use Rattle.rl_line.proofs.Records.JoinLemmas.{heard, step-Cursors, step-cases, told-stale}

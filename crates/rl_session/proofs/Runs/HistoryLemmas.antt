@@ -11,7 +11,7 @@ use Rattle.rl_line.proofs.Records.UnitLemmas.{kept-last}
 use Rattle.rl_session.specs.Commands.{keeps, parts, reopens}
 use Rattle.rl_line.specs.Record.{StaysSaved, is_saved, parted}
 use Rattle.rl_line.proofs.Records.SavedLemmas.{saved-back, saved-begun, saved-closed, saved-marked, saved-parted, saved-redone, saved-reopened, saved-step, saved-truncated, saved-undone}
-use Rattle.rl_line.specs.Units.{reopened, kept_undone, there_and_back}
+use Rattle.rl_line.specs.Units.{reopened, there_and_back}
 use Rattle.rl_session.specs.State.{Begins, saved_now}
 use Rattle.rl_base.specs.KillRing.{killed}
 use Rattle.rl_session.specs.declared.session.Reply.TheVariants as says

@@ -1,5 +1,5 @@
 -- Where the limit holds, no command raises it.
-use Rattle.rl_session.proofs.Common.{Asked, BackwardChar, BackwardWord, Became, BeginningOfBuffer, BeginningOfLine, Bool, Came, Command, Course, Direction, Effect, EndOfBuffer, EndOfLine, ForwardChar, ForwardWord, InsertChar, InsertStr, IsUtf8, Line, List, None, Option, Plan, Range, Reply, Run, Some, Start, State, Takes, Telling, ViCharSearch, [], answers, ap, arith, asked, by_steps, course_of, drop, edit, edit_course, edits, effect, encode_utf8, eqb-true, false, goes, hands_out, if◌then◌else◌, inl, inr, insert_plan, inserts, is_done, last_of, leb-true, lends, length, length-append, length-between, length-drop, length-take, lent_plan, max, nat_le, nat_lt, never, not, option_and_then, other, other_course, pair_step, popped, popped_plan, pops, pulled_back, puts_again, puts_begin, puts_end, puts_ends, readied, redo_of, refl, removal, remove_range, repeat, rules, shortens, side_of, slice_range, stays, stepped, string_bytes, subst, suc, sym, take, takes_back, tells, told_as, true, unless_empty, update_plan, when, yank_plan, yank_pop, zero, ℕ, ◌&&◌, ◌*◌, ◌++◌, ◌+◌, ◌-◌, ◌==◌, ◌||◌, ◌∙◌, ◌∷◌, ◌≡◌, ◌≤◌}
+use Rattle.rl_session.proofs.Common.{Asked, BackwardChar, BackwardWord, Became, BeginningOfBuffer, BeginningOfLine, Bool, Came, Command, Course, Direction, Effect, EndOfBuffer, EndOfLine, ForwardChar, ForwardWord, InsertChar, InsertStr, IsUtf8, Line, List, None, Option, Plan, Range, Reply, Run, Some, Start, State, Takes, Telling, ViCharSearch, answers, ap, arith, asked, by_steps, course_of, drop, edit, edit_course, edits, effect, encode_utf8, eqb-true, false, goes, hands_out, if◌then◌else◌, inl, inr, insert_plan, inserts, is_done, last_of, leb-true, lends, length, length-append, length-between, length-drop, length-take, lent_plan, max, nat_le, nat_lt, never, not, option_and_then, other, other_course, pair_step, popped, popped_plan, pops, pulled_back, puts_again, puts_begin, puts_end, puts_ends, readied, redo_of, refl, removal, remove_range, repeat, rules, shortens, side_of, slice_range, stays, stepped, string_bytes, subst, suc, take, takes_back, tells, told_as, true, unless_empty, update_plan, when, yank_plan, yank_pop, zero, ℕ, ◌&&◌, ◌*◌, ◌+◌, ◌-◌, ◌==◌, ◌||◌, ◌∙◌, ◌∷◌, ◌≡◌, ◌≤◌}
 use Rattle.rl_line.proofs.Common.{greatest_boundary, is_boundary, ltb-false}
 use Rattle.rl_base.specs.KillRing.{yank}
 use Rattle.rl_line.specs.Change.{greatest_ahead_over, greatest_back_over}

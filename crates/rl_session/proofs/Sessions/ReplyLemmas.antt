@@ -1,5 +1,5 @@
 -- What a command did, by what is replied to the outcome of its call.
-use Rattle.rl_session.proofs.Common.{Outcome, ToldOutcome, Bool, true, false, ◌≡◌, subst, sym, Result, Ok, Err, ℕ, Any, Option, IfOk, IfErr, OnOk, OnErr, Start, Refusal, Movement, NeedsRoom, room_by_step, Told, is_by_characters, kill_plan, Undone, steps_back, texts_back, last_of, Became, Does, lent_plan, KeepsRing, WatchHears, pair_step, pair_refused, Pair, replied, State, Kill, Undo, Yank, YankPop, Reply, Record, replay_entries, IsSome, IsMatched, ap, ◌∙◌, with_changes}
+use Rattle.rl_session.proofs.Common.{Outcome, ToldOutcome, Bool, true, false, ◌≡◌, subst, sym, Result, Ok, Err, ℕ, Any, Option, IfOk, IfErr, OnOk, OnErr, Start, Refusal, Movement, NeedsRoom, room_by_step, Told, is_by_characters, kill_plan, Undone, steps_back, texts_back, last_of, Became, Does, lent_plan, KeepsRing, WatchHears, pair_step, pair_refused, Pair, replied, State, Kill, Undo, Yank, YankPop, Reply, Record, replay_entries, IsSome, IsMatched, ap, with_changes}
 use Rattle.rl_base.specs.KillRing.{yank, yank_pop, yank_size}
 use Rattle.rl_base.specs.declared.listeners.Refusal.TheVariants as why
 use Rattle.rl_session.specs.Commands.{StandsYanked, allowed, lent, popped, popped_plan}

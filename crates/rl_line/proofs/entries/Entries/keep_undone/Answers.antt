@@ -1,4 +1,4 @@
-use Rattle.rl_line.proofs.Common.{Record, arith, ap, map, entry_of, end_times, flipped, inverse, point_closed, reverse, sym, ◌∙◌, ◌++◌, length, length-map}
+use Rattle.rl_line.proofs.Common.{Record, arith, ap, map, entry_of, end_times, flipped, inverse, point_closed, reverse, ◌∙◌, ◌++◌, length-map}
 use Rattle.rl_line.proofs.Records.KeepLemmas.{few-open, kept-view}
 use Rattle.rl_line.proofs.entries.Entries.keep_undone.Goals as goal
 
