@@ -449,7 +449,8 @@ int lodvarn_indent(lodvarn *s, lodvarn_movement movement, uint8_t amount, enum l
 
 /* Parts what comes from what was done: the next change joins no other, so that it is undone alone, the next kill begins
  * a new text of the ring, and lodvarn_yank_pop finds nothing. Text, cursor, groups and what was undone stay. A change
- * of nothing leaves it so; an undo, a redo, lodvarn_truncate and the begin, end or abandon of a group take it back. */
+ * of nothing leaves it so; an undo, a redo, lodvarn_keep_undone, lodvarn_truncate and the begin, end or abandon of a
+ * group take it back. */
 int lodvarn_part(lodvarn *s);
 
 /* Says that the text is saved as it is. The next change is undone alone, so that an undo may come back to it. No
@@ -489,6 +490,13 @@ int lodvarn_undo(lodvarn *s, size_t n);
 /* Redoes what was undone last, one change or group. Returns NOTHING if there is none. Errors: NO_ROOM as for an
  * undo, NO_MEMORY. */
 int lodvarn_redo(lodvarn *s);
+
+/* Keeps what was undone, which the next edit or group would forget: it is recorded again as it was, but that its open
+ * groups are closed, and then the inverse of each of its changes and groups, the last first. Text and cursor stay, and
+ * nothing can be redone. So an undo of n goes to where n redos would have gone, as many undos more come back, and those
+ * after them go on to what was recorded before. A bound counts all of these, and so does lodvarn_is_saved: only undos
+ * come back to the save. Returns NOTHING if nothing was undone, and the record stays. Errors: NO_MEMORY. */
+int lodvarn_keep_undone(lodvarn *s);
 
 /* Keeps the first entries of the record, as many as the argument says, and forgets the others and what was undone. The
  * kept ones must lead to the present text. Errors: NOT_REPLAYING if they do not, NO_MEMORY. */

@@ -687,7 +687,7 @@ class Session:
         """Parts what comes from what was done: the next change is undone alone, and the next kill begins a new text.
 
         Text, cursor, groups and what was undone stay. A change of nothing between leaves it so; an undo, a redo,
-        `truncate` and the begin, end or abandon of a group take it back.
+        `keep_undone`, `truncate` and the begin, end or abandon of a group take it back.
         """
         self._do(lib.py_part)
 
@@ -752,6 +752,15 @@ class Session:
     def redo(self) -> bool:
         """Redoes what was undone last, one change or group. Returns False if there is none."""
         return self._do(lib.py_redo)
+
+    def keep_undone(self) -> bool:
+        """Keeps what was undone, which the next edit or group would forget, so that undos come to it.
+
+        It is recorded again, and then the inverse of each of its changes and groups, the last first. Text and cursor
+        stay, and nothing can be redone. Then an undo of n goes to where n redos would have gone, as many undos more
+        come back, and those after them go on to what was recorded before. Returns False if nothing was undone.
+        """
+        return self._do(lib.py_keep_undone)
 
     def truncate(self, entries: int) -> None:
         """Keeps the first `entries` entries of the record, and forgets the others and what was undone.

@@ -294,6 +294,9 @@ extern "C" {
     pub fn lodvarn_redo(s: *mut lodvarn) -> ::std::os::raw::c_int;
 }
 extern "C" {
+    pub fn lodvarn_keep_undone(s: *mut lodvarn) -> ::std::os::raw::c_int;
+}
+extern "C" {
     pub fn lodvarn_truncate(s: *mut lodvarn, entries: usize) -> ::std::os::raw::c_int;
 }
 extern "C" {

@@ -88,7 +88,8 @@ impl Session {
 
     /// Parts what comes from what was done: the next change joins no other, so that it is undone alone, and the next kill
     /// begins a new text of the ring. Text, cursor, groups and what was undone stay. A change of nothing between leaves it
-    /// so; an undo, a redo, [`truncate`](Session::truncate) and the begin, end or abandon of a group take it back.
+    /// so; an undo, a redo, [`keep_undone`](Session::keep_undone), [`truncate`](Session::truncate) and the begin, end or
+    /// abandon of a group take it back.
     ///
     /// ```
     /// # use lodvarn::{Fault, Session};
@@ -193,6 +194,30 @@ methods! {
     ///
     /// [`Fault::NoRoom`] as for an undo; [`Fault::NoMemory`].
     pub fn redo(&mut self) -> Result<bool, Fault> = found(lodvarn_redo());
+
+    /// Keeps what was undone, which the next edit or group would forget, so that undos come to it: it is recorded again,
+    /// and then the inverse of each of its changes and groups, the last first. Text and cursor stay, and nothing can be
+    /// redone. Then an undo of n goes to where n redos would have gone, as many undos more come back, and those after
+    /// them go on to what was recorded before. False if nothing was undone.
+    ///
+    /// ```
+    /// # use lodvarn::{Fault, Session};
+    /// # fn main() -> Result<(), Fault> {
+    /// let mut session = Session::builder().open()?;
+    /// session.paste("one", 1)?;
+    /// session.undo(1)?;
+    /// session.keep_undone()?;
+    /// session.paste("two", 1)?;
+    /// session.undo(2)?;
+    /// assert_eq!(session.text(), "one");
+    /// # Ok(())
+    /// # }
+    /// ```
+    ///
+    /// # Errors
+    ///
+    /// [`Fault::NoMemory`].
+    pub fn keep_undone(&mut self) -> Result<bool, Fault> = found(lodvarn_keep_undone());
 
     /// Keeps the first `entries` entries of the record, and forgets the others and what was undone.
     ///

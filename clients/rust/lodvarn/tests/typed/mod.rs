@@ -209,6 +209,7 @@ fn truth(s: &mut Session, name: &str, rest: &mut Words) -> Result<String, Fault>
         "endone" => s.end_group(),
         "reopen" => Ok(s.reopen_group()),
         "abandon" => s.abandon_group(),
+        "keepundone" => s.keep_undone(),
         "case" => {
             let cases = [Case::Capitalize, Case::Lowercase, Case::Uppercase];
             s.change_case(rest.one_of("cap low up", &cases))
