@@ -124,7 +124,7 @@ static int run_command(void) {
     case 33: return lodvarn_keep(s, text, size);
     case 34: return bound();
     case 35: return below(2) ? lodvarn_part(s) : lodvarn_reopen_group(s);
-    case 36: return lodvarn_abandon_group(s);
+    case 36: return below(2) ? lodvarn_keep_undone(s) : lodvarn_abandon_group(s);
     default: return lodvarn_insert(s, c, n);
     }
 }

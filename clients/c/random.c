@@ -132,7 +132,7 @@ static void see_ring(struct typed *t) {
 /* Any other line. */
 static void add_other(struct typed *t) {
     static const char *const plain[] = {"tchars", "begin", "begin", "end", "endone", "endone", "part", "redo",
-                                        "redo", "reopen", "abandon", "where"};
+                                        "redo", "reopen", "abandon", "keepundone", "keepundone", "where"};
     static const char *const cases[] = {"cap", "low", "up"};
     switch (below(15)) {
     case 14: add_yank_pop(t); break;

@@ -103,6 +103,7 @@ static int step(unsigned which) {
     CALL(lodvarn_delete_by(s, lodvarn_words_back(LODVARN_VI, 1)));
     CALL(lodvarn_undo(s, 2));
     CALL(lodvarn_redo(s));
+    CALL(lodvarn_keep_undone(s));
     STEPS(lodvarn_set_text(s, 3, "one two", 7));
     CALL(lodvarn_delete_by(s, lodvarn_words_forward(LODVARN_BIG, LODVARN_AFTER_END, 1)));
     CALL(lodvarn_delete_by(s, lodvarn_search_for(LODVARN_BACK_TO, 'o', 1)));
@@ -122,6 +123,10 @@ static int step(unsigned which) {
     CALL(lodvarn_end_group(s));
     CALL(lodvarn_reopen_group(s));
     CALL(lodvarn_abandon_group(s));
+    CALL(lodvarn_begin_group(s));
+    CALL(lodvarn_replace(s, range(0, 1), "é", 2));
+    CALL(lodvarn_undo(s, 3));
+    CALL(lodvarn_keep_undone(s));
     return NO_MORE;
 }
 

@@ -431,6 +431,28 @@ static void groups_are_abandoned(void) {
     DOES(DONE, lodvarn_undo(s, 1), "one two|");
 }
 
+static void what_was_undone_is_kept(void) {
+    open_at("one two|", 64);
+    DOES(NOTHING, lodvarn_keep_undone(s), "one two|");
+    lodvarn_kill(s, WORD_BACK), lodvarn_begin_group(s), lodvarn_insert(s, '-', 1), lodvarn_insert(s, '+', 1);
+    DOES(DONE, lodvarn_undo(s, 4), "one two|#two");
+    DOES(DONE, lodvarn_keep_undone(s), "one two|#two");
+    DOES(NOTHING, lodvarn_keep_undone(s), "one two|#two");
+    SEE(lodvarn_entries(s) == 10 && !lodvarn_level(s) && !lodvarn_can_redo(s));
+    lodvarn_set_pos(s, 0), lodvarn_insert(s, '*', 1);
+    DOES(DONE, lodvarn_undo(s, 2), "one |#two");
+    DOES(DONE, lodvarn_undo(s, 1), "one -+|#two");
+    DOES(DONE, lodvarn_undo(s, 1), "one |#two");
+    DOES(DONE, lodvarn_undo(s, 1), "one two|#two");
+    DOES(NOTHING, lodvarn_undo(s, 1), "one two|#two");
+    open_at("|", 64);
+    SET(max_entries, 2);
+    lodvarn_insert(s, '-', 1), lodvarn_insert(s, '+', 1), lodvarn_undo(s, 1);
+    SEE(lodvarn_keep_undone(s) == LODVARN_DONE && lodvarn_entries(s) == 2);
+    DOES(DONE, lodvarn_undo(s, 1), "-+|");
+    DOES(DONE, lodvarn_undo(s, 9), "-|");
+}
+
 static void options_take_effect(void) {
     open_at("abcd\nefg|h", 64);
     DOES(DONE, SET(prompt, 2), "abcd\nefg|h");
@@ -1309,6 +1331,7 @@ static const struct reported {
     {{"back 1", "pos 2"}, "undo 1", 8, 64, "REPLACED 6 0 1 2 7 o\n"},
     {{"pos 3", "ins 1 x", "rep 0 1 O"}, "undo 2", 8, 64, "REPLACED 0 1 1 1 4 Oo\nREPLACED 3 1 0 4 3 x\n"},
     {{"begin", "ins 1 x", "rep 0 1 O"}, "abandon", 8, 64, "REPLACED 0 1 1 1 8 Oo\nREPLACED 7 1 0 8 7 x\n"},
+    {{"ins 1 x", "undo 1"}, "keepundone;undo 1", 8, 64, "REPLACED 7 0 1 7 8 x\n"},
     {{0}, "move home", 8, 64, ""},
     {{0}, "kill eol", 8, 1, KILL("")},
     {{0}, "kill eol", 8, 0, "FOLDED 0 0 0 0 0 \n"},
@@ -1437,6 +1460,7 @@ int main(void) {
     a_saved_text_comes_back();
     groups_are_closed();
     groups_are_abandoned();
+    what_was_undone_is_kept();
     options_take_effect();
     widths_are_measured();
     clusters_are_found();

@@ -240,6 +240,14 @@ static int redo(lodvarn *s) {
     return answer;
 }
 
+/* It finds what a redo would find, or a begin alone, and leaves nothing to redo. */
+static int keep_undone(lodvarn *s) {
+    size_t level = lodvarn_level(s);
+    int asked = lodvarn_can_redo(s), answer = lodvarn_keep_undone(s);
+    see("keepundone", answer < 0 || (answer >= asked && !lodvarn_can_redo(s) && lodvarn_level(s) == level));
+    return answer;
+}
+
 static int where(lodvarn *s) {
     int answer = lodvarn_set_pos(s, lodvarn_pos(s));
     see("where", lodvarn_find_cursor(s, &cursor) == LODVARN_DONE);
@@ -287,6 +295,7 @@ enum reply { OK, TRUTH, AT_END, TEXT, MARK, AT };
     ROW(abandon, TRUTH, "", abandon(s))                                                                \
     ROW(undo, TRUTH, "N", undo(s, g->n))                                                               \
     ROW(redo, TRUTH, "", redo(s))                                                                      \
+    ROW(keepundone, TRUTH, "", keep_undone(s))                                                         \
     ROW(trunc, OK, "N", lodvarn_truncate(s, g->n))                                                     \
     ROW(pos, OK, "N", lodvarn_set_pos(s, g->n))                                                        \
     ROW(where, AT, "", where(s))
