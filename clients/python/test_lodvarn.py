@@ -271,6 +271,22 @@ class Groups(Scripts):
         self.assertEqual((session.level, session.entries, session.can_redo, session.ring), (0, 0, False, ["two"]))
         self.assertFalse(session.abandon_group())
 
+    def test_what_was_undone_is_kept(self):
+        session = Session("né")
+        self.assertFalse(session.keep_undone())
+        session.begin_group()
+        session.paste("日本")
+        session.undo(2)
+        self.assertTrue(session.keep_undone())
+        self.stands(session, "né", 2)
+        self.assertEqual((session.level, session.entries, session.can_redo), (0, 6, False))
+        session.insert("!")
+        session.undo(2)
+        self.stands(session, "né日本", 4)
+        session.undo()
+        self.stands(session, "né", 2)
+        self.assertEqual((session.entries, session.undo()), (0, False))
+
     def test_it_hides_no_exception(self):
         session = Session("")
         with mock.patch.object(Session, "end_group", side_effect=lodvarn.NoMemoryError):
@@ -286,6 +302,7 @@ class Groups(Scripts):
             ("all are ended", lambda it: it.end_all_groups(), 0),
             ("it is abandoned", lambda it: it.abandon_group(), 1),
             ("and what was before it is undone", lambda it: it.undo(3), 0),
+            ("its begin is undone, and kept", lambda it: (it.insert("b"), it.undo(2), it.keep_undone()), 1),
             ("it is forgotten", lambda it: it.truncate(2), 1),
             ("all is begun anew", lambda it: it.restart("x"), 0),
         ]:

@@ -183,6 +183,26 @@ fn a_guard_closes_what_was_begun_in_it_alone() -> Result<(), Fault> {
 }
 
 #[test]
+fn what_was_undone_is_kept() -> Result<(), Fault> {
+    let mut session = opened("né");
+    session.begin_group()?;
+    session.paste("日本", 1)?;
+    session.undo(2)?;
+    let answers = [session.keep_undone(), session.keep_undone()];
+    assert_eq!(answers, [Ok(true), Ok(false)]);
+    stands(&session, "né", 3);
+    let seen = (session.level(), session.entries(), session.can_redo());
+    assert_eq!(seen, (0, 6, false));
+    session.insert('!', 1)?;
+    session.undo(2)?;
+    stands(&session, "né日本", 9);
+    session.undo(1)?;
+    stands(&session, "né", 3);
+    assert_eq!((session.entries(), session.undo(1)), (0, Ok(false)));
+    Ok(())
+}
+
+#[test]
 fn a_guard_closes_its_group_where_a_thread_panics() -> Result<(), Fault> {
     let mut session = opened("");
     let caught = catch_unwind(AssertUnwindSafe(|| {
