@@ -45,7 +45,18 @@ fn the_oldest_changes_are_forgotten(rt: HostRuntime) -> Result<(), Fail> {
         (Call::Forget(1, 2), 1, "axyzd", 4, 0, 0),
         (Call::Undo(1), 0, "axyzd", 4, 0, 0),
     ];
-    goes(&rt, rt.alloc(), "abcd", BYTES)
+    goes(&rt, rt.alloc(), "abcd", BYTES)?;
+    // what was undone and is kept counts too
+    const KEPT: &[Step] = &[
+        (Call::Yank("a"), 1, "a", 1, 1, 0),
+        (Call::Yank("b"), 1, "ab", 2, 2, 0),
+        (Call::Undo(1), 1, "a", 1, 1, 0),
+        (Call::KeepUndone, 1, "a", 1, 3, 0),
+        (Call::Forget(2, ANY), 1, "a", 1, 2, 0),
+        (Call::Undo(1), 1, "ab", 2, 1, 0),
+        (Call::Undo(9), 1, "a", 1, 0, 0),
+    ];
+    goes(&rt, rt.alloc(), "", KEPT)
 }
 
 #[test]

@@ -82,6 +82,7 @@ pub(crate) enum Call {
     EndOne,
     Reopen,
     Abandon,
+    KeepUndone,
     Truncate(usize),
     HasUndo,
     HasRedo,
@@ -182,6 +183,7 @@ pub(crate) fn make(
         Call::EndOne => truth(record.end_one()),
         Call::Reopen => Ok(usize::from(record.reopen())),
         Call::Abandon => truth(abandon(rt, line, record)),
+        Call::KeepUndone => truth(record.keep_undone()),
         Call::Truncate(len) => {
             record.truncate(len);
             Ok(1)
@@ -321,6 +323,45 @@ fn a_record_comes_back_to_its_save(rt: HostRuntime) -> Result<(), Fail> {
     goes(&rt, rt.alloc(), "", GROUPS)
 }
 
+#[test]
+fn undos_come_to_a_save_that_was_undone(rt: HostRuntime) -> Result<(), Fail> {
+    const STEPS: &[Step] = &[
+        (Call::Insert('a', 1), 1, "a", 1, 1, 0),
+        (Call::SetSaved, 1, "a", 1, 1, 0),
+        (Call::Insert('-', 1), 1, "a-", 2, 2, 0),
+        (Call::Undo(2), 1, "", 0, 0, 0),
+        (Call::KeepUndone, 1, "", 0, 4, 0),
+        (Call::IsSaved, 0, "", 0, 4, 0),
+        // the same text on the way there is not the one that was saved
+        (Call::Undo(1), 1, "a", 1, 3, 0),
+        (Call::IsSaved, 0, "a", 1, 3, 0),
+        (Call::Undo(2), 1, "a", 1, 1, 0),
+        (Call::IsSaved, 1, "a", 1, 1, 0),
+        // the record goes past its save where something is kept
+        (Call::KeepUndone, 1, "a", 1, 7, 0),
+        (Call::IsSaved, 0, "a", 1, 7, 0),
+        (Call::Undo(6), 1, "a", 1, 1, 0),
+        (Call::IsSaved, 1, "a", 1, 1, 0),
+        // a save in a group that is kept closed
+        (Call::Begin, 1, "a", 1, 2, 1),
+        (Call::Yank("b"), 1, "ab", 2, 3, 1),
+        (Call::SetSaved, 1, "ab", 2, 3, 1),
+        (Call::Undo(2), 1, "a", 1, 1, 0),
+        (Call::KeepUndone, 1, "a", 1, 7, 0),
+        (Call::Undo(1), 1, "ab", 2, 4, 0),
+        (Call::Reopen, 1, "ab", 2, 3, 1),
+        (Call::IsSaved, 1, "ab", 2, 3, 1),
+        // and one after a begin that is removed
+        (Call::Begin, 3, "ab", 2, 4, 2),
+        (Call::SetSaved, 1, "ab", 2, 4, 2),
+        (Call::Undo(1), 0, "ab", 2, 3, 1),
+        (Call::KeepUndone, 1, "ab", 2, 3, 1),
+        (Call::Yank("c"), 1, "abc", 3, 4, 1),
+        (Call::IsSaved, 0, "abc", 3, 4, 1),
+    ];
+    goes(&rt, rt.alloc(), "", STEPS)
+}
+
 // Makes two changes, and undoes the second.
 fn go_back(
     rt: &impl Abort,
@@ -360,6 +401,7 @@ fn other_calls_drop_what_was_undone(rt: HostRuntime) -> Result<(), Fail> {
             false,
         ),
         ("an abandon where no group is open", Call::Abandon, true),
+        ("a call that keeps it for undos", Call::KeepUndone, false),
         ("whether a redo would find it", Call::HasRedo, true),
         ("a truncation that cuts nothing", Call::Truncate(1), false),
         ("an insertion of nothing, not told", Call::Yank(""), true),

@@ -1,5 +1,6 @@
 //! The groups of a record and its units, with answers that were worked out by hand.
-use crate::undo::{Call, Event, Step, goes};
+use crate::line_buffer::line_of;
+use crate::undo::{Call, Event, Step, goes, takes};
 use std::alloc::Global;
 use std::test::Fail;
 
@@ -143,6 +144,100 @@ fn the_last_group_is_abandoned(rt: HostRuntime) -> Result<(), Fail> {
         (Call::Undo(1), 1, "abc", 3, 1, 0),
     ];
     goes(&rt, rt.alloc(), "", STEPS)
+}
+
+#[test]
+fn undos_lead_where_redos_led(rt: HostRuntime) -> Result<(), Fail> {
+    // an insertion, a deletion and a replacement, each with its cursors, there and back
+    const CHANGES: &[Step] = &[
+        (Call::KeepUndone, 0, "abcd", 2, 0, 0),
+        (Call::Back(1), 1, "acd", 1, 1, 0),
+        (Call::Yank("zz"), 0, "azzcd", 3, 2, 0),
+        (Call::Replace(3, 5, "Y"), 1, "azzY", 4, 3, 0),
+        (Call::Undo(2), 1, "acd", 1, 1, 0),
+        (Call::KeepUndone, 1, "acd", 1, 5, 0),
+        (Call::Redo, 0, "acd", 1, 5, 0),
+        (Call::Undo(1), 1, "azzcd", 3, 4, 0),
+        (Call::Undo(1), 1, "azzY", 4, 3, 0),
+        // and all of them again, with what was undone of them
+        (Call::Undo(3), 1, "abcd", 2, 0, 0),
+        (Call::KeepUndone, 1, "abcd", 2, 10, 0),
+        (Call::Undo(1), 1, "acd", 1, 9, 0),
+        (Call::Undo(2), 1, "azzY", 4, 7, 0),
+        (Call::Undo(2), 1, "acd", 1, 5, 0),
+        // on to what was recorded before
+        (Call::Undo(3), 1, "azzcd", 3, 2, 0),
+        (Call::Undo(2), 1, "abcd", 2, 0, 0),
+        // redos go there and back
+        (Call::Redo, 1, "acd", 1, 1, 0),
+        (Call::Redo, 1, "azzcd", 3, 2, 0),
+        (Call::Redo, 1, "azzY", 4, 3, 0),
+        (Call::Redo, 1, "azzcd", 3, 4, 0),
+        (Call::Redo, 1, "acd", 1, 5, 0),
+    ];
+    let mut line = line_of(&rt, rt.alloc(), "abcd", 2)?;
+    takes(&rt, &mut line, rt.alloc(), CHANGES)?;
+    // what was told no cursors goes past the text that comes, as a redo does
+    const UNTOLD: &[Step] = &[
+        (
+            Call::Told(Event::Replacement(1, "ello", "i")),
+            1,
+            "Hi",
+            2,
+            1,
+            0,
+        ),
+        (Call::Undo(1), 1, "Hello", 5, 0, 0),
+        (Call::KeepUndone, 1, "Hello", 5, 2, 0),
+        (Call::Undo(1), 1, "Hi", 2, 1, 0),
+        (Call::Undo(1), 1, "Hello", 5, 0, 0),
+    ];
+    goes(&rt, rt.alloc(), "Hi", UNTOLD)
+}
+
+#[test]
+fn kept_groups_are_closed(rt: HostRuntime) -> Result<(), Fail> {
+    const CLOSED: &[Step] = &[
+        (Call::Yank("a"), 1, "a", 1, 1, 0),
+        (Call::Begin, 1, "a", 1, 2, 1),
+        (Call::Yank("b"), 1, "ab", 2, 3, 1),
+        (Call::Replace(0, 1, "xy"), 1, "xyb", 2, 4, 1),
+        (Call::EndOne, 1, "xyb", 2, 5, 0),
+        (Call::Yank("-"), 0, "xy-b", 3, 6, 0),
+        (Call::Undo(2), 1, "a", 1, 1, 0),
+        (Call::KeepUndone, 1, "a", 1, 11, 0),
+        (Call::Undo(1), 1, "xyb", 2, 7, 0),
+        (Call::Undo(1), 1, "xy-b", 3, 6, 0),
+        (Call::Undo(2), 1, "a", 1, 1, 0),
+        (Call::Undo(1), 1, "", 0, 0, 0),
+    ];
+    goes(&rt, rt.alloc(), "", CLOSED)?;
+    // two open ones, of which the inner has nothing, in one that stays open
+    const OPEN: &[Step] = &[
+        (Call::Begin, 0, "", 0, 1, 1),
+        (Call::Yank("a"), 1, "a", 1, 2, 1),
+        (Call::Begin, 2, "a", 1, 3, 2),
+        (Call::Yank("b"), 1, "ab", 2, 4, 2),
+        (Call::Begin, 4, "ab", 2, 5, 3),
+        (Call::Undo(3), 1, "a", 1, 2, 1),
+        (Call::KeepUndone, 1, "a", 1, 8, 1),
+        (Call::Undo(1), 1, "ab", 2, 5, 1),
+        (Call::Undo(1), 1, "a", 1, 2, 1),
+        (Call::Redo, 1, "ab", 2, 5, 1),
+        (Call::EndOne, 1, "ab", 2, 6, 0),
+        (Call::Undo(1), 1, "", 0, 0, 0),
+    ];
+    goes(&rt, rt.alloc(), "", OPEN)?;
+    // a begin alone leaves no entry
+    const EMPTY: &[Step] = &[
+        (Call::Yank("a"), 1, "a", 1, 1, 0),
+        (Call::Begin, 1, "a", 1, 2, 1),
+        (Call::Undo(1), 0, "a", 1, 1, 0),
+        (Call::KeepUndone, 1, "a", 1, 1, 0),
+        (Call::Redo, 0, "a", 1, 1, 0),
+        (Call::KeepUndone, 0, "a", 1, 1, 0),
+    ];
+    goes(&rt, rt.alloc(), "", EMPTY)
 }
 
 #[test]

@@ -98,6 +98,16 @@ fn scripts_print(rt: HostRuntime) -> Result<(), Fail> {
             b"ok 2 ab\nmark:0 2 ab\ntrue 3 ab-\nmark:2 3 ab-\nok 0 ab-\nfalse 1 cab-\nok 2 cab-\ntrue 0 ab-\ntrue 2 ab\nfalse 2 ab\nfalse 2 ab\n",
         ),
         (
+            "what was undone is kept, so that undos lead where redos led, and go on to what was before",
+            b"text ab\nkeepundone\nins 1 -\nins 1 +\nundo 2\nkeepundone\nredo\nundo 1\nundo 1\nundo 2\nundo 1\n",
+            b"ok 2 ab\nfalse 2 ab\ntrue 3 ab-\ntrue 4 ab-+\ntrue 2 ab\ntrue 2 ab\nfalse 2 ab\ntrue 3 ab-\ntrue 4 ab-+\ntrue 2 ab\nfalse 2 ab\n",
+        ),
+        (
+            "an open group that was undone is kept as a closed one, and an edit after it is undone first",
+            b"text one two\nbegin\nkill bword 1 emacs\nins 1 x\nundo 3\nkeepundone\nend\nins 1 .\nundo 1\nundo 1\nundo 1\nundo 1\n",
+            b"ok 7 one two\nmark:0 7 one two\ntrue 4 one \ntrue 5 one x\ntrue 7 one two\ntrue 7 one two\nfalse 7 one two\ntrue 8 one two.\ntrue 7 one two\ntrue 5 one x\ntrue 7 one two\nfalse 7 one two\n",
+        ),
+        (
             "a number is judged by its value",
             b"ins 1 a\nins 1 -\nundo 000000000000000000000000000000000001\n",
             b"true 1 a\ntrue 2 a-\ntrue 1 a\n",
@@ -425,9 +435,9 @@ fn texts_and_places_are_commanded(rt: HostRuntime) -> Result<(), Fail> {
 #[test]
 fn every_word_does_something(rt: HostRuntime) -> Result<(), Fail> {
     const ROWS: &[Row] = &[(
-        "each word once, but two begins, and two kills before the yanks",
-        b"text ab cd\nins 1 e\nback 1\npart\ntrunc 0\nbegin\nbegin\npos 0\npaste 1 x y\nendone\nend\nundo 1\nredo\nreopen\nprevword 1 emacs\nnextword 1 after emacs\ncase up\nto 1 F C\nmove bob\nkill eol\nupdate 7 one two\ntwords 1\ntchars\nkill bword 1 emacs\nyank 1\nyankpop\ncopy bword 1 emacs\nstr 0 ab\\n\nindent 2 buf\ndedent 1 line\nrep 0 4 cd\\ne\nwhere\nmove nonblank\nrange 5 6\ndel 1\npos 3\nkillline\nkillbuf\ndiscline\ndiscbuf\nkeep x\\sy\nyank 1\nkillrange 0 3 b\nabandon\n",
-        b"ok 5 ab cd\ntrue 6 ab cde\ntrue 5 ab cd\nok 5 ab cd\nok 5 ab cd\nmark:0 5 ab cd\nmark:1 5 ab cd\nok 0 ab cd\nfalse 3 x yab cd\ntrue 3 x yab cd\ntrue 3 x yab cd\ntrue 0 ab cd\ntrue 3 x yab cd\ntrue 3 x yab cd\ntrue 2 x ab cd\ntrue 2 x  cd\ntrue 5 x  CD\ntrue 3 x  \ntrue 0 x  \ntrue 0 \nok 7 one two\ntrue 7 two one\ntrue 7 two oen\ntrue 4 two \ntrue 7 two oen\ntrue 7 two x  \ntext:x\\s\\s 7 two x  \nfalse 7 ab\\ntwo x  \ntrue 11   ab\\n  two x  \ntrue 10   ab\\n two x  \nok 4 cd\\ne\\n two x  \nat:1:1 4 cd\\ne\\n two x  \ntrue 3 cd\\ne\\n two x  \nok 5 cd\\ne\\ntwo x  \ntext:t 5 cd\\ne\\nwo x  \nok 3 cd\\ne\\nwo x  \ntrue 3 cd\\n\\nwo x  \ntrue 3 cd\\n\ntrue 2 cd\ntrue 0 \nok 0 \ntrue 3 x y\ntrue 0 \ntrue 0 ab cd\n",
+        "each word once, but two begins, two undos, and two kills before the yanks",
+        b"text ab cd\nins 1 e\nback 1\npart\ntrunc 0\nbegin\nbegin\npos 0\npaste 1 x y\nendone\nend\nundo 1\nredo\nreopen\nprevword 1 emacs\nnextword 1 after emacs\ncase up\nto 1 F C\nmove bob\nkill eol\nupdate 7 one two\ntwords 1\ntchars\nkill bword 1 emacs\nyank 1\nyankpop\ncopy bword 1 emacs\nstr 0 ab\\n\nindent 2 buf\ndedent 1 line\nrep 0 4 cd\\ne\nwhere\nmove nonblank\nrange 5 6\ndel 1\npos 3\nkillline\nkillbuf\ndiscline\ndiscbuf\nkeep x\\sy\nyank 1\nkillrange 0 3 b\nundo 1\nkeepundone\nabandon\n",
+        b"ok 5 ab cd\ntrue 6 ab cde\ntrue 5 ab cd\nok 5 ab cd\nok 5 ab cd\nmark:0 5 ab cd\nmark:1 5 ab cd\nok 0 ab cd\nfalse 3 x yab cd\ntrue 3 x yab cd\ntrue 3 x yab cd\ntrue 0 ab cd\ntrue 3 x yab cd\ntrue 3 x yab cd\ntrue 2 x ab cd\ntrue 2 x  cd\ntrue 5 x  CD\ntrue 3 x  \ntrue 0 x  \ntrue 0 \nok 7 one two\ntrue 7 two one\ntrue 7 two oen\ntrue 4 two \ntrue 7 two oen\ntrue 7 two x  \ntext:x\\s\\s 7 two x  \nfalse 7 ab\\ntwo x  \ntrue 11   ab\\n  two x  \ntrue 10   ab\\n two x  \nok 4 cd\\ne\\n two x  \nat:1:1 4 cd\\ne\\n two x  \ntrue 3 cd\\ne\\n two x  \nok 5 cd\\ne\\ntwo x  \ntext:t 5 cd\\ne\\nwo x  \nok 3 cd\\ne\\nwo x  \ntrue 3 cd\\n\\nwo x  \ntrue 3 cd\\n\ntrue 2 cd\ntrue 0 \nok 0 \ntrue 3 x y\ntrue 0 \ntrue 3 x y\ntrue 3 x y\ntrue 0 ab cd\n",
     )];
     print_all(&rt, rt.alloc(), ROWS)
 }
