@@ -62,18 +62,20 @@ static int press(const char *word) {
     if (IS("C-b")) return lodvarn_move(s, lodvarn_chars_back(1));
     if (IS("M-b")) return lodvarn_move(s, lodvarn_words_back(LODVARN_EMACS, 1));
     if (IS("M-f")) return lodvarn_move(s, lodvarn_words_forward(LODVARN_EMACS, LODVARN_AFTER_END, 1));
+    if (IS("C-_")) return lodvarn_undo(s, 1);
+    if (IS("M-_")) return lodvarn_redo(s);
+    if (IS("RET")) return accept_line();
+    if (!strncmp(word, "C-]", 3)) return find_in_line((unsigned char)word[3], 1);
+    /* No edit loses what was undone: undos come to it. */
+    if (lodvarn_can_redo(s) && lodvarn_keep_undone(s) > 0) lodvarn_part(s);
     if (IS("C-k")) return lodvarn_kill(s, lodvarn_to_line_end());
     if (IS("C-w")) return lodvarn_kill(s, lodvarn_words_back(LODVARN_BIG, 1));
     if (IS("M-d")) return lodvarn_kill(s, lodvarn_words_forward(LODVARN_EMACS, LODVARN_AFTER_END, 1));
     if (IS("M-u")) return change_case(LODVARN_UPPERCASE);
     if (IS("C-y")) return lodvarn_yank(s, 1);
     if (IS("M-y")) return lodvarn_yank_pop(s);
-    if (IS("C-_")) return lodvarn_undo(s, 1);
-    if (IS("M-_")) return lodvarn_redo(s);
     if (IS("DEL")) return lodvarn_backspace(s, 1);
     if (IS("SPC")) return lodvarn_insert(s, ' ', 1);
-    if (IS("RET")) return accept_line();
-    if (!strncmp(word, "C-]", 3)) return find_in_line((unsigned char)word[3], 1);
     if (*word == '"') return lodvarn_paste(s, word + 1, strlen(word + 1), 1);
     return type(word);
 }
