@@ -2,7 +2,7 @@
 use Rattle.std.specs.Prelude.{◌≡◌, ℕ, zero, suc, ◌-◌, max, min, not, ◌||◌, ◌==◌, Bool, true, false, List, [], ◌∷◌, ◌++◌, length, map, take, drop, reverse, Option, Some, None, IsSome, IsTrue, option_and_then, if◌then◌else◌}
 use Rattle.rl_base.specs.Event.{Event}
 use Rattle.rl_line.specs.declared.change.Freshness.TheVariants.{Stale}
-use Rattle.rl_line.specs.Record.{Entry, Begin, End, Changed, Record, arrived, kept_point, point_kept, record_step, turned_all}
+use Rattle.rl_line.specs.Record.{Entry, Begin, End, Changed, Record, arrived, kept_point, point_kept, record_step, turned_all, parted}
 
 -- a unit: the Begin of an open group, or entries that come and go as one, which are a change or a closed group
 pub data UndoUnit : Type 0 where
@@ -179,10 +179,10 @@ closed_all es = end_times (level es) es
 abbrev pub there_and_back : List Entry → List Entry
 there_and_back es = closed_all es ++ turned_all (closed_all es)
 
--- the record that keeps what was undone: it goes there and back, and nothing waits to be redone
+-- the record that keeps what was undone: it goes there and back, nothing waits to be redone, and the next change joins nothing
 abbrev pub kept_undone : Record → Record
 kept_undone r =
-    if waits r.pending then arrived (r.recorded ++ there_and_back r.pending) [] (point_closed (level r.pending) (r.recorded ++ r.pending) r.saved) else r
+    if waits r.pending then parted (arrived (r.recorded ++ there_and_back r.pending) [] (point_closed (level r.pending) (r.recorded ++ r.pending) r.saved)) else r
 
 -- the group that ends the record is taken up again, if one does: its End is taken off
 abbrev pub reopened : Record → Record

@@ -146,7 +146,8 @@ impl Changeset {
 
     /// Keeps what was undone, so that undos lead where redos led: what waits to be redone is recorded again as it was, an open
     /// group in it is closed, and then the inverse of each of its units, the last first. So the text stays, and an undo of n
-    /// units leads where n redos led before. Answers whether anything waited; else it changes nothing, and so does `NoMemory`.
+    /// units leads where n redos led before. The next change joins nothing, as after `part`. Answers whether anything waited;
+    /// else it changes nothing, and so does `NoMemory`.
     pub fn keep_undone(&mut self) -> Result<bool, Refusal>
         ensures done { IfOk result (λ answer. (answer ≡ waits self.old.pending) × (self.new ≡ kept_undone self.old)) }
         ensures matched { IsMatched self.old.pending }

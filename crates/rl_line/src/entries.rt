@@ -326,7 +326,7 @@ impl Entries {
     pub(crate) fn keep_undone(&mut self, groups: usize) -> Result<(), Refusal>
         requires matched { IsMatched self.old.pending }
         requires level { groups ≡ level self.old.pending }
-        ensures done { OnOk result (self.new ≡ arrived (self.old.recorded ++ there_and_back self.old.pending) [] (point_closed groups (self.old.recorded ++ self.old.pending) self.old.saved)) }
+        ensures done { OnOk result (self.new ≡ parted (arrived (self.old.recorded ++ there_and_back self.old.pending) [] (point_closed groups (self.old.recorded ++ self.old.pending) self.old.saved))) }
         ensures err { IfErr result (λ r. (r ≡ NoMemory) × (self.new ≡ self.old)) }
     {
         let back = inverses(self.allocator(), self.pending(), groups)?;
@@ -334,7 +334,7 @@ impl Entries {
         close_groups(&mut self.list, &mut self.saved, groups);
         push_turned(&mut self.list, back);
         self.recorded = self.list.len();
-        self.fresh = freshness_at(self.recorded, self.saved);
+        self.fresh = Freshness::Parted;
         Ok(())
     }
 

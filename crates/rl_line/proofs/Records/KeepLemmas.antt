@@ -1,10 +1,11 @@
 -- What was undone and is kept: the entries that take it back, and what a record that has both keeps.
 use Rattle.rl_line.proofs.Common.{common_steps, ◌≡◌, ℕ, ◌+◌, ◌-◌, ◌<◌, suc, zero, arith, Bool, true, false, List, [], ◌∷◌, ◌++◌, length, take, drop, get_or, map, reverse, refl, sym, ap, subst, ◌∙◌, inl, inr, append-nil, append_assoc, map-append, reverse-append, take_all, Change, Entry, Begin, End, Changed, entry_of, end_one, end_times, flipped, inverse, is_begin, level, turned_all, IsMatched, closed_all, ◌≤◌, Freshness, Option, Record, arrived, drop_all, length-drop, length-map, point_closed, take-append-drop, there_and_back}
-use Rattle.rl_line.specs.Record.{freshness_at}
+use Rattle.rl_line.specs.Record.{parted}
 use Rattle.rl_line.specs.Entries.{cut_at}
 use Rattle.rl_line.proofs.Records.LevelLemmas.{level-within}
 use Rattle.rl_line.proofs.Records.MatchLemmas.{Lower-end_one}
 use Rattle.rl_line.proofs.Records.UnitLemmas.{turned-append}
+use Rattle.rl_line.specs.declared.change.Freshness.TheVariants.{Parted}
 
 -- ---- in the list of the code
 -- an entry is moved from the end of one list to the end of another
@@ -52,36 +53,35 @@ ends_past (suc n) xs (y ∷ ys) m l =
 pub few-open : (n k : ℕ) (xs : List Change) (ps : List Entry) → drop k (map entry_of xs) ≡ ps → IsMatched ps → n ≡ level ps → n ≤ length xs
 few-open n k xs ps e m l = omega (arith, l, level-within ps m, ap length e, length-drop k (map entry_of xs), length-map xs entry_of)
 
-view-of : (len : ℕ) (es : List Entry) (point : Option ℕ) → len ≡ length es → cut_at len es (freshness_at len point) point ≡ arrived es [] point
+view-of : (len : ℕ) (es : List Entry) (point : Option ℕ) → len ≡ length es → cut_at len es Parted point ≡ parted (arrived es [] point)
 view-of len es point e =
-    ap (λ n. cut_at n es (freshness_at n point) point) e
-    ∙ ap (λ l. record { recorded = l; pending = drop (length es) es; fresh = freshness_at (length es) point; saved = point }) (take_all (length es) es (omega arith))
-    ∙ ap (λ l. record { recorded = es; pending = l; fresh = freshness_at (length es) point; saved = point }) (drop_all (length es) es (omega arith))
+    ap (λ n. cut_at n es Parted point) e
+    ∙ ap (λ l. record { recorded = l; pending = drop (length es) es; fresh = Parted; saved = point }) (take_all (length es) es (omega arith))
+    ∙ ap (λ l. record { recorded = es; pending = l; fresh = Parted; saved = point }) (drop_all (length es) es (omega arith))
 
 -- what the list of the code then is
-kept-list : (n k len : ℕ) (l now back : List Entry) (fresh : Freshness) (point point' : Option ℕ) → IsMatched (drop k l) → n ≡ level (drop k l)
-    → back ≡ map inverse (end_times n (drop k l)) → now ≡ end_times n l ++ map flipped (reverse back) → len ≡ length now
-    → point' ≡ point_closed n l point → fresh ≡ freshness_at len point'
-    → cut_at len now fresh point' ≡ arrived (take k l ++ there_and_back (drop k l)) [] (point_closed n (take k l ++ drop k l) point)
-kept-list n k len l now back fresh point point' m e b g long p f =
+kept-list : (n k len : ℕ) (l now back : List Entry) (point point' : Option ℕ) → IsMatched (drop k l) → n ≡ level (drop k l)
+    → back ≡ map inverse (end_times n (drop k l)) → now ≡ end_times n l ++ map flipped (reverse back) → len ≡ length now → point' ≡ point_closed n l point
+    → cut_at len now Parted point' ≡ parted (arrived (take k l ++ there_and_back (drop k l)) [] (point_closed n (take k l ++ drop k l) point))
+kept-list n k len l now back point point' m e b g long p =
     let first = take k l in
     let after = drop k l in
     let closed = end_times n after in
     let all : now ≡ first ++ (closed ++ turned_all closed) =
     g ∙ ap (λ x. end_times n x ++ map flipped (reverse back)) (sym (take-append-drop k l)) ∙ ap (λ x. x ++ map flipped (reverse back)) (ends_past n first after m (sym e))
     ∙ ap (λ x. (first ++ closed) ++ map flipped (reverse x)) b ∙ ap (λ x. (first ++ closed) ++ x) (turned-twice closed) ∙ append_assoc first closed (turned_all closed) in
-    ap (λ x. cut_at len now x point') f ∙ view-of len now point' long ∙ ap (λ x. arrived x [] point') all
-    ∙ ap (λ j. arrived (first ++ (end_times j after ++ turned_all (end_times j after))) [] point') e
-    ∙ ap (arrived (first ++ there_and_back after) []) (p ∙ ap (λ x. point_closed n x point) (sym (take-append-drop k l)))
+    view-of len now point' long ∙ ap (λ x. parted (arrived x [] point')) all
+    ∙ ap (λ j. parted (arrived (first ++ (end_times j after ++ turned_all (end_times j after))) [] point')) e
+    ∙ ap (λ q. parted (arrived (first ++ there_and_back after) [] q)) (p ∙ ap (λ x. point_closed n x point) (sym (take-append-drop k l)))
 
-pub kept-view : (n k len : ℕ) (l now back : List Entry) (before fresh : Freshness) (point point' : Option ℕ) (r : Record) → cut_at k l before point ≡ r
+pub kept-view : (n k len : ℕ) (l now back : List Entry) (before : Freshness) (point point' : Option ℕ) (r : Record) → cut_at k l before point ≡ r
     → IsMatched r.pending → n ≡ level r.pending → back ≡ map inverse (end_times n r.pending) → now ≡ end_times n l ++ map flipped (reverse back) → len ≡ length now
-    → point' ≡ point_closed n l point → fresh ≡ freshness_at len point'
-    → cut_at len now fresh point' ≡ arrived (r.recorded ++ there_and_back r.pending) [] (point_closed n (r.recorded ++ r.pending) r.saved)
-kept-view n k len l now back before fresh point point' r view =
+    → point' ≡ point_closed n l point
+    → cut_at len now Parted point' ≡ parted (arrived (r.recorded ++ there_and_back r.pending) [] (point_closed n (r.recorded ++ r.pending) r.saved))
+kept-view n k len l now back before point point' r view =
     subst (λ (r : Record). IsMatched r.pending → n ≡ level r.pending → back ≡ map inverse (end_times n r.pending) → now ≡ end_times n l ++ map flipped (reverse back) → len ≡ length now
-    → point' ≡ point_closed n l point → fresh ≡ freshness_at len point'
-    → cut_at len now fresh point' ≡ arrived (r.recorded ++ there_and_back r.pending) [] (point_closed n (r.recorded ++ r.pending) r.saved)) view
-    (kept-list n k len l now back fresh point point')
+        → point' ≡ point_closed n l point
+        → cut_at len now Parted point' ≡ parted (arrived (r.recorded ++ there_and_back r.pending) [] (point_closed n (r.recorded ++ r.pending) r.saved))) view
+    (kept-list n k len l now back point point')
 
 pub ruleset keeps = (push-turned, end_times-inverse, turned-twice, ends_past, take_all)

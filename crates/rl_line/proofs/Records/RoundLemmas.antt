@@ -5,7 +5,7 @@ use Rattle.rl_line.proofs.Records.LastLemmas.{end_times-keeps, map-reverse}
 use Rattle.rl_line.proofs.Records.LevelLemmas.{level-append}
 use Rattle.rl_line.proofs.Records.MatchLemmas.{Lower-end_times}
 use Rattle.rl_line.proofs.Records.RecordLemmas.{inverse-inverse, inverse-undoes, unwind-append, unwind-replay, value_of, replay-append, replay-unwind}
-use Rattle.rl_line.proofs.Records.SavedLemmas.{told-at, StaysIn, arrived-stays, closed-in, longer, stays-in}
+use Rattle.rl_line.proofs.Records.SavedLemmas.{told-at, StaysIn, arrived-stays, closed-in, longer, stays-in, saved-parted}
 use Rattle.rl_line.proofs.Records.UnitLemmas.{AllGood, IsMatched-append, cut_more-append, marks-append, on, together-reverse, together-units, turned-append, units-append, units-good, opens-append, opens-reverse}
 use Rattle.rl_line.proofs.Records.WalkLemmas.{Walk-append, Walk-end_one, Walk-IsUtf8}
 use Rattle.rl_base.proofs.Texts.SwapLemmas.{apply-IsUtf8}
@@ -13,6 +13,7 @@ use Rattle.rl_line.proofs.Records.MarkLemmas.{replay-end_one}
 use Rattle.rl_line.proofs.Records.OriginLemmas.{Kept}
 use Rattle.rl_line.proofs.Records.KeepLemmas.{ends_past}
 use Rattle.rl_line.proofs.Records.GroupLemmas.{Inside}
+use Rattle.rl_line.specs.Record.{parted}
 
 -- ---- its marks match, and it leaves no group open
 marks_turned : (us : List UndoUnit) → AllGood us → opens us ≡ 0 → (fs : List Bool) → IsSome (marks (turned_all (together us)) fs)
@@ -79,7 +80,7 @@ level-round es m =
 
 -- the record that goes there and back
 abbrev pub round : Record → Record
-round r = arrived (r.recorded ++ there_and_back r.pending) [] (point_closed (level r.pending) (r.recorded ++ r.pending) r.saved)
+round r = parted (arrived (r.recorded ++ there_and_back r.pending) [] (point_closed (level r.pending) (r.recorded ++ r.pending) r.saved))
 
 pub BothMatched-round : (r : Record) → BothMatched r → BothMatched (round r)
 BothMatched-round r b = record { recorded = IsMatched-append r.recorded (there_and_back r.pending) b.recorded (IsMatched-round r.pending b.pending); pending = refl }
@@ -122,7 +123,7 @@ Walks-round r text w =
       back = Walk-append r.recorded (there_and_back r.pending) w.start text text w.back there;
       end = text;
       ahead = refl;
-      stale = told-at (length (r.recorded ++ there_and_back r.pending)) (point_closed (level r.pending) (r.recorded ++ r.pending) r.saved);
+      stale = refl;
     }
 
 pub Walks-kept : (r : Record) (text : List ℕ) → Walks r text → Walks (kept_undone r) text
@@ -223,7 +224,8 @@ saved-kept es r m s =
     let closed : StaysIn es (r.recorded ++ c) point =
     subst (λ l. StaysIn es l point) (ends_past (level r.pending) r.recorded r.pending m refl) (closed-in es (level r.pending) (r.recorded ++ r.pending) r.saved (stays-in es r s)) in
     let all : StaysIn es (r.recorded ++ there_and_back r.pending) point = subst (λ l. StaysIn es l point) (append_assoc r.recorded c (turned_all c)) (longer es (r.recorded ++ c) (turned_all c) point closed) in
-    kept-either (StaysSaved es) r s (arrived-stays es (r.recorded ++ there_and_back r.pending) [] point (longer es (r.recorded ++ there_and_back r.pending) [] point all))
+    let here = arrived-stays es (r.recorded ++ there_and_back r.pending) [] point (longer es (r.recorded ++ there_and_back r.pending) [] point all) in
+    kept-either (StaysSaved es) r s (saved-parted es (arrived (r.recorded ++ there_and_back r.pending) [] point) here)
 
 pub Inside-kept : (front : List Entry) (r : Record) → IsMatched r.pending → Inside front r → Inside front (kept_undone r)
 Inside-kept front r m k = kept-either (Inside front) r k (record {
