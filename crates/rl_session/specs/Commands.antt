@@ -313,12 +313,13 @@ effect old command reply = effect_where (is_barred old command) old command repl
 abbrev pub Does : State → Command → Reply → State → Type 0
 Does old command reply new = Became (effect old command reply) old new
 
--- the commands before which the ring is not reset: they go on from what it did last
+-- the commands before which the ring is not reset: they go on from what it did last, or leave it
 abbrev pub continues : Command → Bool
 continues (Kill m) = not (is_by_characters m)
 continues (KillRange _ _ _) = true
 continues (Yank _) = true
 continues YankPop = true
+continues KeepUndone = true
 continues _ = false
 
 -- the state in which a command begins

@@ -404,8 +404,8 @@ impl Session {
         self.obey(command)
     }
 
-    /// Does one command. The ring is reset first, unless the command is a yank, a kill of a range, or a kill by a
-    /// movement other than by clusters. It is also reset after a yank whose reply is not `Inserted(Some(..))`.
+    /// Does one command. The ring is reset first, unless the command is a yank, a kill of a range, a kill by a movement
+    /// other than by clusters, or `KeepUndone`. It is also reset after a yank whose reply is not `Inserted(Some(..))`.
     /// Whatever the reply, the recorded changes lead from the starting text to the present one, and back to the same
     /// text as before. Inlined, so that a reply is not copied on its way.
     #[inline(always)]

@@ -243,11 +243,14 @@ impl Session {
 
     /// Keeps what was undone, for an edit that would drop it: what waits to be redone is recorded again, an open group in it is
     /// closed, and then the inverse of each of its units, the last first. The text stays, and an undo of n units leads where n
-    /// redos led before. Answers whether anything waited; else it changes nothing, and so does `NoMemory`.
+    /// redos led before. The next change joins none of these. Answers whether anything waited; else it changes nothing, and
+    /// so does `NoMemory`. The ring stays, so that it may come between kills.
     pub fn keep_undone(&mut self) -> Reply
         ensures { Step self.old Command.KeepUndone result self.new }
     {
-        anew!(self, self.do_keep_undone())
+        let reply = self.do_keep_undone();
+        self.ends();
+        reply
     }
 
     /// Undoes n units: one for 0, and all if there are fewer. Answers whether there was a change. `NoMemory` leaves text
