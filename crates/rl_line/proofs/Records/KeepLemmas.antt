@@ -80,8 +80,8 @@ pub kept-view : (n k len : ℕ) (l now back : List Entry) (before : Freshness) (
     → cut_at len now Parted point' ≡ parted (arrived (r.recorded ++ there_and_back r.pending) [] (point_closed n (r.recorded ++ r.pending) r.saved))
 kept-view n k len l now back before point point' r view =
     subst (λ (r : Record). IsMatched r.pending → n ≡ level r.pending → back ≡ map inverse (end_times n r.pending) → now ≡ end_times n l ++ map flipped (reverse back) → len ≡ length now
-        → point' ≡ point_closed n l point
-        → cut_at len now Parted point' ≡ parted (arrived (r.recorded ++ there_and_back r.pending) [] (point_closed n (r.recorded ++ r.pending) r.saved))) view
+    → point' ≡ point_closed n l point
+    → cut_at len now Parted point' ≡ parted (arrived (r.recorded ++ there_and_back r.pending) [] (point_closed n (r.recorded ++ r.pending) r.saved))) view
     (kept-list n k len l now back point point')
 
 pub ruleset keeps = (push-turned, end_times-inverse, turned-twice, ends_past, take_all)

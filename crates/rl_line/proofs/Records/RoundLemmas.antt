@@ -5,7 +5,7 @@ use Rattle.rl_line.proofs.Records.LastLemmas.{end_times-keeps, map-reverse}
 use Rattle.rl_line.proofs.Records.LevelLemmas.{level-append}
 use Rattle.rl_line.proofs.Records.MatchLemmas.{Lower-end_times}
 use Rattle.rl_line.proofs.Records.RecordLemmas.{inverse-inverse, inverse-undoes, unwind-append, unwind-replay, value_of, replay-append, replay-unwind}
-use Rattle.rl_line.proofs.Records.SavedLemmas.{told-at, StaysIn, arrived-stays, closed-in, longer, stays-in, saved-parted}
+use Rattle.rl_line.proofs.Records.SavedLemmas.{StaysIn, arrived-stays, closed-in, longer, stays-in, saved-parted}
 use Rattle.rl_line.proofs.Records.UnitLemmas.{AllGood, IsMatched-append, cut_more-append, marks-append, on, together-reverse, together-units, turned-append, units-append, units-good, opens-append, opens-reverse}
 use Rattle.rl_line.proofs.Records.WalkLemmas.{Walk-append, Walk-end_one, Walk-IsUtf8}
 use Rattle.rl_base.proofs.Texts.SwapLemmas.{apply-IsUtf8}
