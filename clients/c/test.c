@@ -1109,6 +1109,7 @@ static void nothing_is_done(void) {
     LEAVES(NOTHING, lodvarn_take_change(s, &out.splice));
     LEAVES(NOTHING, lodvarn_first_cluster("", 0, &out.number));
     LEAVES(DONE, SET(limit, 12));
+    LEAVES(NOTHING, lodvarn_keep_undone(s));
     PARTS(DONE, lodvarn_set_pos(s, 6));
     PARTS(NOTHING, lodvarn_move(s, lodvarn_to_line_end()));
     PARTS(NOTHING, lodvarn_move(s, lodvarn_whole_line()));

@@ -174,6 +174,9 @@ fn undos_lead_where_redos_led(rt: HostRuntime) -> Result<(), Fail> {
         (Call::Redo, 1, "azzY", 4, 3, 0),
         (Call::Redo, 1, "azzcd", 3, 4, 0),
         (Call::Redo, 1, "acd", 1, 5, 0),
+        // a deletion that would join the last inverse adds an entry
+        (Call::KeepUndone, 1, "acd", 1, 15, 0),
+        (Call::Back(1), 1, "cd", 0, 16, 0),
     ];
     let mut line = line_of(&rt, rt.alloc(), "abcd", 2)?;
     takes(&rt, &mut line, rt.alloc(), CHANGES)?;

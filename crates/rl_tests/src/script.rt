@@ -108,6 +108,11 @@ fn scripts_print(rt: HostRuntime) -> Result<(), Fail> {
             b"ok 7 one two\nmark:0 7 one two\ntrue 4 one \ntrue 5 one x\ntrue 7 one two\ntrue 7 one two\nfalse 7 one two\ntrue 8 one two.\ntrue 7 one two\ntrue 5 one x\ntrue 7 one two\nfalse 7 one two\n",
         ),
         (
+            "no letter joins what is kept, so it is undone alone",
+            b"text ab\nback 1\nundo 1\nkeepundone\nins 1 c\nundo 1\n",
+            b"ok 2 ab\ntrue 1 a\ntrue 2 ab\ntrue 2 ab\ntrue 3 abc\ntrue 2 ab\n",
+        ),
+        (
             "a number is judged by its value",
             b"ins 1 a\nins 1 -\nundo 000000000000000000000000000000000001\n",
             b"true 1 a\ntrue 2 a-\ntrue 1 a\n",
@@ -204,6 +209,11 @@ fn kills_come_back(rt: HostRuntime) -> Result<(), Fail> {
             "a question where the cursor stands parts them too",
             b"text one two\nkill bword 1 emacs\nwhere\nkill bword 1 emacs\nyank 1\nyankpop\n",
             b"ok 7 one two\ntrue 4 one \nat:0:4 4 one \ntrue 0 \ntrue 4 one \ntrue 3 two\n",
+        ),
+        (
+            "keeping what was undone parts no kills, and yankpop finds what was yanked",
+            b"text one two\nkill bword 1 emacs\nkeepundone\nkill bword 1 emacs\nyank 1\nkeepundone\nyankpop\n",
+            b"ok 7 one two\ntrue 4 one \nfalse 4 one \ntrue 0 \ntrue 7 one two\nfalse 7 one two\ntrue 7 one two\n",
         ),
         (
             "a yank that is too long puts nothing in and resets the ring",
