@@ -368,7 +368,7 @@ int lodvarn_yank(lodvarn *s, size_t n);
 
 /* Replaces the text that the last call yanked by the one before it in the ring. These are two changes: call
  * lodvarn_begin_group before the yank, and lodvarn_end_group after the last call of this, if one undo should take back
- * all. Returns NOTHING if the last command was not a yank. If the text before it is empty, what was yanked is deleted.
+ * all. Returns NOTHING if lodvarn_last_was_yank is false. If the text before it is empty, what was yanked is deleted.
  * Errors: NO_ROOM, which leaves the whole session; NO_MEMORY. */
 int lodvarn_yank_pop(lodvarn *s);
 
@@ -421,10 +421,10 @@ int lodvarn_change_case(lodvarn *s, enum lodvarn_case to);
  * Consecutive kills become one text of the ring: what stood before the cursor goes to its front, what stood after the
  * cursor to its end. A kill that removes nothing does not end such a run. Any other command does, so that the next kill
  * begins a new text: also a motion, lodvarn_copy, lodvarn_keep, lodvarn_yank, lodvarn_undo, a begin or end of a group,
- * a kill by clusters, and a command that had nothing to do. These do not: lodvarn_kill_range, lodvarn_set_options, the
- * calls that tell what changed, the reads, and a call that returns NOT_UTF8, NO_SUCH_NUMBER or TOO_SMALL. A new text
- * goes after the newest, also after a lodvarn_yank_pop, so only a full ring loses one, its oldest. Returns NOTHING if
- * there is nothing. Errors: NO_MEMORY. */
+ * a kill by clusters, and a command that had nothing to do. These do not: lodvarn_kill_range, lodvarn_keep_undone,
+ * lodvarn_set_options, the calls that tell what changed, the reads, and a call that returns NOT_UTF8, NO_SUCH_NUMBER or
+ * TOO_SMALL. A new text goes after the newest, also after a lodvarn_yank_pop, so only a full ring loses one, its
+ * oldest. Returns NOTHING if there is nothing. Errors: NO_MEMORY. */
 int lodvarn_kill(lodvarn *s, lodvarn_movement movement);
 
 /* Kills what stands in a range, wherever the cursor is. The cursor goes to its start. Returns NOTHING if it is empty,
@@ -449,8 +449,7 @@ int lodvarn_indent(lodvarn *s, lodvarn_movement movement, uint8_t amount, enum l
 
 /* Parts what comes from what was done: the next change joins no other, so that it is undone alone, the next kill begins
  * a new text of the ring, and lodvarn_yank_pop finds nothing. Text, cursor, groups and what was undone stay. A change
- * of nothing leaves it so; an undo, a redo, lodvarn_keep_undone, lodvarn_truncate and the begin, end or abandon of a
- * group take it back. */
+ * of nothing leaves it so; an undo, a redo, lodvarn_truncate and the begin, end or abandon of a group take it back. */
 int lodvarn_part(lodvarn *s);
 
 /* Says that the text is saved as it is. The next change is undone alone, so that an undo may come back to it. No
@@ -482,9 +481,9 @@ int lodvarn_abandon_group(lodvarn *s);
  * - one letter or digit by lodvarn_insert with n = 1, and the last change an insertion that ends at its place;
  * - the deletion or kill of one letter or digit, and the last change a deletion at that place, to either side;
  * - a text by lodvarn_replace, and the last change one whose new text ends at its place.
- * Motions between them do not matter; nothing joins right after lodvarn_part, or over where a group begins or ends.
- * Returns NOTHING if there was no change. Errors: NO_ROOM if a text on the way back is longer than a limit that holds,
- * NO_MEMORY. */
+ * Motions between them do not matter; nothing joins over where a group begins or ends, or right after lodvarn_part,
+ * lodvarn_set_saved, or lodvarn_keep_undone if it kept something. Returns NOTHING if there was no change. Errors:
+ * NO_ROOM if a text on the way back is longer than a limit that holds, NO_MEMORY. */
 int lodvarn_undo(lodvarn *s, size_t n);
 
 /* Redoes what was undone last, one change or group. Returns NOTHING if there is none. Errors: NO_ROOM as for an
@@ -495,7 +494,9 @@ int lodvarn_redo(lodvarn *s);
  * groups are closed, and then the inverse of each of its changes and groups, the last first. Text and cursor stay, and
  * nothing can be redone. So an undo of n goes to where n redos would have gone, as many undos more come back, and those
  * after them go on to what was recorded before. A bound counts all of these, and so does lodvarn_is_saved: only undos
- * come back to the save. Returns NOTHING if nothing was undone, and the record stays. Errors: NO_MEMORY. */
+ * come back to the save. The next change joins none of these, and the ring stays: so it may come before each edit, also
+ * between kills, and before lodvarn_yank_pop. Returns NOTHING if nothing was undone, and the record stays. Errors:
+ * NO_MEMORY. */
 int lodvarn_keep_undone(lodvarn *s);
 
 /* Keeps the first entries of the record, as many as the argument says, and forgets the others and what was undone. The
@@ -624,7 +625,7 @@ size_t lodvarn_ring_count(lodvarn *s);
 int lodvarn_ring_text(lodvarn *s, size_t back, lodvarn_view *view);
 
 /* Returns whether lodvarn_yank_pop would find a yanked text to replace: from a lodvarn_yank or lodvarn_yank_pop that
- * put one in, up to the next command; but a kill that removes nothing leaves it so. */
+ * put one in, up to the next command; but a kill that removes nothing leaves it so, and lodvarn_keep_undone too. */
 bool lodvarn_last_was_yank(lodvarn *s);
 
 /* Returns how many reports wait; a folded one is one. */

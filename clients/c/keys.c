@@ -67,7 +67,7 @@ static int press(const char *word) {
     if (IS("RET")) return accept_line();
     if (!strncmp(word, "C-]", 3)) return find_in_line((unsigned char)word[3], 1);
     /* No edit loses what was undone: undos come to it. */
-    if (lodvarn_can_redo(s) && lodvarn_keep_undone(s) > 0) lodvarn_part(s);
+    lodvarn_keep_undone(s);
     if (IS("C-k")) return lodvarn_kill(s, lodvarn_to_line_end());
     if (IS("C-w")) return lodvarn_kill(s, lodvarn_words_back(LODVARN_BIG, 1));
     if (IS("M-d")) return lodvarn_kill(s, lodvarn_words_forward(LODVARN_EMACS, LODVARN_AFTER_END, 1));

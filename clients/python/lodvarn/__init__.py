@@ -567,7 +567,7 @@ class Session:
     def yank_pop(self) -> bool:
         """Replaces the text that was just yanked by the one before it in the ring, in two changes.
 
-        Returns False if the last command was not a yank. If the text before it is empty, what was yanked is deleted.
+        Returns False if `last_was_yank` is. If the text before it is empty, what was yanked is deleted.
         Raises NoRoomError, which leaves the whole session.
         """
         return self._do(lib.py_yank_pop)
@@ -687,7 +687,7 @@ class Session:
         """Parts what comes from what was done: the next change is undone alone, and the next kill begins a new text.
 
         Text, cursor, groups and what was undone stay. A change of nothing between leaves it so; an undo, a redo,
-        `keep_undone`, `truncate` and the begin, end or abandon of a group take it back.
+        `truncate` and the begin, end or abandon of a group take it back.
         """
         self._do(lib.py_part)
 
@@ -758,7 +758,8 @@ class Session:
 
         It is recorded again, and then the inverse of each of its changes and groups, the last first. Text and cursor
         stay, and nothing can be redone. Then an undo of n goes to where n redos would have gone, as many undos more
-        come back, and those after them go on to what was recorded before. Returns False if nothing was undone.
+        come back, and those after them go on to what was recorded before. The next change joins none of these, and
+        the ring stays: so it may come before each edit, also between kills. Returns False if nothing was undone.
         """
         return self._do(lib.py_keep_undone)
 
@@ -960,7 +961,7 @@ class Session:
 
     @property
     def last_was_yank(self) -> bool:
-        """Whether the last command was a yank or yank_pop that returned True."""
+        """Whether the last command was a yank or yank_pop that returned True, but for `keep_undone`."""
         return _asked(lib.py_last_was_yank, self._it) > 0
 
     def _options(self) -> Any:

@@ -88,8 +88,7 @@ impl Session {
 
     /// Parts what comes from what was done: the next change joins no other, so that it is undone alone, and the next kill
     /// begins a new text of the ring. Text, cursor, groups and what was undone stay. A change of nothing between leaves it
-    /// so; an undo, a redo, [`keep_undone`](Session::keep_undone), [`truncate`](Session::truncate) and the begin, end or
-    /// abandon of a group take it back.
+    /// so; an undo, a redo, [`truncate`](Session::truncate) and the begin, end or abandon of a group take it back.
     ///
     /// ```
     /// # use lodvarn::{Fault, Session};
@@ -198,7 +197,8 @@ methods! {
     /// Keeps what was undone, which the next edit or group would forget, so that undos come to it: it is recorded again,
     /// and then the inverse of each of its changes and groups, the last first. Text and cursor stay, and nothing can be
     /// redone. Then an undo of n goes to where n redos would have gone, as many undos more come back, and those after
-    /// them go on to what was recorded before. False if nothing was undone.
+    /// them go on to what was recorded before. The next change joins none of these, and the ring stays: so it
+    /// may come before each edit, also between kills. False if nothing was undone.
     ///
     /// ```
     /// # use lodvarn::{Fault, Session};

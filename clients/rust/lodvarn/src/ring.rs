@@ -57,8 +57,8 @@ methods! {
         = Inserted::of(lodvarn_yank(n.into()));
 
     /// Replaces the text that was just yanked by the one before it in the ring, in two changes; after the oldest comes
-    /// the newest. If that one is empty, what was yanked is deleted. [`Inserted::Nothing`] if the last command was not a
-    /// yank.
+    /// the newest. If that one is empty, what was yanked is deleted. [`Inserted::Nothing`] if
+    /// [`last_was_yank`](Session::last_was_yank) is false.
     ///
     /// # Errors
     ///
@@ -67,7 +67,8 @@ methods! {
 }
 
 methods! {
-    /// Whether the last command was a `yank` or `yank_pop` that found a text.
+    /// Whether the last command was a `yank` or `yank_pop` that found a text, but for
+    /// [`keep_undone`](Session::keep_undone).
     pub fn last_was_yank(&self) -> bool = lodvarn_last_was_yank();
 
     /// How many texts the ring has.
