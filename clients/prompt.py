@@ -11,9 +11,12 @@ from pathlib import Path
 from terminal import PATIENCE, PAUSED, await_that, editing, keys
 
 PROGRAM = Path(__file__).resolve().parent / "out/prompt"
+# The files in the folder n. No control characters and no bytes that are no UTF-8 go into a line.
+NAMES = [".hid", "a\x1b", "a b", "a\u009b", "c/d", os.fsdecode(b"c\xff")]
 # What runs in the terminal, where ./edit is the prompt: m has the modes of before.
 COMMAND = "export m=$(stty -g); ./edit; echo $?; [ $m = $(stty -g) ] && echo as before; exec cat"
-DIGITS, FORTY, ENTER, UP = "0123456789", "\r".join(f": {n}" for n in range(40)), keys("Enter"), keys("Up")
+DIGITS, FORTY = "0123456789", "\r".join(f": {n}" for n in range(40))
+ENTER, UP, TAB = keys("Enter"), keys("Up"), keys("Tab")
 # What is shown, what is sent, the last rows that this leads to on a screen of 60 columns, and the cursor's column.
 CASES = [
     ("a command", ["echo one", ENTER], ["$ echo one", "one", "$"], 2),
@@ -22,6 +25,15 @@ CASES = [
     ("kills in a row are one", ["one two three", keys("M-b C-k C-w C-w C-y")], ["$ one two three"], 15),
     ("a yank is popped", ["one two", keys("C-w C-b C-u C-y M-y")], ["$ two"], 5),
     ("an undo takes back what was typed", ["one ", keys("C-a C-e"), "zwölf elf", keys("C-_")], ["$ one"], 6),
+    ("which no edit loses", ["one", keys("C-a C-e"), " two", keys("C-_"), "x", keys("C-_ C-_")], ["$ one two"], 9),
+    ("a name is quoted", ["test -f n/", TAB, "; echo $?", ENTER], ["$ test -f n/a\\ b; echo $?", "0", "$"], 2),
+    ("the first again", [": n/", TAB, ENTER, ": n/", TAB * 2, ENTER, ": n/", TAB * 3], ["$ : n/c/", "$ : n/a\\ b"], 10),
+    ("a try is dropped", [": n/", TAB * 2, keys("C-g"), "c", TAB], ["$ : n/c/"], 8),
+    ("or kept, and undone at once", [": n/", TAB * 2, "d", keys("C-_ C-_")], ["$ : n/"], 6),
+    ("a quoted word and a folder go on", [": <n/a\\ ", TAB, " n/c/", TAB], ["$ : <n/a\\ b n/c/d"], 17),
+    ("a hidden name", [":|n/.h", TAB], ["$ :|n/.hid"], 10),
+    ("a name that fits", ["x" * 4090 + " n/", TAB], ["$ " + "x" * 47 + " n/c/"], 54),
+    ("no name", ["n/e", TAB, "f"], ["$ n/ef"], 6),
     ("the ring of the line before", [": a b", keys("C-w"), ENTER, keys("C-y")], ["$ : a", "$ b"], 3),
     ("an undo stays in a line of before", [": one", ENTER, "two", UP, keys("C-_")], ["$ : one", "$ : one"], 7),
     ("what was typed comes back", [": one", ENTER, "two", keys("C-p Down")], ["$ : one", "$ two"], 5),
@@ -43,6 +55,9 @@ CASES = [
 def run_case(program, what, given, *wanted):
     """Whether the last rows and the cursor's column are as wanted."""
     with editing(program, command=COMMAND) as terminal:
+        (terminal.path / "n/c").mkdir(parents=True)
+        for name in NAMES:
+            (terminal.path / "n" / name).touch()
         for one in given:
             terminal.send(one)
             if one is ENTER:

@@ -1,6 +1,7 @@
 /* The prompt of a small shell over Lodvarn: sh runs each line, up to C-d on an empty one. */
 #define _POSIX_C_SOURCE 200809L
 #include "lodvarn.h"
+#include <glob.h>
 #include <signal.h>
 #include <stdio.h>
 #include <stdlib.h>
@@ -73,18 +74,60 @@ static int type(uint32_t c, int goes_on) {
     return answer;
 }
 
+/* Quotes a name for sh. Returns its length, or 0 if it is too long or has a control character, as no line may. */
+static size_t quote(const char *name, char *quoted) {
+    size_t len = 0;
+    for (; *name; quoted[len++] = *name++) {
+        unsigned char c = (unsigned char)*name;
+        if (len > LIMIT - 2 || c < ' ' || c == 0x7f || (c == 0xc2 && (unsigned char)name[1] < 0xa0)) return 0;
+        if (strchr(" !\"#$&'()*;<=>?[\\`{|~", c)) quoted[len++] = '\\';
+    }
+    return len;
+}
+
+/* Tries the next name of a file that begins as the word before the cursor, or the first if none is tried. Its group
+ * stays open, for the next key to abandon or to end. */
+static int complete(void) {
+    static size_t next;
+    char name[LIMIT + 2];
+    glob_t found = {0};
+    int answer = LODVARN_NOTHING;
+    if (lodvarn_abandon_group(s) <= 0) next = 0;
+    lodvarn_range word = {lodvarn_pos(s), lodvarn_pos(s)};
+    for (const char *at = text().at; word.from; word.from--) /* up to a character that parts words, and is not quoted */
+        if (strchr(" &(;<=>`|", at[word.from - 1]) && (word.from == 1 || at[word.from - 2] != '\\')) break;
+    snprintf(name, sizeof name, "%.*s*", (int)(word.to - word.from), text().at + word.from);
+    if (!glob(name, GLOB_MARK, NULL, &found)) lodvarn_begin_group(s);
+    for (size_t n = found.gl_pathc; n && answer <= 0; n--) {
+        size_t len = quote(found.gl_pathv[next++ % found.gl_pathc], name);
+        if (len) answer = lodvarn_replace(s, word, name, len);
+    }
+    if (answer <= 0) lodvarn_abandon_group(s);
+    globfree(&found);
+    return answer;
+}
+
 /* Does what a key says, or types the character that it is. */
 static int press(const char *key, uint32_t c) {
     static int is_typed;
     int goes_on = is_typed;
     is_typed = *key != 0x1b && ' ' <= c && (c < 0x7f || 0xa0 <= c);
 #define IS(bytes) !strcmp(key, bytes)
+    if (IS("\x07")) return lodvarn_abandon_group(s);
+    if (!IS("\t") && lodvarn_level(s)) lodvarn_end_group(s); /* any other key keeps the name that is tried */
     if (IS("\x01")) return lodvarn_move(s, lodvarn_to_line_start());
     if (IS("\x05")) return lodvarn_move(s, lodvarn_to_line_end());
     if (IS("\x02")) return lodvarn_move(s, lodvarn_chars_back(1));
     if (IS("\x06")) return lodvarn_move(s, lodvarn_chars_forward(1));
     if (IS("\x1b" "b")) return lodvarn_move(s, lodvarn_words_back(LODVARN_EMACS, 1));
     if (IS("\x1b" "f")) return lodvarn_move(s, lodvarn_words_forward(LODVARN_EMACS, LODVARN_AFTER_END, 1));
+    if (IS("\x1f")) return lodvarn_undo(s, 1);
+    if (IS("\x10") || IS("\x1b[A")) return recall(1);
+    if (IS("\x0e") || IS("\x1b[B")) return recall(0);
+    if (IS("\x03")) return end_line(0);
+    if (IS("\n") || IS("\r")) return end_line(1);
+    lodvarn_keep_undone(s); /* no edit loses what was undone: undos come to it */
+    if (IS("\t")) return complete();
     if (IS("\x7f")) return lodvarn_backspace(s, 1);
     if (IS("\x04")) return lodvarn_delete(s, 1);
     if (IS("\x0b")) return lodvarn_kill(s, lodvarn_to_line_end());
@@ -93,11 +136,6 @@ static int press(const char *key, uint32_t c) {
     if (IS("\x1b" "d")) return lodvarn_kill(s, lodvarn_words_forward(LODVARN_EMACS, LODVARN_AFTER_END, 1));
     if (IS("\x19")) return lodvarn_yank(s, 1);
     if (IS("\x1b" "y")) return lodvarn_yank_pop(s);
-    if (IS("\x1f")) return lodvarn_undo(s, 1);
-    if (IS("\x10") || IS("\x1b[A")) return recall(1);
-    if (IS("\x0e") || IS("\x1b[B")) return recall(0);
-    if (IS("\x03")) return end_line(0);
-    if (IS("\n") || IS("\r")) return end_line(1);
     return is_typed ? type(c, goes_on) : LODVARN_NOTHING;
 }
 
@@ -117,7 +155,9 @@ static int take(char byte) {
 }
 
 int main(void) {
-    if (tcgetattr(0, &outside) || lodvarn_open(&s, NULL, "", 0) < 0) return perror("prompt"), 1;
+    lodvarn_options options = LODVARN_OPTIONS;
+    options.limit_holds = true; /* a name would raise the limit */
+    if (tcgetattr(0, &outside) || lodvarn_open(&s, &options, "", 0) < 0) return perror("prompt"), 1;
     raw = outside;
     raw.c_lflag &= ~(tcflag_t)(ECHO | ICANON | IEXTEN | ISIG);
     raw.c_cc[VMIN] = 1;
