@@ -21,7 +21,8 @@ from collections import Counter
 from pathlib import Path
 
 TOP = Path(__file__).resolve().parent.parent
-PAGES = sorted([*TOP.glob("*.md"), *TOP.glob("docs/*.md"), *TOP.glob("clients/*.md")])
+GLOBS = ["*.md", "docs/*.md", "clients/*/README.md", "clients/rust/*/README.md"]
+PAGES = sorted(page for glob in GLOBS for page in TOP.glob(glob))
 HEADING = "## Wrong bodies, and what refuses each"
 HEAD = "| Wrong body |"
 FOLDERS = ("crates", "docs", "clients", "faults", "include", ".ci")

@@ -7,7 +7,7 @@ import sys
 import tarfile
 import tempfile
 import unittest
-from email import message_from_bytes
+from email import message_from_string
 from pathlib import Path
 from zipfile import ZipFile
 
@@ -87,7 +87,7 @@ class Wheel(unittest.TestCase):
         self.assertEqual(self.wheel.name, f"{NAME}-{TAG}.whl")
         with ZipFile(self.wheel) as wheel:
             self.assertEqual(sorted(wheel.namelist()), sorted([*INFO, *NAMES]))
-            said = message_from_bytes(wheel.read(INFO[1]))
+            said = message_from_string(wheel.read(INFO[1]).decode())
         for name, wanted in [
             ("Version", lodvarn.__version__), ("Requires-Dist", "cffi *\\(?>=1.15\\)?"), ("License-File", "LICENSE"),
             ("Requires-Python", ">=3.8"), ("Description-Content-Type", "text/markdown"), ("Summary", "A line of .*"),
