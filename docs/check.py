@@ -3,7 +3,8 @@
 
     python3 docs/check.py
 
-- Each row of the tables of wrong bodies in docs/PROVING.md: its edits that must fail, its tests and its files.
+- Each row of the tables of wrong bodies in docs/PROVING.md: its edits that must fail, its tests and its files; and how
+  many edits and tests there are.
 - Each relative link: its file, and the heading of its #part.
 - Each path in backquotes that begins with a folder of the top: a file or a folder, or a pattern that matches one.
 - Each call and constant of C (lodvarn_.., LODVARN_..): in the headers of include, or a header, or a variable of the
@@ -65,6 +66,13 @@ def faults_of_row(row):
     return missing if names else [f"{body}: nothing is named"]
 
 
+def tried():
+    """What the gate tries, as docs/PROVING.md says it."""
+    edits = len(list(TOP.glob("crates/*/must-fail/*.edit")))
+    tests = sum(source.read_text().count("#[test]\n") for source in TOP.glob("crates/*_tests/src/**/*.rt"))
+    return f"{edits} edits that must fail, {tests} tests"
+
+
 # --- links ---
 
 
@@ -116,7 +124,8 @@ def paths_of(page):
     """The paths in backquotes that begin with a folder of the top."""
     words = (word.rstrip(".,;:") for _, span in SPAN.findall(prose_of(page)) for word in span.split())
     words = (word.removeprefix("./") for word in words)
-    return {word for word in words if word.split("/")[0] in FOLDERS and re.fullmatch(r"[\w./*{},-]+/[\w./*{},-]*", word)}
+    path = re.compile(r"[\w./*{},-]+/[\w./*{},-]*")
+    return {word for word in words if word.split("/")[0] in FOLDERS and path.fullmatch(word)}
 
 
 def path_is_there(path):
@@ -285,12 +294,14 @@ def see_page(count, page, header, crates):
 
 
 def see_wrong_bodies(count, page):
-    """Looks for what refuses each wrong body."""
+    """Looks for what refuses each wrong body, and for how many edits and tests there are."""
     rows = rows_of(page)
     for row in rows:
         count.see(page, faults_of_row(row))
     if not rows:
         count.see(page, ["there is no table of wrong bodies"])
+    said = " ".join(page.read_text().split())
+    count.see(page, [] if tried() in said else [f"it does not say: {tried()}"])
 
 
 def main():
