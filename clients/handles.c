@@ -26,8 +26,9 @@ int rl_get_options(void *block, lodvarn_options *options);
         return answer;                                   \
     } while (0)
 
-/* Blocks that hold nothing. A call may write the NULL that is there, so no two threads share one. */
-static __thread struct block no_record, no_killring;
+/* Blocks that hold nothing. A call may write the NULL that is there, so no two threads share one. Their places are known
+ * once the library is loaded: else it would call the loader at each use, and need it as a library of its own. */
+static __thread __attribute__((tls_model("initial-exec"))) struct block no_record, no_killring;
 lodvarn_record *lodvarn_no_record(void) { return (void *)&no_record; }
 lodvarn_killring *lodvarn_no_killring(void) { return (void *)&no_killring; }
 

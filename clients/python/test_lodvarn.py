@@ -838,10 +838,11 @@ class Module(unittest.TestCase):
 
 
 def main():
-    """Runs the tests of the program that was started, says how many passed, and ends it."""
+    """Runs the tests of the program that was started, says how many passed, and ends it. A class that can't begin fails."""
     result = unittest.main(exit=False).result
-    failed = min(len(result.failures) + len(result.errors), result.testsRun)
-    print(f"{result.testsRun - failed} passed, {failed} failed")
+    run = max(result.testsRun, 1)
+    failed = min(len(result.failures) + len(result.errors), run)
+    print(f"{run - failed} passed, {failed} failed")
     sys.exit(failed != 0)
 
 
