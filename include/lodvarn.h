@@ -297,7 +297,8 @@ static inline lodvarn_movement lodvarn_chars_forward(size_t n) {
     return lodvarn_movement_(LODVARN_CHARS_FORWARD_, 0, n);
 }
 
-/* n lines up, or down, in the column of the cursor. */
+/* n lines up, or down, to where as many clusters stand before the place as columns before the cursor: among wide
+ * characters that is to the right of its column. lodvarn_row_above and lodvarn_row_below go by columns. */
 static inline lodvarn_movement lodvarn_lines_up(size_t n) { return lodvarn_movement_(LODVARN_LINES_UP_, 0, n); }
 static inline lodvarn_movement lodvarn_lines_down(size_t n) { return lodvarn_movement_(LODVARN_LINES_DOWN_, 0, n); }
 

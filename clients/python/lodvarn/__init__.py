@@ -320,12 +320,12 @@ class Movement:
 
     @classmethod
     def lines_up(cls, n: int = 1) -> Movement:
-        """n lines up, in the column of the cursor."""
+        """n lines up, with as many clusters before the place as there are columns before the cursor."""
         return cls._made("lines_up", n)
 
     @classmethod
     def lines_down(cls, n: int = 1) -> Movement:
-        """n lines down, in the column of the cursor."""
+        """n lines down, with as many clusters before the place as there are columns before the cursor."""
         return cls._made("lines_down", n)
 
     @classmethod

@@ -226,8 +226,8 @@ pub enum Side {
 pub struct Options {
     /// How columns are counted. At first [`Mode::Unicode`].
     pub mode: Mode,
-    /// The column where the text begins, after a prompt: [`Movement::LineUp`] and [`Movement::LineDown`] keep to the
-    /// column of the screen if they come to the first line or leave it. At first 0.
+    /// The column where the text begins, after a prompt, which [`Movement::LineUp`] and [`Movement::LineDown`] count if
+    /// they come to the first line or leave it. At first 0.
     pub prompt: u16,
     /// How many bytes the text may have, `None` for any number; as many as it has if that is more. At first 4096. It
     /// rises if a call that asks for no limit makes the text longer, as [`replace`](crate::Session::replace) and
