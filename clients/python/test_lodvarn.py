@@ -838,7 +838,7 @@ class Module(unittest.TestCase):
 
 
 def main():
-    """Runs the tests of the program that was started, says how many passed, and ends it. A class that can't begin fails."""
+    """Runs the tests of the started program, says how many passed, and ends it. A class that cannot begin fails."""
     result = unittest.main(exit=False).result
     run = max(result.testsRun, 1)
     failed = min(len(result.failures) + len(result.errors), run)

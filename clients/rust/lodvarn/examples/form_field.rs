@@ -27,14 +27,14 @@ impl Field {
     }
 
     /// What goes in of a text: no newline nor other control character, and as many clusters as there is room for.
-    fn allowed(&self, text: &str) -> String {
+    fn allowed(&self, text: &str) -> Result<String, Fault> {
         let room = MAX_BYTES - (self.session.text().len() - self.selected().len());
         let mut allowed: String = text.chars().filter(|c| !c.is_control()).collect();
-        let ends = clusters(Mode::Unicode, &allowed)
+        let ends = clusters(Mode::Unicode, &allowed)?
             .into_iter()
             .map(|it| it.to);
         allowed.truncate(ends.take_while(|&it| it <= room).last().unwrap_or(0));
-        allowed
+        Ok(allowed)
     }
 
     /// Undoes or redoes, and selects what came in the place of something else.
@@ -56,7 +56,7 @@ impl Field {
     /// Does what a key says, if there is something to do. False if there is no such key.
     fn press(&mut self, line: &str) -> Result<bool, Fault> {
         let (key, text) = line.split_once(' ').unwrap_or((line, ""));
-        let text = self.allowed(&text.replace("\\n", "\n"));
+        let text = self.allowed(&text.replace("\\n", "\n"))?;
         let (selected, session, word) = (self.selected(), &mut self.session, Word::Emacs);
         let motion = key.strip_prefix("select-");
         let _is_done = match motion.unwrap_or(key) {
@@ -94,9 +94,9 @@ impl Field {
 
     /// The field, the column of the cursor, what is selected, and a star if it is saved. It scrolls no further than the
     /// cursor needs, and back if the rest of the text leaves room.
-    fn show(&mut self) -> String {
+    fn show(&mut self) -> Result<String, Fault> {
         let (text, pos) = (self.session.text(), self.session.pos());
-        let places: Vec<Cluster> = clusters(Mode::Unicode, text);
+        let places: Vec<Cluster> = clusters(Mode::Unicode, text)?;
         let columns = |from: usize, to: usize| width(Mode::Unicode, &text[from..to]);
         let cursor = places
             .iter()
@@ -125,7 +125,7 @@ impl Field {
             &text[first..last],
             columns(first, pos)
         );
-        format!("{}{star}", shown.trim_end())
+        Ok(format!("{}{star}", shown.trim_end()))
     }
 }
 
@@ -140,7 +140,7 @@ pub fn run(keys: impl BufRead, mut answers: impl Write) -> Result<(), Box<dyn Er
     for line in keys.lines() {
         let line = line?;
         match field.press(&line)? {
-            true => writeln!(answers, "{}", field.show())?,
+            true => writeln!(answers, "{}", field.show()?)?,
             false => writeln!(answers, "no such key: {line}")?,
         }
     }

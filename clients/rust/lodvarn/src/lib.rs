@@ -139,10 +139,16 @@ fn owned(text: &str) -> Result<String, Fault> {
     Ok(copy)
 }
 
-/// A buffer of so many bytes.
-fn room(len: usize) -> Result<Vec<u8>, Fault> {
+/// An empty list that takes so many without more memory.
+fn empty_for<T>(len: usize) -> Result<Vec<T>, Fault> {
     let mut out = Vec::new();
     out.try_reserve_exact(len).map_err(|_| Fault::NoMemory)?;
-    out.resize(len, 0);
+    Ok(out)
+}
+
+/// A buffer for so many, which the library writes.
+fn room<T: Clone>(len: usize, blank: T) -> Result<Vec<T>, Fault> {
+    let mut out = empty_for(len)?;
+    out.resize(len, blank);
     Ok(out)
 }

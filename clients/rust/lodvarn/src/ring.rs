@@ -90,7 +90,7 @@ impl Session {
     /// [`Fault::NoMemory`]; nothing is done.
     pub fn copy(&mut self, movement: Movement) -> Result<Option<String>, Fault> {
         let covered = self.covers(self.pos(), movement)?;
-        let (mut out, mut len) = (room(covered.map_or(0, |it| it.len()))?, 0);
+        let (mut out, mut len) = (room(covered.map_or(0, |it| it.len()), 0)?, 0);
         let is_copied = found(self.handle.copy(movement, &mut out, &mut len))?;
         Ok(is_copied.then(|| String::from_utf8(out).expect("the library's texts are UTF-8")))
     }

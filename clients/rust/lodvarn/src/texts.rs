@@ -1,7 +1,7 @@
 //! The calls without a session.
 use crate::ffi::lodvarn_cluster;
 use crate::words::{Cluster, Fault, Mode, Position, Screen};
-use crate::{calls, done, room, sure, told};
+use crate::{calls, done, empty_for, room, sure, told};
 
 /// What a script prints, run in a session of its own.
 ///
@@ -9,7 +9,7 @@ use crate::{calls, done, room, sure, told};
 ///
 /// [`Fault::NoMemory`]; what was printed before is lost.
 pub fn run_script(script: &[u8]) -> Result<Vec<u8>, Fault> {
-    let mut out = room(script.len())?;
+    let mut out = room(script.len(), 0)?;
     loop {
         let mut len = 0;
         done(calls::script(script, &mut out, &mut len))?;
@@ -17,7 +17,7 @@ pub fn run_script(script: &[u8]) -> Result<Vec<u8>, Fault> {
             out.truncate(len);
             return Ok(out);
         }
-        out = room(len)?;
+        out = room(len, 0)?;
     }
 }
 
@@ -43,16 +43,24 @@ pub fn last_cluster(text: &str) -> &str {
 ///
 /// ```
 /// # use lodvarn::Mode;
-/// let columns = |text| lodvarn::clusters(Mode::Unicode, text).iter().map(|it| (it.from, it.columns)).collect::<Vec<_>>();
-/// assert_eq!(columns("e\u{301}漢x"), [(0, 1), (3, 2), (6, 1)]);
+/// # fn main() -> Result<(), lodvarn::Fault> {
+/// let clusters = lodvarn::clusters(Mode::Unicode, "e\u{301}漢x")?;
+/// let columns: Vec<_> = clusters.iter().map(|it| (it.from, it.columns)).collect();
+/// assert_eq!(columns, [(0, 1), (3, 2), (6, 1)]);
+/// # Ok(())
+/// # }
 /// ```
-#[must_use]
-pub fn clusters(mode: Mode, text: &str) -> Vec<Cluster> {
+///
+/// # Errors
+///
+/// [`Fault::NoMemory`].
+pub fn clusters(mode: Mode, text: &str) -> Result<Vec<Cluster>, Fault> {
     let count = sure(calls::clusters(mode, text, &mut []));
     let none = lodvarn_cluster { from: 0, to: 0, columns: 0 };
-    let mut found = vec![none; count];
+    let (mut found, mut clusters) = (room(count, none)?, empty_for(count)?);
     let _ = calls::clusters(mode, text, &mut found);
-    found.into_iter().map(Cluster::of).collect()
+    clusters.extend(found.into_iter().map(Cluster::of));
+    Ok(clusters)
 }
 
 impl Screen {
@@ -91,14 +99,20 @@ impl Screen {
     /// text that ends at the right edge has one more, which is empty.
     ///
     /// ```
-    /// # use lodvarn::Screen;
+    /// # use lodvarn::{Fault, Screen};
+    /// # fn main() -> Result<(), Fault> {
     /// let screen = Screen::new(3u16.try_into().expect("3 is not 0"));
-    /// assert_eq!(screen.rows("abcd\ne"), [0, 3, 5]);
+    /// assert_eq!(screen.rows("abcd\ne")?, [0, 3, 5]);
+    /// # Ok(())
+    /// # }
     /// ```
-    #[must_use]
-    pub fn rows(&self, text: &str) -> Vec<usize> {
-        let mut starts = vec![0; sure(calls::rows(self, text, &mut []))];
+    ///
+    /// # Errors
+    ///
+    /// [`Fault::NoMemory`].
+    pub fn rows(&self, text: &str) -> Result<Vec<usize>, Fault> {
+        let mut starts = room(sure(calls::rows(self, text, &mut [])), 0)?;
         let _ = calls::rows(self, text, &mut starts);
-        starts
+        Ok(starts)
     }
 }

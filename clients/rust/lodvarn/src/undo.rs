@@ -170,7 +170,7 @@ impl Changeset {
         let (mut out, mut len) = (Vec::new(), 0);
         let mut answer = self.record.last_insert(&mut out, &mut len);
         if answer == ffi::LODVARN_TOO_SMALL {
-            out = room(len)?;
+            out = room(len, 0)?;
             answer = self.record.last_insert(&mut out, &mut len);
         }
         let is_found = found(answer)?;
