@@ -12,6 +12,7 @@
 - Each crate (rl_..): in crates.txt, or a call that clients/handles.c makes.
 - Each word of a script (specs/Grammar.antt): one row in docs/RULES.md, and no other rows.
 - Each function, clause and definition in the column of contracts of docs/PROMISES.md: in the crates, as it is spelled.
+- Each page: no line of more than WIDTH characters, apart from code, tables and pictures.
 
 Its last line is 'N passed, M failed'.
 """
@@ -36,6 +37,7 @@ CALL = re.compile(r"\b(?:lodvarn_[a-z0-9_]*[a-z0-9]|LODVARN_[A-Z0-9_]*[A-Z0-9])\
 # What the clients for Python and Rust read of the environment.
 VARIABLES = {"LODVARN_LIB"}
 CRATE = re.compile(r"\brl_[a-z_]+\b")
+WIDTH = 120
 
 
 # --- the tables of wrong bodies ---
@@ -291,6 +293,9 @@ def see_page(count, page, header, crates):
     count.see_all(page, "path", paths_of(page), path_is_there)
     count.see_all(page, "call", calls_of(page), header.__contains__)
     count.see_all(page, "crate", crates_of(page), crates.__contains__)
+    prose = prose_of(page).splitlines()
+    wide = [line for line in prose if len(line) > WIDTH and not line.startswith(("|", "    ", "!["))]
+    count.see(page, [f"too wide: {line[:60]}.." for line in wide])
 
 
 def see_wrong_bodies(count, page):
