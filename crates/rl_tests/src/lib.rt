@@ -10,6 +10,8 @@ mod cursors;
 #[cfg(test)]
 mod forgetting;
 #[cfg(test)]
+mod grammar;
+#[cfg(test)]
 mod indents;
 #[cfg(test)]
 mod kills;
