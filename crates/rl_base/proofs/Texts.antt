@@ -6,3 +6,4 @@ pub mod SpliceLemmas
 pub mod GatheredLemmas
 pub mod BlankLemmas
 pub mod LineLemmas
+pub mod SavingLemmas

@@ -19,3 +19,5 @@ pub mod Reports
 pub mod Notes
 pub mod Watch
 pub mod Sameness
+pub mod Saving
+pub mod SavedRing

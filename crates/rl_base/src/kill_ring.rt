@@ -11,6 +11,8 @@ ghost use Rattle.rl_base.specs.declared.kill_ring.NewKill.{NewKill};
 ghost use Rattle.rl_base.specs.declared.kill_ring.NewKill.TheVariants.{AfterCurrent};
 ghost use Rattle.rl_base.specs.KillGroups.{Doing, Kills, ring_done, group_done, no_groups, groups_of, AllKills, NoPops, all_joined};
 
+mod saved;
+
 use crate::gathered::Gathered;
 use crate::listeners::{DeleteListener, Direction, Refusal};
 use std::alloc::Global;

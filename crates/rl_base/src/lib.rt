@@ -10,6 +10,7 @@ pub mod motion;
 pub mod notes;
 pub mod places;
 pub mod reports;
+pub mod saving;
 pub mod screen;
 pub mod splice;
 pub mod testing;
@@ -22,6 +23,7 @@ pub use listeners::{ChangeListener, DeleteListener, Direction, NoListener, Refus
 pub use motion::{Anchor, At, CharSearch, Movement, RepeatCount, Word, WordAction};
 pub use notes::Notes;
 pub use reports::{Report, ReportKind, Reports};
+pub use saving::{LoadFault, SaveFault, Unread, Width};
 pub use screen::Screen;
 pub use splice::{Side, Splice};
 pub use testing::{RefuseAt, TextEvent};

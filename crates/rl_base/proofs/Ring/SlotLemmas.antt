@@ -1,5 +1,5 @@
 -- The slots from the current one back, round the ring.
-use Rattle.rl_base.proofs.Common.{◌≡◌, ℕ, ◌+◌, ◌-◌, ◌<◌, ◌≤◌, zero, suc, true, List, [], ◌∷◌, ◌++◌, length, take, drop, get_or, reverse, Option, None, Some, refl, ap, sym, ◌∙◌, ◌⊎◌, inl, inr, arith, cases_lt, append-nil, append_assoc, reverse-append, length-reverse, length-append, length-take, length-drop, length-set, take_at, take-take, take-set, take_all, drop_all, drop-set-lt, take_more, drop_more, get_or-set_same, get_or_append_left, slice_get-get_or, slice_get_past, cond-true, eq-eqb, max, ◌==◌, slice_get, slice_set, Mode, Ring, IsRing, raised, next_index, put_at, back_from, join_at, grown, lent, yank, yank_size, yank_popped, popped_ring, turned, index_before, text_back}
+use Rattle.rl_base.proofs.Common.{◌≡◌, ℕ, ◌+◌, ◌-◌, ◌<◌, ◌≤◌, zero, suc, true, List, [], ◌∷◌, ◌++◌, length, take, drop, get_or, reverse, Option, None, Some, refl, ap, sym, ◌∙◌, ◌⊎◌, inl, inr, arith, cases_lt, append-nil, append_assoc, reverse-append, length-reverse, length-append, length-take, length-drop, length-set, take_at, take-take, take-set, take_all, drop_all, drop-set-lt, take_more, drop_more, get_or-set_same, get_or_append_left, slice_get-get_or, slice_get_past, cond-true, eq-eqb, max, ◌==◌, slice_get, slice_set, Mode, Ring, IsRing, Gathering, length-map, texts, subst, get_or-map, raised, next_index, put_at, back_from, join_at, grown, lent, yank, yank_size, yank_popped, popped_ring, turned, index_before, text_back}
 use Rattle.rl_base.specs.KillRing.{joined}
 use Rattle.rl_base.proofs.Ring.RingLemmas.{Next, join-is, next_index-is, put-over}
 
@@ -151,3 +151,11 @@ puts n index text slots within at filling =
 
 pub take-grown : (groups : List (List ℕ)) (n : ℕ) (text : List ℕ) → text ∷ take n (take (suc n) groups) ≡ take (suc n) (text ∷ groups)
 take-grown groups n text = ap (λ l. text ∷ l) (take-take n (suc n) groups (omega arith))
+
+-- a slot that stands at i has its text at i of the texts
+pub text_at : (slots : List Gathering) (i : ℕ) (slot : Gathering) → i < length slots → slot ≡ get_or slots i slot
+    → (i < length (texts slots)) × (get_or (texts slots) i slot.text ≡ slot.text)
+text_at slots i slot at is = (
+  subst (λ n. i < n) (sym (length-map slots (λ (g : Gathering). g.text))) at,
+  get_or-map (λ (g : Gathering). g.text) slots i slot slot.text at ∙ ap (λ (g : Gathering). g.text) (sym is),
+)
