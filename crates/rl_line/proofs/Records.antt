@@ -19,6 +19,7 @@ pub mod GroupLemmas
 pub mod TurnLemmas
 pub mod HeardLemmas
 pub mod MoveLemmas
+pub mod SavingLemmas
 pub mod OriginLemmas
 pub mod ChangeLemmas
 pub mod RoomLemmas

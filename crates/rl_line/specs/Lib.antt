@@ -19,4 +19,5 @@ pub mod Units
 pub mod Forgetting
 pub mod Undo
 pub mod Walk
+pub mod SavedRecord
 pub mod Foretelling

@@ -14,6 +14,7 @@ ghost use Rattle.rl_line.specs.Undo.{Abandoned, CopiesBack, GoesOver, LineOutOfR
 ghost use Rattle.rl_line.specs.Units.{BothMatched, IsMatched, adds_end, begun, ended, ended_one, ends_in_end, has_change, is_change, last_of, level, open_group, redo_of, reopened, truncated, with_closed, kept_undone, waits};
 
 mod foretelling;
+mod saved;
 
 use crate::change::{Change, Freshness, Way, count_over, keeps_to, text_over};
 use crate::entries::{self, Entries};

@@ -1,6 +1,6 @@
 //! The entries of a record: what an event makes of them, how its groups are closed, and whether a line can go over them. A
 //! function that records drops what was undone; refused, it leaves every entry.
-ghost use Rattle.std.specs.Prelude.{◌≡◌, ◌+◌, ◌^◌, ◌≤◌, ◌<◌, [], ◌++◌, All, encode_utf8, is_some, length, map, take, drop, true, false, None, IfOk, IfErr, OnOk, OnErr, reverse};
+ghost use Rattle.std.specs.Prelude.{◌≡◌, ◌+◌, ◌^◌, ◌≤◌, ◌<◌, [], ◌++◌, All, encode_utf8, is_some, length, map, take, drop, true, false, None, IfOk, IfErr, IfSome, OnOk, OnErr, reverse};
 ghost use Rattle.std.specs.Option.{option_map};
 ghost use Rattle.std.specs.String.{string_bytes};
 ghost use Rattle.std.specs.Vec.{vec_len, vec_capacity};
@@ -59,6 +59,27 @@ impl Entries {
         }
     }
 
+    /// A list of entries, of which the first are recorded. None if it has fewer, or the save point is past them.
+    pub(crate) fn of(
+        list: Vec<Change>,
+        recorded: usize,
+        fresh: Freshness,
+        saved: Option<usize>,
+    ) -> Option<Self>
+        ensures some { IfSome result (λ entries. entries ≡ cut_at recorded (map entry_of list.items) fresh saved) }
+        ensures none { result ≡ None → recorded ≤ length list.items → ¬ (kept_point (length list.items) saved ≡ saved) }
+    {
+        if recorded > list.len() || saved.unwrap_or(0) > list.len() {
+            return None;
+        }
+        Some(Entries {
+            list,
+            recorded,
+            fresh,
+            saved,
+        })
+    }
+
     pub(crate) fn allocator(&self) -> Global {
         *self.list.allocator()
     }
@@ -71,6 +92,27 @@ impl Entries {
         // So the proof knows how long the list can be.
         let _all = self.list.len();
         self.recorded
+    }
+
+    pub(crate) fn fresh(&self) -> Freshness
+        ensures { result ≡ self.now.fresh }
+    {
+        self.fresh
+    }
+
+    /// After how many entries the text was saved.
+    pub(crate) fn saved(&self) -> Option<usize>
+        ensures saved { result ≡ self.now.saved }
+        ensures within { kept_point (length (self.now.recorded ++ self.now.pending)) self.now.saved ≡ self.now.saved }
+    {
+        self.saved
+    }
+
+    /// Those that are recorded, and after them those that wait to be redone.
+    pub(crate) fn all(&self) -> &[Change]
+        ensures { map entry_of result.now ≡ self.now.recorded ++ self.now.pending }
+    {
+        self.list.as_slice()
     }
 
     #[tactic(auto, using(crate::proofs::Records::MoveLemmas::parts_of_lists))]

@@ -1,5 +1,5 @@
 //! The units of a list of entries, which an undo or a redo goes over, and how many groups are open after it.
-ghost use Rattle.std.specs.Prelude.{◌≡◌, ◌+◌, ◌^◌, ◌≤◌, ◌<◌, [], ◌∷◌, length, map, take, true, IfSome};
+ghost use Rattle.std.specs.Prelude.{◌≡◌, ◌+◌, ◌^◌, ◌≤◌, ◌<◌, [], ◌∷◌, length, map, take, true, None, IfSome};
 ghost use Rattle.rl_line.specs.Record.{entry_of};
 ghost use Rattle.rl_line.specs.Units.{IsMatched, has_change, is_change, last_of, level, open_size, redo_of};
 ghost use Rattle.rl_line.specs.Entries.{deep};
@@ -17,6 +17,24 @@ pub(crate) fn level(entries: &[Change]) -> usize
         level = level_after(entry, level);
     }
     level
+}
+
+/// How many groups are open after the entries, if each End among them closes a group that holds a change.
+#[tactic(auto, using(crate::proofs::Records::MatchLemmas::marked))]
+pub(crate) fn matched_level(entries: &[Change]) -> Option<usize>
+    ensures some { IfSome result (λ n. IsMatched (map entry_of entries.now) × (n ≡ level (map entry_of entries.now))) }
+    ensures none { result ≡ None → ¬ (IsMatched (map entry_of entries.now)) }
+{
+    let mut level = 0;
+    let mut after_begin = false;
+    for entry in entries {
+        if entry.is_end() && (level == 0 || after_begin) {
+            return None;
+        }
+        level = level_after(entry, level);
+        after_begin = entry.is_begin();
+    }
+    Some(level)
 }
 
 // How many groups are open after an entry, if `level` are open before it.

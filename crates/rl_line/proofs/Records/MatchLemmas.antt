@@ -1,5 +1,6 @@
 -- Every operation keeps the marks matched, and a change in each closed group.
-use Rattle.rl_line.proofs.Common.{◌≡◌, ℕ, ◌+◌, ◌-◌, ◌≤◌, suc, arith, Bool, true, false, List, [], ◌∷◌, ◌++◌, length, take, drop, reverse, Some, refl, sym, ap, subst, ◌∙◌, inl, inr, append-nil, drop_all, take-append-drop, option_and_then, IsSome, zero, max, Event, Freshness, Start, Stop, Cursors, Entry, Begin, End, Changed, Record, entries_of, entries_after, pending_after, UndoUnit, Open, Whole, units, opens, level, last_of, kept_of, redo_from, redo_of, end_one, ends_in_begin, is_begin, end_times, begun, undone, redone, truncated, with_closed, touched, mark, marks, IsMatched, BothMatched}
+use Rattle.rl_line.proofs.Common.{◌≡◌, ℕ, ◌+◌, ◌-◌, ◌<◌, ◌≤◌, ◌⊎◌, deep, get_or, is_end, same_Some, suc, arith, Bool, true, false, List, [], ◌∷◌, ◌++◌, length, take, drop, reverse, Some, refl, sym, ap, subst, ◌∙◌, inl, inr, append-nil, drop_all, take-append-drop, option_and_then, IsSome, zero, max, Event, Freshness, Start, Stop, Cursors, Entry, Begin, End, Changed, Record, entries_of, entries_after, pending_after, UndoUnit, Open, Whole, units, opens, level, last_of, kept_of, redo_from, redo_of, end_one, ends_in_begin, is_begin, end_times, begun, undone, redone, truncated, with_closed, touched, mark, marks, IsMatched, BothMatched}
+use Rattle.std.proofs.lemmas.List.{take_more}
 use Rattle.rl_base.proofs.Texts.SwapLemmas.{some_is}
 use Rattle.rl_line.specs.Record.{record_step}
 use Rattle.rl_line.proofs.Records.LastLemmas.{after-cases, by_last, end_one-cases, ends-past}
@@ -158,3 +159,66 @@ BothMatched-truncated n r b = record {
   recorded = IsMatched-front (take n r.recorded) (drop n r.recorded) (subst IsMatched (sym (take-append-drop n r.recorded)) b.recorded);
   pending = refl;
 }
+
+-- ---- marks that are read from the front
+-- right after a Begin the latest open group holds no change, and else it holds one
+abbrev Latest : Bool → List Bool → Type 0
+Latest true fs = (gs : List Bool) × (fs ≡ false ∷ gs)
+Latest false fs = fs ≡ touched fs
+
+-- entries with these open groups, of which the last entry is a Begin, or is not
+pub record MarkedTo (es : List Entry) (n : ℕ) (after_begin : Bool) : Type 0 where
+  pub flags : List Bool
+  pub marked : marks es [] ≡ Some flags
+  pub open_is : n ≡ length flags
+  pub latest : Latest after_begin flags
+
+pub MarkedTo-none : MarkedTo [] 0 false
+MarkedTo-none = record { flags = []; marked = refl; open_is = refl; latest = refl }
+
+pub MarkedTo-level : (es : List Entry) (n : ℕ) (after_begin : Bool) → MarkedTo es n after_begin → IsMatched es × (n ≡ level es)
+MarkedTo-level es n after_begin m = (some_is (marks es []) m.flags m.marked, m.open_is ∙ sym (level-is es m.flags m.marked))
+
+-- the next entry, if it is no End of no group, or of an empty one
+next-mark : (e : Entry) (fs : List Bool) (n : ℕ) (after_begin : Bool) → n ≡ length fs → Latest after_begin fs → (is_end e ≡ true → ¬ (n ≡ 0) × (after_begin ≡ false))
+    → (gs : List Bool) × (mark e fs ≡ Some gs) × (deep n (e ∷ []) ≡ length gs) × Latest (is_begin e) gs
+next-mark Begin fs n after_begin is latest fine = (false ∷ fs, refl, ap suc is, (fs, refl))
+next-mark (Changed k c) fs n after_begin is latest fine = (touched fs, refl, is ∙ sym (length-touched fs), touched_is fs (touched fs) refl)
+next-mark End [] n after_begin is latest fine = absurd ((fine refl).0 is)
+next-mark End (true ∷ fs) n after_begin is latest fine = (touched fs, refl, omega (arith, is, length-touched fs), touched_is fs (touched fs) refl)
+next-mark End (false ∷ fs) n true is latest fine = let not_begun : true ≡ false = (fine refl).1 in absurd cc
+next-mark End (false ∷ fs) n false is latest fine = absurd cc
+
+pub MarkedTo-next : (es : List Entry) (i n : ℕ) (after_begin : Bool) (e : Entry) → i < length es → get_or es i e ≡ e → MarkedTo (take i es) n after_begin
+    → (is_end e ≡ true → ¬ (n ≡ 0) × (after_begin ≡ false)) → MarkedTo (take (i + 1) es) (deep n (e ∷ [])) (is_begin e)
+MarkedTo-next es i n after_begin e at is m fine =
+    let next = next-mark e m.flags n after_begin m.open_is m.latest fine in
+    let front = ap (λ l. marks l []) (take_more es i e at) ∙ marks-append (take i es) (get_or es i e ∷ []) [] ∙ ap (option_and_then (marks (get_or es i e ∷ []))) m.marked in
+    record {
+      flags = next.0;
+      marked = front ∙ ap (λ d. marks (d ∷ []) m.flags) is ∙ ap (option_and_then (marks [])) next.1;
+      open_is = next.2;
+      latest = next.3;
+    }
+
+-- an End of no group, or of an empty one, is in no matched entries
+pub unmatched : (es : List Entry) (i n : ℕ) (after_begin : Bool) (e : Entry) → i < length es → get_or es i e ≡ e → MarkedTo (take i es) n after_begin
+    → is_end e ≡ true → (n ≡ 0) ⊎ (after_begin ≡ true) → IsMatched es → ⊥
+unmatched es i n after_begin e at is m end bad h =
+    let front = IsMatched-front (take (i + 1) es) (drop (i + 1) es) (subst IsMatched (sym (take-append-drop (i + 1) es)) h) in
+    let s = value_of (marks (take (i + 1) es) []) front in
+    let l = marks-last (take i es) (get_or es i e) s.0 (ap (λ k. marks k []) (sym (take_more es i e at)) ∙ s.1) in
+    none e m.flags n after_begin s.0 m.open_is m.latest end bad
+      (ap (λ d. mark d m.flags) (sym is) ∙ ap (mark (get_or es i e)) (same_Some _ _ (sym m.marked ∙ l.1)) ∙ l.2)
+  where
+    none : (e : Entry) (fs : List Bool) (n : ℕ) (after_begin : Bool) (gs : List Bool) → n ≡ length fs → Latest after_begin fs → is_end e ≡ true → (n ≡ 0) ⊎ (after_begin ≡ true)
+        → mark e fs ≡ Some gs → ⊥
+    none Begin fs n after_begin gs is latest end bad h = cc
+    none (Changed k c) fs n after_begin gs is latest end bad h = cc
+    none End [] n after_begin gs is latest end bad h = cc
+    none End (false ∷ fs) n after_begin gs is latest end bad h = cc
+    none End (true ∷ fs) n after_begin gs is latest end (inl zero_open) h = absurd (omega (arith, is, zero_open))
+    none End (true ∷ fs) n true gs is latest end (inr after) h = let same : true ∷ fs ≡ false ∷ latest.0 = latest.1 in cc
+    none End (true ∷ fs) n false gs is latest end (inr after) h = cc
+
+pub ruleset marked = (MarkedTo-none, MarkedTo-level)

@@ -11,7 +11,7 @@ use Rattle.rl_line.proofs.Records.UndoLemmas.{line_ahead-append, line_ahead-back
 use Rattle.rl_line.proofs.Records.UnitLemmas.{kept-last}
 
 -- each entry is of its kind
-of_kind : (x : Change) → IsOfKind (entry_of x)
+pub of_kind : (x : Change) → IsOfKind (entry_of x)
 of_kind made.Begin = tt
 of_kind made.End = tt
 of_kind (made.Insert cursors i s) = refl

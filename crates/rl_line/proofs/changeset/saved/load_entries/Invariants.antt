@@ -1,0 +1,8 @@
+use Rattle.rl_line.proofs.Common.{◌≡◌, ◌++◌, ℕ, List, length, map, take, drop, All, Entry, entry_of}
+use Rattle.rl_line.specs.SavedRecord.{IsSavedEntry, saved_entries}
+use Rattle.rl_line.proofs.changeset.saved.load_entries.Given as goal
+
+-- those so far were read, and the others stand next
+abbrev pub invariant-loop-i : goal.invariant-loop-i
+invariant-loop-i l = (es : List Entry) (rest : List ℕ) → length es ≡ l.count → All IsSavedEntry es → l.fn.bytes ≡ saved_entries es ++ rest
+    → (map entry_of l.made.items ≡ take l.i es) × (l.bytes ≡ saved_entries (drop l.i es) ++ rest)

@@ -1,0 +1,246 @@
+//! A record as bytes, and back.
+ghost use Rattle.std.specs.Prelude.{◌≡◌, ◌+◌, ◌++◌, List, ℕ, All, IfErr, IfOk, IfSome, OnOk, Option, Some, length, map};
+ghost use Rattle.rl_base.specs.Saving.{Loads};
+ghost use Rattle.rl_base.specs.declared.saving.LoadFault.TheVariants.{NoMemory};
+ghost use Rattle.rl_base.specs.declared.saving.SaveFault.TheVariants.{TooLong};
+ghost use Rattle.rl_line.specs.Record.{Entry, Record, entry_of, kept_point, new_text, old_text};
+ghost use Rattle.rl_line.specs.SavedRecord.{FitsEntry, IsSavedEntry, IsSavedRecord, entry_number, entry_numbers, fresh_number, kept_number, number_or_0, pair_or_0, point_number, record_numbers, saved_entries, saved_entry, saved_record};
+ghost use Rattle.rl_line.specs.Units.{BothMatched};
+ghost use Rattle.rl_line.specs.declared.change.Freshness.{Freshness};
+
+use crate::change::{Change, Freshness, Texts, Way, copied};
+use crate::changeset::Changeset;
+use crate::entries::Entries;
+use crate::inserted::Inserted;
+use crate::units;
+use rl_base::saving::put_numbers;
+use rl_base::{Gathered, LoadFault, SaveFault, Unread, Width};
+use std::alloc::Global;
+
+impl Changeset {
+    /// Puts the record at the end of bytes, from which `load` makes it again. Refused, it leaves any bytes. `TooLong` comes
+    /// exactly if a text of it has 4 GiB or more, or a place is as far.
+    #[tactic(auto, unfolding(crate::specs::SavedRecord::saved_record))]
+    pub fn save(&self, out: &mut Vec<u8>) -> Result<(), SaveFault>
+        ensures ok { OnOk result (out.new.items ≡ out.old.items ++ saved_record self.now) }
+        ensures loads { OnOk result (IsSavedRecord self.now) }
+        ensures err { IfErr result (λ f. f ≡ TooLong → ¬ (All FitsEntry (self.now.recorded ++ self.now.pending))) }
+    {
+        put_numbers(out, Width::Eight, &self.numbers())?;
+        put_entries(out, self.entries.all())?;
+        Ok(())
+    }
+
+    fn numbers(&self) -> [u64; 6]
+        ensures numbers { result ≡ record_numbers self.now }
+        ensures matched { BothMatched self.now }
+        ensures point { kept_point (length (self.now.recorded ++ self.now.pending)) self.now.saved ≡ self.now.saved }
+    {
+        let (fresh, saved) = (self.entries.fresh(), self.entries.saved());
+        [
+            self.entries.all().len() as u64,
+            self.recorded().len() as u64,
+            fresh_number(fresh),
+            kept_number(fresh),
+            point_number(saved),
+            number_or_0(saved),
+        ]
+    }
+
+    /// Makes the record of what `save` put into bytes, and reads them. Other bytes make another record, whose groups are
+    /// matched too, or are `Damaged`. Whether it is one of a text tells `walks`.
+    #[tactic(auto, unfolding(crate::specs::SavedRecord::saved_record))]
+    pub fn load(alloc: Global, bytes: &mut Unread) -> Result<Changeset, LoadFault>
+        ensures loaded { (r : Record) (rest : List ℕ) → IsSavedRecord r → bytes.old ≡ saved_record r ++ rest
+            → Loads r result × OnOk result (bytes.new ≡ rest) }
+    {
+        let mut head = [0; 6];
+        if !bytes.numbers(Width::Eight, &mut head) {
+            return Err(LoadFault::Damaged);
+        }
+        let list = load_entries(alloc, bytes, head[0])?;
+        record_of(head, list).ok_or(LoadFault::Damaged)
+    }
+}
+
+// The record of these numbers and entries, if there is one.
+#[tactic(auto, using(crate::proofs::Records::SavingLemmas::records))]
+fn record_of(head: [u64; 6], list: Vec<Change>) -> Option<Changeset>
+    ensures { (r : Record) → IsSavedRecord r → head ≡ record_numbers r → map entry_of list.items ≡ r.recorded ++ r.pending → result ≡ Some r }
+{
+    let fresh = fresh_of(head[2], head[3] as usize)?;
+    let saved = point_of(head[4], head[5] as usize)?;
+    let entries = Entries::of(list, head[1] as usize, fresh, saved)?;
+    let level = units::matched_level(entries.recorded())?;
+    units::matched_level(entries.pending())?;
+    Some(Changeset { entries, level })
+}
+
+fn fresh_number(fresh: Freshness) -> u64
+    ensures { result ≡ fresh_number fresh }
+{
+    match fresh {
+        Freshness::Stale => 0,
+        Freshness::Parted => 1,
+        Freshness::Added => 2,
+        Freshness::Joined(_) => 3,
+    }
+}
+
+fn kept_number(fresh: Freshness) -> u64
+    ensures { result ≡ kept_number fresh }
+{
+    match fresh {
+        Freshness::Joined(before) => before as u64,
+        Freshness::Stale | Freshness::Parted | Freshness::Added => 0,
+    }
+}
+
+fn fresh_of(number: u64, kept: usize) -> Option<Freshness>
+    ensures { (fresh : Freshness) → number ≡ fresh_number fresh → kept ≡ kept_number fresh → result ≡ Some fresh }
+{
+    match number {
+        0 => Some(Freshness::Stale),
+        1 => Some(Freshness::Parted),
+        2 => Some(Freshness::Added),
+        3 => Some(Freshness::Joined(kept)),
+        _ => None,
+    }
+}
+
+fn point_number(point: Option<usize>) -> u64
+    ensures { result ≡ point_number point }
+{
+    match point {
+        Some(_) => 1,
+        None => 0,
+    }
+}
+
+fn number_or_0(number: Option<usize>) -> u64
+    ensures { result ≡ number_or_0 number }
+{
+    number.unwrap_or(0) as u64
+}
+
+fn point_of(number: u64, point: usize) -> Option<Option<usize>>
+    ensures { (saved : Option ℕ) → number ≡ point_number saved → point ≡ number_or_0 saved → result ≡ Some saved }
+{
+    match number {
+        0 => Some(None),
+        1 => Some(Some(point)),
+        _ => None,
+    }
+}
+
+fn entry_number(change: &Change) -> u64
+    ensures { result ≡ entry_number (entry_of change.now) }
+{
+    let kind = match change {
+        Change::Begin => 0,
+        Change::End => 1,
+        Change::Insert(_, _, _) => 2,
+        Change::Delete(_, _, _) => 4,
+        Change::Replace(_, _, _) => 6,
+    };
+    match change.cursors() {
+        Some(_) => kind + 1,
+        None => kind,
+    }
+}
+
+fn numbers_of(change: &Change) -> [u64; 6]
+    ensures { result ≡ entry_numbers (entry_of change.now) }
+{
+    let (before, after) = change.cursors().unwrap_or((0, 0));
+    [
+        entry_number(change),
+        number_or_0(change.place()),
+        before as u64,
+        after as u64,
+        change.texts(Way::Back).1.len() as u64,
+        change.texts(Way::Ahead).1.len() as u64,
+    ]
+}
+
+#[tactic(auto, unfolding(crate::specs::SavedRecord::saved_entry))]
+fn put_entry(out: &mut Vec<u8>, change: &Change) -> Result<(), SaveFault>
+    ensures ok { OnOk result (out.new.items ≡ out.old.items ++ saved_entry (entry_of change.now)) }
+    ensures loads { OnOk result (IsSavedEntry (entry_of change.now)) }
+    ensures err { IfErr result (λ f. f ≡ TooLong → ¬ (FitsEntry (entry_of change.now))) }
+{
+    put_numbers(out, Width::Four, &numbers_of(change))?;
+    let (_, old) = change.texts(Way::Back);
+    out.extend_from_slice(old.as_bytes())?;
+    let (_, new) = change.texts(Way::Ahead);
+    out.extend_from_slice(new.as_bytes())?;
+    Ok(())
+}
+
+#[tactic(auto, unfolding(crate::specs::SavedRecord::saved_entries))]
+fn put_entries(out: &mut Vec<u8>, changes: &[Change]) -> Result<(), SaveFault>
+    ensures ok { OnOk result (out.new.items ≡ out.old.items ++ saved_entries (map entry_of changes.now)) }
+    ensures loads { OnOk result (All IsSavedEntry (map entry_of changes.now)) }
+    ensures err { IfErr result (λ f. f ≡ TooLong → ¬ (All FitsEntry (map entry_of changes.now))) }
+{
+    for change in changes {
+        put_entry(out, change)?;
+    }
+    Ok(())
+}
+
+// The change of these numbers and texts.
+fn change_of(alloc: Global, head: [u64; 6], old: &str, new: &str) -> Result<Change, LoadFault>
+    ensures ok { IfOk result (λ change. (e : Entry) → IsSavedEntry e → head ≡ entry_numbers e → old.now ≡ old_text e → new.now ≡ new_text e → entry_of change ≡ e) }
+    ensures err { IfErr result (λ f. (e : Entry) → head ≡ entry_numbers e → f ≡ NoMemory) }
+{
+    let at = head[1] as usize;
+    let cursors = if head[0] % 2 == 0 {
+        None
+    } else {
+        Some((head[2] as usize, head[3] as usize))
+    };
+    match head[0] {
+        0 => Ok(Change::Begin),
+        1 => Ok(Change::End),
+        2 | 3 => Ok(Change::Insert(cursors, at, Inserted::of_str(alloc, new)?)),
+        4 | 5 => Ok(Change::Delete(cursors, at, Gathered::of(alloc, old)?)),
+        6 | 7 => {
+            let before = copied(alloc, old)?;
+            let after = copied(alloc, new)?;
+            let texts = Box::new(alloc, Texts { before, after })?;
+            Ok(Change::Replace(cursors, at, texts))
+        }
+        _ => Err(LoadFault::Damaged),
+    }
+}
+
+#[tactic(auto, unfolding(crate::specs::SavedRecord::saved_entry))]
+fn load_entry(alloc: Global, bytes: &mut Unread) -> Result<Change, LoadFault>
+    ensures ok { IfOk result (λ change. (e : Entry) (rest : List ℕ) → IsSavedEntry e → bytes.old ≡ saved_entry e ++ rest → (entry_of change ≡ e) × (bytes.new ≡ rest)) }
+    ensures err { IfErr result (λ f. (e : Entry) (rest : List ℕ) → IsSavedEntry e → bytes.old ≡ saved_entry e ++ rest → f ≡ NoMemory) }
+{
+    let mut head = [0; 6];
+    if !bytes.numbers(Width::Four, &mut head) {
+        return Err(LoadFault::Damaged);
+    }
+    let Some(old) = bytes.text(head[4]) else {
+        return Err(LoadFault::Damaged);
+    };
+    let Some(new) = bytes.text(head[5]) else {
+        return Err(LoadFault::Damaged);
+    };
+    change_of(alloc, head, old, new)
+}
+
+#[tactic(auto, unfolding(crate::specs::SavedRecord::saved_entries))]
+fn load_entries(alloc: Global, bytes: &mut Unread, count: u64) -> Result<Vec<Change>, LoadFault>
+    ensures ok { IfOk result (λ made. (es : List Entry) (rest : List ℕ) → length es ≡ count → All IsSavedEntry es → bytes.old ≡ saved_entries es ++ rest → (map entry_of made.items ≡ es) × (bytes.new ≡ rest)) }
+    ensures err { IfErr result (λ f. (es : List Entry) (rest : List ℕ) → length es ≡ count → All IsSavedEntry es → bytes.old ≡ saved_entries es ++ rest → f ≡ NoMemory) }
+{
+    let mut made = Vec::new(alloc);
+    for i in 0..count {
+        made.push(load_entry(alloc, bytes)?)?;
+    }
+    Ok(made)
+}
