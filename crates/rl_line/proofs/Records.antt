@@ -27,6 +27,7 @@ pub mod UndoLemmas
 pub mod GoingLemmas
 pub mod WayLemmas
 pub mod WalkLemmas
+pub mod RetraceLemmas
 pub mod AbandonLemmas
 pub mod KeepLemmas
 pub mod RoundLemmas

@@ -33,6 +33,11 @@ abbrev pub entry_to_undo : Way → Change → Entry
 entry_to_undo Back change = entry_of change
 entry_to_undo Ahead change = inverse (entry_of change)
 
+-- the other way
+abbrev pub way_back : Way → Way
+way_back Back = Ahead
+way_back Ahead = Back
+
 -- the changes as a line goes over them, the last first: going ahead, the first one is gone over first
 abbrev pub order : Way → List Change → List Change
 order Back changes = changes

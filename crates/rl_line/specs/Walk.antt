@@ -2,6 +2,8 @@
 use Rattle.std.specs.Prelude.{◌≡◌, true, List, [], ◌∷◌, ℕ, Some}
 use Rattle.std.specs.Str.{IsUtf8}
 use Rattle.rl_base.specs.Event.{apply}
+use Rattle.rl_line.specs.declared.change.Way.{Way}
+use Rattle.rl_line.specs.declared.change.Way.TheVariants.{Back, Ahead}
 use Rattle.rl_line.specs.Undo.{cursor_stands}
 use Rattle.rl_line.specs.Record.{Entry, Record, event_of, freshness_told, inverse}
 
@@ -15,6 +17,11 @@ pub record LeadsTo (e : Entry) (text now : List ℕ) : Type 0 where
 abbrev pub Walk : List Entry → List ℕ → List ℕ → Type 0
 Walk [] text now = text ≡ now
 Walk (e ∷ es) text now = (mid : List ℕ) × LeadsTo e text mid × Walk es mid now
+
+-- entries walk to a text, or on from it
+abbrev pub WalksOver : Way → List Entry → List ℕ → Type 0
+WalksOver Back es text = (start : List ℕ) × IsUtf8 start × Walk es start text
+WalksOver Ahead es text = (end : List ℕ) × Walk es text end
 
 -- what is recorded leads to a text, and what was undone leads on from there; the last change can't be told its cursors any more
 pub record Walks (r : Record) (text : List ℕ) : Type 0 where

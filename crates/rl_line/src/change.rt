@@ -1,5 +1,5 @@
 //! An entry of a record, and how a text goes over it.
-ghost use Rattle.std.specs.Prelude.{◌≡◌, [], ◌∷◌, None, Some, true, false, OnErr, OnOk, IfOk, IfErr, ◌+◌, ◌-◌, ◌<◌, ◌≤◌, IsSome, IfSome, get_or, is_some, length, nat_le};
+ghost use Rattle.std.specs.Prelude.{◌≡◌, [], ◌∷◌, None, Some, true, false, OnErr, OnOk, IfOk, IfErr, ◌+◌, ◌-◌, ◌<◌, ◌≤◌, ◌↔◌, IsSome, IfSome, get_or, is_some, length, map, nat_le};
 ghost use Rattle.std.specs.Option.{option_map};
 ghost use Rattle.std.specs.String.{string_bytes};
 ghost use Rattle.std.specs.Str.{IsUtf8};
@@ -9,8 +9,9 @@ ghost use Rattle.rl_base.specs.declared.listeners.Refusal.TheVariants.{NoMemory}
 ghost use Rattle.rl_line.specs.Plan.{NeverRefuses, listener_after};
 ghost use Rattle.rl_line.specs.Record.{bytes_back, cursors_of, entry_of, event_of, freshness_joined, freshness_told, inverse, is_parted, new_text, old_text, with_cursors, flipped, swapped};
 ghost use Rattle.rl_line.specs.Undo.{Reaches, count_over, cursor_after, cursor_told, cursor_stands, line_back, steps_ahead};
+ghost use Rattle.rl_line.specs.Walk.{WalksOver};
 ghost use Rattle.rl_line.specs.Units.{is_begin, is_change, is_end};
-ghost use Rattle.rl_line.specs.Change.{Outgrows, TakesIn, text_after, text_back, place, entry_to_undo, greatest_back_over, length_back, order, entries_to_undo};
+ghost use Rattle.rl_line.specs.Change.{Outgrows, TakesIn, text_after, text_back, place, entry_to_undo, greatest_back_over, length_back, order, entries_to_undo, way_back};
 
 use crate::inserted::Inserted;
 use crate::patched::{Patched, is_boundary_with, stands_at};
@@ -65,6 +66,16 @@ impl Freshness {
         }
     }
 
+    /// Whether no cursors may be told any more.
+    pub(crate) fn is_told(self) -> bool
+        ensures { result ≡ true ↔ freshness_told self ≡ self }
+    {
+        match self {
+            Freshness::Stale | Freshness::Parted => true,
+            Freshness::Added | Freshness::Joined(_) => false,
+        }
+    }
+
     /// The freshness once no cursors may be told any more.
     #[inline(always)]
     pub(crate) fn told(self) -> Freshness
@@ -94,6 +105,17 @@ impl Freshness {
 pub(crate) enum Way {
     Back,
     Ahead,
+}
+
+impl Way {
+    fn back(self) -> Way
+        ensures { result ≡ way_back self }
+    {
+        match self {
+            Way::Back => Way::Ahead,
+            Way::Ahead => Way::Back,
+        }
+    }
 }
 
 /// What a number comes to once a line went over `count` of what it counts.
@@ -428,6 +450,23 @@ fn growth_over(changes: &[Change], way: Way, len: usize) -> Result<usize, Refusa
     Ok(longest - len)
 }
 
+/// Whether a text can go over the changes and come back, with each cursor that was told standing between two characters.
+#[tactic(auto, using(crate::proofs::Records::RetraceLemmas::retraces))]
+pub(crate) fn retraces(
+    alloc: Global,
+    text: &str,
+    changes: &[Change],
+    way: Way,
+) -> Result<bool, Refusal>
+    ensures ok { IfOk result (λ answer. answer ≡ true ↔ WalksOver way (map entry_of changes.now) text.now) }
+    ensures err { IfErr result (λ r. r ≡ NoMemory) }
+{
+    let Some(there) = text_over(alloc, text, changes, way, true)? else {
+        return Ok(false);
+    };
+    Ok(patch_over(alloc, there.as_str(), changes, way.back(), true)?.is_some())
+}
+
 /// Whether a text of `len` bytes keeps to a limit all the way over the changes.
 pub(crate) fn keeps_to(changes: &[Change], way: Way, len: usize, limit: usize) -> bool
     requires { len ≤ limit }
@@ -476,17 +515,18 @@ pub(crate) fn patch_over<'t>(
     Ok(Some(now))
 }
 
-/// A copy of a text that went over the changes, whatever cursors were told.
+/// A copy of a text that went over the changes, as `patch_over` does.
 pub(crate) fn text_over(
     alloc: Global,
     text: &str,
     changes: &[Change],
     way: Way,
+    asks: bool,
 ) -> Result<Option<String>, Refusal>
-    ensures ok { IfOk result (λ over. option_map string_bytes over ≡ text_back false (entries_to_undo way changes.now) text.now) }
+    ensures ok { IfOk result (λ over. option_map string_bytes over ≡ text_back asks (entries_to_undo way changes.now) text.now) }
     ensures err { IfErr result (λ r. (r ≡ NoMemory) × (0 < length text.now + bytes_back (entries_to_undo way changes.now))) }
 {
-    match patch_over(alloc, text, changes, way, false)? {
+    match patch_over(alloc, text, changes, way, asks)? {
         Some(over) => Ok(Some(over.whole(alloc)?)),
         None => Ok(None),
     }

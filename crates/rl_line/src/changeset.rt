@@ -1,5 +1,5 @@
 //! The record of the changes of a line, which undoes them, in groups where they were made in groups, and redoes them.
-ghost use Rattle.std.specs.Prelude.{◌≡◌, ◌<◌, ◌≤◌, ℕ, [], ◌∷◌, map, min, nat_le, true, false, is_some, length, All, IsSome, Some, IfOk, IfErr, IfSome, OnOk, OnErr};
+ghost use Rattle.std.specs.Prelude.{◌≡◌, ◌<◌, ◌≤◌, ◌↔◌, ℕ, [], ◌∷◌, map, min, nat_le, true, false, is_some, length, All, IsSome, Some, IfOk, IfErr, IfSome, OnOk, OnErr};
 ghost use Rattle.std.specs.Option.{option_map};
 ghost use Rattle.std.specs.String.{string_bytes};
 ghost use Rattle.rl_base.specs.Event.{InsertChar, InsertStr, Delete, Replace};
@@ -11,12 +11,13 @@ ghost use Rattle.rl_line.specs.Change.{entries_to_undo, greatest_ahead_over, gre
 ghost use Rattle.rl_line.specs.Plan.{NeverRefuses};
 ghost use Rattle.rl_line.specs.Record.{IsOfKind, Record, entry_of, is_saved, last_insert, no_changes, parted, record_step, replays_to, saved_here};
 ghost use Rattle.rl_line.specs.Undo.{Abandoned, CopiesBack, GoesOver, LineOutOfRoom, OutOfRoom, Redone, StandsStill, TriesAhead, TriesBack, Undone, line_ahead, line_back, line_over, listener_ahead, listener_back, listener_over, texts_ahead, texts_back, texts_over, unit_of};
+ghost use Rattle.rl_line.specs.Walk.{Walks};
 ghost use Rattle.rl_line.specs.Units.{BothMatched, IsMatched, adds_end, begun, ended, ended_one, ends_in_end, has_change, is_change, last_of, level, open_group, redo_of, reopened, truncated, with_closed, kept_undone, waits};
 
 mod foretelling;
 mod saved;
 
-use crate::change::{Change, Freshness, Way, count_over, keeps_to, text_over};
+use crate::change::{Change, Freshness, Way, count_over, keeps_to, retraces, text_over};
 use crate::entries::{self, Entries};
 use crate::forgetting::oldest_len;
 use crate::line_buffer::LineBuffer;
@@ -553,6 +554,24 @@ impl Changeset {
         entries::lead(self.entries.allocator(), line, unit, Way::Ahead)
     }
 
+    /// Whether the record is one of the line's text: whether what is recorded leads to it and what was undone on from it,
+    /// each cursor that was told stands between two characters of the text from before its change, and of that after it,
+    /// and no more cursors are told of the last change. So undos and redos go through all of it.
+    #[tactic(auto, using(crate::proofs::Records::RetraceLemmas::walking))]
+    pub fn walks(&self, line: &LineBuffer) -> Result<bool, Refusal>
+        ensures ok { IfOk result (λ answer. answer ≡ true ↔ Walks self.now line.now.text) }
+        ensures err { IfErr result (λ r. r ≡ NoMemory) }
+    {
+        if !self.entries.fresh().is_told() {
+            return Ok(false);
+        }
+        let (alloc, text) = (self.entries.allocator(), line.as_str());
+        if !retraces(alloc, text, self.recorded(), Way::Back)? {
+            return Ok(false);
+        }
+        retraces(alloc, text, self.pending(), Way::Ahead)
+    }
+
     /// Whether the first `len` entries lead to the line's text by themselves, so that `truncate` may drop the
     /// others: both they and all entries can be taken back from it, to the same text.
     #[tactic(auto, using(crate::proofs::Records::WayLemmas::led_back))]
@@ -566,11 +585,11 @@ impl Changeset {
         if !units::has_change(recorded) {
             return Ok(true);
         }
-        let Some(all) = text_over(alloc, text, recorded, Way::Back)? else {
+        let Some(all) = text_over(alloc, text, recorded, Way::Back, false)? else {
             return Ok(false);
         };
         let first = entries::first(recorded, len);
-        match text_over(alloc, text, first, Way::Back)? {
+        match text_over(alloc, text, first, Way::Back, false)? {
             Some(some) => Ok(all.as_str() == some.as_str()),
             None => Ok(false),
         }

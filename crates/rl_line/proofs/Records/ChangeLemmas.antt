@@ -108,7 +108,7 @@ pub record GoesOver (asks : Bool) (way : Way) (xs : List Change) (n : ℕ) (text
   pub rest : text_back asks (map (entry_to_undo way) (take n xs)) now ≡ text_back asks (map (entry_to_undo way) xs) text
   pub within : n ≤ length xs
 
-text_back-append : (asks : Bool) (xs ys : List Entry) (text : List ℕ) → text_back asks (xs ++ ys) text ≡ option_and_then (text_back asks xs) (text_back asks ys text)
+pub text_back-append : (asks : Bool) (xs ys : List Entry) (text : List ℕ) → text_back asks (xs ++ ys) text ≡ option_and_then (text_back asks xs) (text_back asks ys text)
 text_back-append asks [] ys text = sym (then_some (text_back asks ys text))
 text_back-append asks (x ∷ xs) ys text =
     ap (option_and_then (text_after asks (inverse x))) (text_back-append asks xs ys text)

@@ -24,7 +24,7 @@ place_after-stands (Changed k c) text now cursor u at h = Swaps-past text now c.
 place_after-stands mark text now cursor u at h = let e : text ≡ now = cc in subst (λ t. IsCharBoundary t cursor) e at
 
 -- what a text that goes on with its cursor is
-text_after-means : (e : Entry) (text now : List ℕ) → text_after true e text ≡ Some now → (apply (event_of e) text ≡ Some now) × (cursor_stands true e now ≡ true)
+pub text_after-means : (e : Entry) (text now : List ℕ) → text_after true e text ≡ Some now → (apply (event_of e) text ≡ Some now) × (cursor_stands true e now ≡ true)
 text_after-means e text now h = grind arith
 
 -- so does one with a cursor that was told, where that stands
