@@ -50,7 +50,7 @@ abbrev pub after : List Step → Line → Option Line
 after [] line = Some line
 after (s ∷ ss) line = option_and_then (after ss) (after_step s.0 s.1 line)
 
--- an event for which the text or its table needs room: it puts something in, or makes the text longer, or adds newlines
+-- an event for which the text or its table needs room: it puts something in, or makes the text longer
 abbrev pub Grows : Event → Type 0
 Grows (InsertChar i c) = Unit {0}
 Grows (InsertStr i s) = 0 < length s

@@ -209,7 +209,7 @@ unmatched es i n after_begin e at is m end bad h =
     let s = value_of (marks (take (i + 1) es) []) front in
     let l = marks-last (take i es) (get_or es i e) s.0 (ap (λ k. marks k []) (sym (take_more es i e at)) ∙ s.1) in
     none e m.flags n after_begin s.0 m.open_is m.latest end bad
-      (ap (λ d. mark d m.flags) (sym is) ∙ ap (mark (get_or es i e)) (same_Some _ _ (sym m.marked ∙ l.1)) ∙ l.2)
+    (ap (λ d. mark d m.flags) (sym is) ∙ ap (mark (get_or es i e)) (same_Some _ _ (sym m.marked ∙ l.1)) ∙ l.2)
   where
     none : (e : Entry) (fs : List Bool) (n : ℕ) (after_begin : Bool) (gs : List Bool) → n ≡ length fs → Latest after_begin fs → is_end e ≡ true → (n ≡ 0) ⊎ (after_begin ≡ true)
         → mark e fs ≡ Some gs → ⊥

@@ -1,6 +1,5 @@
 -- A text that goes over entries and comes back, with all cursors standing, walks over them.
-use Rattle.rl_line.proofs.Common.{◌≡◌, ◌∙◌, ◌↔◌, ℕ, Bool, true, List, [], ◌∷◌, ◌++◌, map, reverse, Option, Some, None, IsSome, is_some, ap, refl, sym, subst, same_Some, option_and_then, IsUtf8, Change, Entry, Record, Way, Back, Ahead, entry_of, event_of, inverse, text_after, text_back, cursor_stands, LeadsTo, Walk, Walks, freshness_told, entries_to_undo}
-use Rattle.rl_base.specs.Event.{apply}
+use Rattle.rl_line.proofs.Common.{◌≡◌, ◌∙◌, ◌↔◌, ℕ, Bool, true, List, [], ◌∷◌, map, reverse, Some, None, IsSome, is_some, ap, refl, sym, subst, same_Some, option_and_then, IsUtf8, Change, Entry, Record, Way, Back, Ahead, entry_of, event_of, inverse, text_after, text_back, cursor_stands, LeadsTo, Walk, Walks, freshness_told, entries_to_undo}
 use Rattle.rl_base.proofs.Texts.SwapLemmas.{apply-IsUtf8, some_is}
 use Rattle.rl_line.specs.Change.{way_back}
 use Rattle.rl_line.specs.Walk.{WalksOver}
@@ -37,7 +36,7 @@ back-ahead (e ∷ es) x y u back ahead =
     let last = text_after-means (inverse e) mid.0 x (sym (ap (option_and_then (text_after true (inverse e))) mid.1) ∙ back) in
     let turned = text_back true (map inverse (reverse es)) in
     let on = subst IsSome (ap (λ l. text_back true l x) (turned-cons e es) ∙ text_back-append true (map inverse (reverse es)) (inverse e ∷ []) x
-      ∙ ap (λ d. option_and_then turned (text_after true d x)) (inverse-inverse e)) ahead in
+    ∙ ap (λ d. option_and_then turned (text_after true d x)) (inverse-inverse e)) ahead in
     let first = value_of (text_after true e x) (IsSome-through turned (text_after true e x) on) in
     let made = text_after-means e x first.0 first.1 in
     let makes = undoes-inverse e x mid.0 (text_back-IsUtf8 es mid.0 y u mid.1) last.0 in
@@ -50,18 +49,20 @@ pub retrace : (way : Way) (changes : List Change) (text there : List ℕ) (comes
 retrace Back changes text there comes u over back =
     let es = map entry_of changes in
     let on = back ∙ ap (λ l. is_some (text_back true l there)) (ahead-inverse changes) in (
-    λ h. (there, text_back-IsUtf8 es there text u over, back-ahead es there text u over (sym on ∙ h)),
-    λ w. let same = same_Some _ _ (sym over ∙ Walk-back es w.0 text w.1 w.2) in
-      on ∙ ap (λ t. is_some (text_back true (map inverse (reverse es)) t)) same ∙ ap is_some (Walk-back (map inverse (reverse es)) text w.0 u (Walk-turned es w.0 text w.1 w.2)))
+      λ h. (there, text_back-IsUtf8 es there text u over, back-ahead es there text u over (sym on ∙ h)),
+      λ w. let same = same_Some _ _ (sym over ∙ Walk-back es w.0 text w.1 w.2) in
+          on ∙ ap (λ t. is_some (text_back true (map inverse (reverse es)) t)) same ∙ ap is_some (Walk-back (map inverse (reverse es)) text w.0 u (Walk-turned es w.0 text w.1 w.2)),
+    )
 retrace Ahead changes text there comes u over back =
     let es = map entry_of changes in
     let turned = map inverse (reverse es) in
     let goes = sym (ap (λ l. text_back true l text) (ahead-inverse changes)) ∙ over in
     let on = ap (λ l. is_some (text_back true l there)) (turned-turned es) in (
-    λ h. (there, subst (λ l. Walk l text there) (turned-turned es) (Walk-turned turned there text (text_back-IsUtf8 turned there text u goes) (back-ahead turned there text u goes (on ∙ sym back ∙ h)))),
-    λ w. let end = Walk-IsUtf8 es text w.0 u w.1 in
-      let same = same_Some _ _ (sym goes ∙ Walk-back turned w.0 text end (Walk-turned es text w.0 u w.1)) in
-      back ∙ ap (λ t. is_some (text_back true es t)) same ∙ ap is_some (Walk-back es text w.0 u w.1))
+      λ h. (there, subst (λ l. Walk l text there) (turned-turned es) (Walk-turned turned there text (text_back-IsUtf8 turned there text u goes) (back-ahead turned there text u goes (on ∙ sym back ∙ h)))),
+      λ w. let end = Walk-IsUtf8 es text w.0 u w.1 in
+          let same = same_Some _ _ (sym goes ∙ Walk-back turned w.0 text end (Walk-turned es text w.0 u w.1)) in
+          back ∙ ap (λ t. is_some (text_back true es t)) same ∙ ap is_some (Walk-back es text w.0 u w.1),
+    )
 
 -- one that can't go over them
 pub retrace-not : (way : Way) (changes : List Change) (text : List ℕ) → IsUtf8 text → text_back true (entries_to_undo way changes) text ≡ None → WalksOver way (map entry_of changes) text → ⊥
@@ -73,8 +74,9 @@ retrace-not Ahead changes text u none w =
 
 pub Walks-parts : (r : Record) (text : List ℕ) → Walks r text ↔ ((freshness_told r.fresh ≡ r.fresh) × WalksOver Back r.recorded text × WalksOver Ahead r.pending text)
 Walks-parts r text = (
-    λ w. (w.stale, (w.start, w.is_text, w.back), (w.end, w.ahead)),
-    λ p. record { start = p.1.0; is_text = p.1.1; back = p.1.2; end = p.2.0; ahead = p.2.1; stale = p.0 })
+  λ w. (w.stale, (w.start, w.is_text, w.back), (w.end, w.ahead)),
+  λ p. record { start = p.1.0; is_text = p.1.1; back = p.1.2; end = p.2.0; ahead = p.2.1; stale = p.0 },
+)
 
 pub ruleset retraces = (retrace, retrace-not)
 

@@ -1,4 +1,4 @@
-use Rattle.rl_line.proofs.Common.{rules, ◌≡◌, ◌<◌, ◌∙◌, ap, arith, entry_of, get_or, get_or-map, inl, inr, length, length-map, map, subst, sym, take_all}
+use Rattle.rl_line.proofs.Common.{rules, ◌∙◌, arith, entry_of, length-map, map, subst, sym, take_all}
 use Rattle.rl_line.proofs.Records.MatchLemmas.{MarkedTo, MarkedTo-level, MarkedTo-next, unmatched}
 use Rattle.rl_line.proofs.Records.SavingLemmas.{entry_at}
 use Rattle.rl_line.proofs.units.matched_level.Goals as goal
