@@ -6,7 +6,7 @@ use Rattle.byteorder.specs.Endian.{little_bytes}
 use Rattle.rl_base.specs.declared.saving.Width.{Width}
 use Rattle.rl_base.specs.declared.saving.Width.TheVariants.{Four, Eight}
 use Rattle.rl_base.specs.declared.saving.LoadFault.{LoadFault}
-use Rattle.rl_base.specs.declared.saving.LoadFault.TheVariants.{NoMemory}
+use Rattle.rl_base.specs.declared.saving.LoadFault.TheVariants.{NoMemory, Unknown}
 
 -- how many bytes a number takes, and that it fits them
 abbrev pub size : Width → ℕ
@@ -37,6 +37,10 @@ pub record IsSized (text : List ℕ) : Type 0 where
 
 unfoldable pub sized_all : List (List ℕ) → List ℕ
 sized_all texts = flat_map sized texts
+
+-- why a part was not loaded: not since the version is unknown
+abbrev pub IsOfPart : LoadFault → Type 0
+IsOfPart why = why ≡ Unknown → ⊥
 
 -- what was loaded is this, unless memory is out
 abbrev pub Loads : {A : Type 0} → A → Result A LoadFault → Type 0

@@ -140,6 +140,7 @@ pub fn put_text(out: &mut Vec<u8>, text: &str) -> Result<(), SaveFault>
 }
 
 /// Saved bytes that were not read yet.
+#[derive(Drop)]
 pub struct Unread<'t> {
     bytes: &'t [u8],
 }

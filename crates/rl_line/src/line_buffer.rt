@@ -158,6 +158,13 @@ impl LineBuffer {
         line.limit
     }
 
+    /// Whether the text may get longer than the limit (`can_growth`).
+    pub fn may_grow(&self) -> bool
+        ensures { result ≡ self.now.grow }
+    {
+        self.line.can_growth
+    }
+
     /// Sets the limit on the text's length, in bytes: to the text's length if that is greater. So a text that was
     /// longer than the limit, and shrank, can have its limit back. `usize::MAX` is no limit at all.
     pub fn set_limit(&mut self, limit: usize)

@@ -2,6 +2,7 @@ pub mod Options
 pub mod Pair
 pub mod Settings
 pub mod State
+pub mod SavedSession
 pub mod Forgetting
 pub mod Replies
 pub mod Commands

@@ -22,6 +22,7 @@ mod history;
 mod motions;
 mod opening;
 mod replies;
+mod saved;
 mod yanks;
 
 use crate::options::Options;

@@ -3,7 +3,7 @@ ghost use Rattle.std.specs.Prelude.{◌≡◌, ◌++◌, List, ℕ, All, IfErr, 
 ghost use Rattle.rl_base.specs.Gathered.{texts};
 ghost use Rattle.rl_base.specs.KillRing.{IsRing, Ring};
 ghost use Rattle.rl_base.specs.SavedRing.{IsSavedRing, last_number, ring_numbers, rule_number, saved_ring, yanked_number};
-ghost use Rattle.rl_base.specs.Saving.{FitsLength, IsSized, Loads, sized_all};
+ghost use Rattle.rl_base.specs.Saving.{FitsLength, IsOfPart, IsSized, Loads, sized_all};
 ghost use Rattle.rl_base.specs.declared.kill_ring.Action.{Action};
 ghost use Rattle.rl_base.specs.declared.kill_ring.NewKill.{NewKill};
 ghost use Rattle.rl_base.specs.declared.saving.LoadFault.TheVariants.{NoMemory};
@@ -48,6 +48,7 @@ impl KillRing {
         ensures loaded { (ring : Ring) (rest : List ℕ) → IsSavedRing ring → bytes.old ≡ saved_ring ring ++ rest
             → Loads ring result × OnOk result (bytes.new ≡ rest) }
         ensures idle { IfOk result (λ ring. ring.killing ≡ false) }
+        ensures part { IfErr result IsOfPart }
     {
         let mut head = [0; 7];
         if !bytes.numbers(Width::Eight, &mut head) {
@@ -145,6 +146,7 @@ fn put_slots(out: &mut Vec<u8>, slots: &[Gathered]) -> Result<(), SaveFault>
 fn load_slots(alloc: Global, bytes: &mut Unread, count: u64) -> Result<Vec<Gathered>, LoadFault>
     ensures ok { IfOk result (λ made. (slots : List (List ℕ)) (rest : List ℕ) → length slots ≡ count → All IsSized slots → bytes.old ≡ sized_all slots ++ rest → (texts made.items ≡ slots) × (bytes.new ≡ rest)) }
     ensures err { IfErr result (λ f. (slots : List (List ℕ)) (rest : List ℕ) → length slots ≡ count → All IsSized slots → bytes.old ≡ sized_all slots ++ rest → f ≡ NoMemory) }
+    ensures part { IfErr result IsOfPart }
 {
     let mut made = Vec::new(alloc);
     for i in 0..count {

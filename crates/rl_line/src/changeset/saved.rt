@@ -1,6 +1,6 @@
 //! A record as bytes, and back.
 ghost use Rattle.std.specs.Prelude.{◌≡◌, ◌+◌, ◌++◌, List, ℕ, All, IfErr, IfOk, IfSome, OnOk, Option, Some, length, map};
-ghost use Rattle.rl_base.specs.Saving.{Loads};
+ghost use Rattle.rl_base.specs.Saving.{IsOfPart, Loads};
 ghost use Rattle.rl_base.specs.declared.saving.LoadFault.TheVariants.{NoMemory};
 ghost use Rattle.rl_base.specs.declared.saving.SaveFault.TheVariants.{TooLong};
 ghost use Rattle.rl_line.specs.Record.{Entry, Record, entry_of, kept_point, new_text, old_text};
@@ -53,6 +53,7 @@ impl Changeset {
     pub fn load(alloc: Global, bytes: &mut Unread) -> Result<Changeset, LoadFault>
         ensures loaded { (r : Record) (rest : List ℕ) → IsSavedRecord r → bytes.old ≡ saved_record r ++ rest
             → Loads r result × OnOk result (bytes.new ≡ rest) }
+        ensures part { IfErr result IsOfPart }
     {
         let mut head = [0; 6];
         if !bytes.numbers(Width::Eight, &mut head) {
@@ -193,6 +194,7 @@ fn put_entries(out: &mut Vec<u8>, changes: &[Change]) -> Result<(), SaveFault>
 fn change_of(alloc: Global, head: [u64; 6], old: &str, new: &str) -> Result<Change, LoadFault>
     ensures ok { IfOk result (λ change. (e : Entry) → IsSavedEntry e → head ≡ entry_numbers e → old.now ≡ old_text e → new.now ≡ new_text e → entry_of change ≡ e) }
     ensures err { IfErr result (λ f. (e : Entry) → head ≡ entry_numbers e → f ≡ NoMemory) }
+    ensures part { IfErr result IsOfPart }
 {
     let at = head[1] as usize;
     let cursors = if head[0] % 2 == 0 {
@@ -219,6 +221,7 @@ fn change_of(alloc: Global, head: [u64; 6], old: &str, new: &str) -> Result<Chan
 fn load_entry(alloc: Global, bytes: &mut Unread) -> Result<Change, LoadFault>
     ensures ok { IfOk result (λ change. (e : Entry) (rest : List ℕ) → IsSavedEntry e → bytes.old ≡ saved_entry e ++ rest → (entry_of change ≡ e) × (bytes.new ≡ rest)) }
     ensures err { IfErr result (λ f. (e : Entry) (rest : List ℕ) → IsSavedEntry e → bytes.old ≡ saved_entry e ++ rest → f ≡ NoMemory) }
+    ensures part { IfErr result IsOfPart }
 {
     let mut head = [0; 6];
     if !bytes.numbers(Width::Four, &mut head) {
@@ -237,6 +240,7 @@ fn load_entry(alloc: Global, bytes: &mut Unread) -> Result<Change, LoadFault>
 fn load_entries(alloc: Global, bytes: &mut Unread, count: u64) -> Result<Vec<Change>, LoadFault>
     ensures ok { IfOk result (λ made. (es : List Entry) (rest : List ℕ) → length es ≡ count → All IsSavedEntry es → bytes.old ≡ saved_entries es ++ rest → (map entry_of made.items ≡ es) × (bytes.new ≡ rest)) }
     ensures err { IfErr result (λ f. (es : List Entry) (rest : List ℕ) → length es ≡ count → All IsSavedEntry es → bytes.old ≡ saved_entries es ++ rest → f ≡ NoMemory) }
+    ensures part { IfErr result IsOfPart }
 {
     let mut made = Vec::new(alloc);
     for i in 0..count {

@@ -13,7 +13,7 @@ use rl_line::{Changeset, LineBuffer};
 use std::alloc::Global;
 
 // Puts a text into an empty line, with the cursor at a place.
-fn filled(line: LineBuffer, text: &str, pos: usize) -> Result<LineBuffer, Fault>
+pub(super) fn filled(line: LineBuffer, text: &str, pos: usize) -> Result<LineBuffer, Fault>
     requires empty { line ≡ record { text = []; cursor = 0; limit = line.limit; grow = false } }
     requires place { IsCharBoundary text.now pos }
     ensures ok { IfOk result (λ made. made ≡ record { text = text.now; cursor = pos; limit = max line.limit (length text.now); grow = false }) }
