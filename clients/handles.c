@@ -6,6 +6,7 @@
 /* The calls of rl_ffi for this file. Those that open find at NULL, and leave it NULL if they return an error. */
 struct block { void *at; };
 int rl_open_session(void *block, const lodvarn_options *options, const char *text, size_t len);
+int rl_load_session(void *block, const char *bytes, size_t len);
 int rl_open_line(void *block, size_t limit, bool can_grow, const char *text, size_t len);
 int rl_open_record(void *block);
 int rl_open_killring(void *block, size_t size);
@@ -47,6 +48,8 @@ int lodvarn_open(lodvarn **out, const lodvarn_options *options, const char *text
     if (!is_known(options)) return LODVARN_NO_SUCH_NUMBER;
     OPEN(out, rl_open_session(block, options, text, len));
 }
+
+int lodvarn_load(lodvarn **out, const char *bytes, size_t len) { OPEN(out, rl_load_session(block, bytes, len)); }
 
 int lodvarn_line_open(lodvarn_line **out, size_t limit, bool can_grow, const char *text, size_t len) {
     OPEN(out, rl_open_line(block, limit, can_grow, text, len));
@@ -96,6 +99,8 @@ const char *lodvarn_answer_name(int answer) {
         NAMED(LODVARN_TOO_SMALL)
         NAMED(LODVARN_IS_WATCHED)
         NAMED(LODVARN_CLOSED)
+        NAMED(LODVARN_UNKNOWN_FORMAT)
+        NAMED(LODVARN_DAMAGED)
     }
     return "unknown";
 }

@@ -97,7 +97,9 @@ enum lodvarn_answer {
     LODVARN_NO_SUCH_NUMBER = -7, /* a number is not in its enum, is no character, or is a count above 65535 */
     LODVARN_TOO_SMALL = -8,      /* the text to write is longer than the buffer */
     LODVARN_IS_WATCHED = -9,     /* the session keeps reports already */
-    LODVARN_CLOSED = -10         /* the session was lost in a call that a signal handler left */
+    LODVARN_CLOSED = -10,        /* the session was lost in a call that a signal handler left */
+    LODVARN_UNKNOWN_FORMAT = -11, /* the bytes do not begin as this version saves them */
+    LODVARN_DAMAGED = -12        /* the saved bytes are not those of a session */
 };
 
 /* How columns are counted. The values of all enums that calls take differ. */
@@ -320,6 +322,18 @@ static inline lodvarn_movement lodvarn_to_text_end(void) { return lodvarn_moveme
  * has those of LODVARN_OPTIONS. No room is reserved for the limit, and the kill ring takes no memory before it keeps a
  * text. Errors: NOT_UTF8, NO_SUCH_NUMBER also if size is none that this version knows, NO_MEMORY; they leave *out. */
 int lodvarn_open(lodvarn **out, const lodvarn_options *options, const char *text, size_t len);
+
+/* Opens a session of the bytes that lodvarn_save wrote, and sets *out to it, which is not read: text and cursor, record,
+ * ring and options are as they were, nothing changed yet, and no reports are kept. Errors: UNKNOWN_FORMAT if the bytes do
+ * not begin as this version saves them; DAMAGED if their checksum is wrong, or a record in them does not lead to their
+ * text; NO_MEMORY; they leave *out. Any bytes may be passed, and take no more memory than some times their length. */
+int lodvarn_load(lodvarn **out, const char *bytes, size_t len);
+
+/* Writes the session as bytes to out, and how many to *len, also if they are more than cap (TOO_SMALL) and nothing is
+ * written: so a first call with cap 0 tells the size. It is no command and changes nothing; reports are not saved, and
+ * what waits in them stays. The same session gives the same bytes on every machine; docs/FORMAT.md says what each is.
+ * Errors: NO_ROOM if the text of an entry or of the ring has 4 GiB or more, NO_MEMORY. */
+int lodvarn_save(lodvarn *s, char *out, size_t cap, size_t *len);
 
 /* Closes the session, frees its memory, and sets *s to NULL. Does nothing if *s is NULL, or s. */
 void lodvarn_close(lodvarn **s);

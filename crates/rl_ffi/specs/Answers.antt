@@ -7,7 +7,7 @@ use Rattle.rl_session.specs.declared.session.Fault.TheVariants as fault
 use Rattle.rl_session.specs.declared.session.Reply.{Reply}
 use Rattle.rl_session.specs.declared.session.Reply.TheVariants as says
 use Rattle.rl_ffi.specs.declared.answers.Answer.{Answer}
-use Rattle.rl_ffi.specs.declared.answers.Answer.TheVariants.{Nothing, Done, DoneAtEnd, NoMemory, BadPlace, BadYankSize, NotReplaying, NoRoom, NotUtf8, NoSuchNumber, TooSmall, IsWatched, Closed}
+use Rattle.rl_ffi.specs.declared.answers.Answer.TheVariants.{BadPlace, BadYankSize, Closed, Damaged, Done, DoneAtEnd, IsWatched, NoMemory, NoRoom, NoSuchNumber, NotReplaying, NotUtf8, Nothing, TooSmall, UnknownFormat}
 
 -- 0 if there was nothing to do, from 1 on if it is done, and below 0 if it was refused
 abbrev pub number : Answer → ℤ
@@ -24,6 +24,8 @@ number NoSuchNumber = negsuc 6
 number TooSmall = negsuc 7
 number IsWatched = negsuc 8
 number Closed = negsuc 9
+number UnknownFormat = negsuc 10
+number Damaged = negsuc 11
 
 -- the answer of a call that was done, or refused
 abbrev pub merged : Result Answer Answer → Answer

@@ -10,7 +10,7 @@ use Rattle.rl_session.specs.Commands.{Step, StepWith, deletion_of}
 use Rattle.rl_session.specs.Forgetting.{within_bound}
 use Rattle.rl_session.specs.State.{State}
 use Rattle.rl_session.specs.declared.session.Command.{Command}
-use Rattle.rl_session.specs.declared.session.Command.TheVariants.{Indent, Insert, InsertStr, Paste, Replace, SetPos, Yank, YankPop}
+use Rattle.rl_session.specs.declared.session.Command.TheVariants.{Indent, Insert, InsertStr, Paste, Replace, SetPos, Update, Yank, YankPop}
 use Rattle.rl_session.specs.declared.session.Reply.{Reply}
 use Rattle.rl_ffi.specs.Answers.{told, told_place, truth}
 use Rattle.rl_ffi.specs.Buffers.{put}
@@ -48,6 +48,10 @@ does_with without bytes make s n new = (reply : Reply) × ObeysWith bytes make s
 
 abbrev pub asks_with : List ℕ → (String Global → Command) → Effect State
 asks_with bytes make = of_text bytes (does_with NoRoom bytes make)
+
+-- a text in the place of the line's, with the cursor at a place in it
+unfoldable pub sets_text : ℕ → List ℕ → Effect State
+sets_text pos text = asks_with text (λ t. Update t pos)
 
 -- a text takes the place of what stands in a range
 unfoldable pub replaces : CRange → List ℕ → Effect State

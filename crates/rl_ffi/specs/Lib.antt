@@ -10,6 +10,7 @@ pub mod LineReads
 pub mod Listeners
 pub mod Numbers
 pub mod Opening
+pub mod Saved
 pub mod Reads
 pub mod Record
 pub mod RecordLines

@@ -1,6 +1,6 @@
 -- What hears of a line's changes.
 use denote.MutBor.{MutBor}
-use Rattle.std.specs.Prelude.{◌≡◌, ◌⊎◌, ℤ, true, false, [], Option, Some, MatchOption, if◌then◌else◌, is_some}
+use Rattle.std.specs.Prelude.{◌≡◌, ◌⊎◌, ℤ, true, false, Option, Some, MatchOption, if◌then◌else◌, is_some}
 use Rattle.rl_base.specs.Event.{Event}
 use Rattle.rl_base.specs.KillRing.{KeepsText, Ring, new_ring, ring_step}
 use Rattle.rl_base.specs.declared.listeners.Refusal.{Refusal}

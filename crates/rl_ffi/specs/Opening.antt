@@ -1,5 +1,5 @@
 -- What opening a session, a line, a record and a ring does, choosing a session's options, and beginning anew in it.
-use Rattle.std.specs.Prelude.{◌≡◌, ◌<◌, ◌≤◌, ◌⊎◌, ℕ, Bool, true, List, length, max, Option, Some}
+use Rattle.std.specs.Prelude.{◌≡◌, ◌<◌, ◌⊎◌, ℕ, Bool, true, List, length, max, Option, Some}
 use Rattle.rl_base.specs.KillRing.{cleared, new_ring, ruled}
 use Rattle.rl_base.specs.declared.kill_ring.NewKill.TheVariants.{AfterNewest}
 use Rattle.rl_base.specs.declared.layout.GraphemeClusterMode.{GraphemeClusterMode}

@@ -23,6 +23,8 @@ pub(crate) enum Answer {
     TooSmall = -8,
     IsWatched = -9,
     Closed = -10,
+    UnknownFormat = -11,
+    Damaged = -12,
 }
 
 impl Answer {

@@ -11,7 +11,7 @@ ghost use Rattle.rl_session.specs.declared.session.Command.{Command};
 ghost use Rattle.rl_session.specs.declared.session.Reply.{Reply};
 ghost use Rattle.rl_ffi.specs.Answers.{merged};
 ghost use Rattle.rl_ffi.specs.Calls.{Through, ThroughOut, of_named};
-ghost use Rattle.rl_ffi.specs.Commands.{HasRoomFor, Obeys, ObeysWith, PopHasRoom, asks, asks_with, copies, deletes_by, ends_kills, hands_out, indents, inserts, lent_room, pastes, popped_length, pops, puts_in, replaces, room_for, yanks};
+ghost use Rattle.rl_ffi.specs.Commands.{HasRoomFor, Obeys, ObeysWith, PopHasRoom, asks, asks_with, copies, deletes_by, ends_kills, hands_out, indents, inserts, lent_room, pastes, popped_length, pops, puts_in, replaces, room_for, sets_text, yanks};
 ghost use Rattle.rl_ffi.specs.Held.{a_session};
 ghost use Rattle.rl_ffi.specs.declared.answers.Answer.TheVariants.{Done};
 ghost use Rattle.rl_ffi.specs.Numbers.{case_of, count_of, direction_of, movement_of};
@@ -443,8 +443,9 @@ pub extern "C" fn lodvarn_paste(alloc: Global, s: &mut Handle, text: &[u8], n: u
     of!(s, alloc, Held::Session(session) => paste(session, text, n))
 }
 
+#[tactic(auto, unfolding(crate::specs::Commands::sets_text))]
 fn set_text(session: &mut Session, pos: usize, text: &[u8]) -> Outcome
-    ensures { asks_with text.now (λ t. Command.Update t pos) session.old (merged result) session.new }
+    ensures { sets_text pos text.now session.old (merged result) session.new }
 {
     let text = text_of(text)?;
     let reply = session.update(text, pos);
@@ -455,7 +456,7 @@ fn set_text(session: &mut Session, pos: usize, text: &[u8]) -> Outcome
 /// `lodvarn_set_text`.
 #[unsafe(no_mangle)]
 pub extern "C" fn lodvarn_set_text(alloc: Global, s: &mut Handle, pos: usize, text: &[u8]) -> i32
-    ensures { Through a_session (asks_with text.now (λ t. Command.Update t pos)) s.old.value result s.new.value }
+    ensures { Through a_session (sets_text pos text.now) s.old.value result s.new.value }
 {
     of!(s, alloc, Held::Session(session) => set_text(session, pos, text))
 }

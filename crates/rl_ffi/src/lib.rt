@@ -19,6 +19,7 @@ mod record;
 mod record_lines;
 mod report_log;
 mod reports;
+mod saved;
 mod screen;
 mod shapes;
 mod split_box;

@@ -26,7 +26,7 @@ use rl_session::{Bound, Fault, Session};
 use std::alloc::Global;
 
 // What a handle holds from now on, unless memory is out.
-fn open(alloc: Global, handle: &mut Handle, held: Held) -> Outcome
+pub(crate) fn open(alloc: Global, handle: &mut Handle, held: Held) -> Outcome
     ensures { Opens held handle.old.value (merged result) handle.new.value }
 {
     match Box::new(alloc, held) {

@@ -24,6 +24,8 @@ mod pair;
 #[cfg(test)]
 mod quotas;
 #[cfg(test)]
+mod saved;
+#[cfg(test)]
 mod script;
 #[cfg(test)]
 mod session;

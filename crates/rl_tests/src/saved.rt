@@ -1,0 +1,83 @@
+//! A session that is saved and loaded again.
+use crate::script::is_so;
+use rl_base::{GraphemeClusterMode, LoadFault, Movement};
+use rl_session::{Command, Session};
+use std::alloc::Global;
+use std::process::Abort;
+use std::test::Fail;
+
+// Words are typed, one is killed, two groups are made, of which one is open, and a part of it is undone.
+fn edits(session: &mut Session) {
+    session.insert('a', 2);
+    session.kill(&Movement::BeginningOfLine);
+    session.begin();
+    session.insert('é', 1);
+    session.insert('-', 1);
+    session.end_one();
+    session.transpose_chars();
+    session.begin();
+    session.backspace(1);
+    session.insert('z', 3);
+    session.undo(1);
+}
+
+// Both sessions do a command, with the same reply, and come to the same text and cursor.
+fn do_alike(rt: &impl Abort, one: &mut Session, other: &mut Session, command: &Command) {
+    let (reply, again) = (one.apply(command), other.apply(command));
+    is_so(rt, reply == again, "the replies");
+    let (line, same) = (one.line(), other.line());
+    is_so(rt, line.as_str() == same.as_str(), "the texts");
+    is_so(rt, line.pos() == same.pos(), "the cursors");
+}
+
+// So they go on through record and ring.
+fn go_on_alike(rt: &impl Abort, one: &mut Session, other: &mut Session) {
+    do_alike(rt, one, other, &Command::Redo);
+    do_alike(rt, one, other, &Command::Yank(1));
+    do_alike(rt, one, other, &Command::Abandon);
+    do_alike(rt, one, other, &Command::Undo(2));
+    do_alike(rt, one, other, &Command::KeepUndone);
+    do_alike(rt, one, other, &Command::Undo(1));
+    do_alike(rt, one, other, &Command::Undo(9));
+}
+
+// These bytes are refused, for that reason.
+fn refuses(rt: &impl Abort, alloc: Global, bytes: &[u8], why: LoadFault) {
+    match Session::load(alloc, bytes) {
+        Ok(_) => is_so(rt, false, "no session is made"),
+        Err(fault) => is_so(rt, fault == why, "the fault"),
+    }
+}
+
+// No byte may lack or differ: the first eight are the heading.
+fn refuses_others(rt: &impl Abort, alloc: Global, bytes: &mut Vec<u8>) {
+    for at in 0..bytes.len() {
+        let why = if at < 8 {
+            LoadFault::Unknown
+        } else {
+            LoadFault::Damaged
+        };
+        refuses(rt, alloc, &bytes[..at], why);
+        bytes[at] ^= 32;
+        refuses(rt, alloc, bytes.as_slice(), why);
+        bytes[at] ^= 32;
+    }
+}
+
+// It is loaded as what it was.
+fn comes_back(rt: &impl Abort, alloc: Global, session: &mut Session) -> Result<(), Fail> {
+    edits(session);
+    let mut bytes = session.save()?;
+    let mut loaded = Session::load(alloc, bytes.as_slice())?;
+    let again = loaded.save()?;
+    is_so(rt, again.as_slice() == bytes.as_slice(), "the same bytes");
+    go_on_alike(rt, session, &mut loaded);
+    refuses_others(rt, alloc, &mut bytes);
+    Ok(())
+}
+
+#[test]
+fn a_saved_session_comes_back(rt: HostRuntime) -> Result<(), Fail> {
+    let mut session = Session::open(rt.alloc(), "", 0, 64, 60, GraphemeClusterMode::Unicode)?;
+    comes_back(&rt, rt.alloc(), &mut session)
+}
