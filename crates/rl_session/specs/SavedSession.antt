@@ -1,5 +1,5 @@
 -- A session as bytes.
-use Rattle.std.specs.Prelude.{◌<◌, ◌≤◌, ◌^◌, ℕ, Bool, true, false, List, [], ◌∷◌, ◌++◌, All, length}
+use Rattle.std.specs.Prelude.{◌≡◌, ◌<◌, ◌≤◌, ◌^◌, ℕ, Bool, true, false, List, [], ◌∷◌, ◌++◌, All, length}
 use Rattle.std.specs.Str.{IsCharBoundary, IsUtf8}
 use Rattle.md5.specs.Md5.{md5}
 use Rattle.rl_base.specs.SavedRing.{IsSavedRing, saved_ring}
@@ -57,11 +57,12 @@ saved_session s = sealed (saved_state s)
 abbrev pub unwatched : State → State
 unwatched s = with_watch new_watch s
 
--- a session that such bytes are read as
+-- a session that such bytes are read as: its line may not grow past its limit, as that of no session may
 pub record IsSavedState (s : State) : Type 0 where
   pub text : IsUtf8 s.line.text
   pub cursor : IsCharBoundary s.line.text s.line.cursor
   pub within : length s.line.text ≤ s.line.limit
+  pub grows_not : s.line.grow ≡ false
   pub fits : All (Fits Eight) (state_numbers s)
   pub prompt : s.options.prompt < 2 ^ 16
   pub walks : Walks s.pair.changes s.line.text

@@ -1,5 +1,5 @@
 //! A session as bytes, and back.
-ghost use Rattle.std.specs.Prelude.{◌≡◌, ◌<◌, ◌≤◌, ◌↔◌, ◌^◌, ◌++◌, All, Bool, List, ℕ, Err, IfErr, IfOk, IfSome, None, OnOk, Some, length};
+ghost use Rattle.std.specs.Prelude.{◌≡◌, ◌<◌, ◌≤◌, ◌↔◌, ◌^◌, ◌++◌, All, Bool, List, ℕ, Err, IfErr, IfOk, IfSome, None, OnOk, Some, false, length, true};
 ghost use Rattle.std.specs.Str.{IsCharBoundary};
 ghost use Rattle.md5.specs.Md5.{md5};
 ghost use Rattle.rl_base.specs.Saving.{Fits, IsOfPart, Loads};
@@ -9,7 +9,7 @@ ghost use Rattle.rl_base.specs.declared.saving.SaveFault.TheVariants.{TooLong};
 ghost use Rattle.rl_base.specs.declared.saving.Width.TheVariants.{Eight};
 ghost use Rattle.rl_line.specs.Line.{Line};
 ghost use Rattle.rl_session.specs.SavedSession.{FitsSaving, IsSavedState, heading, line_numbers, mode_number, option_numbers, saved_line, saved_session, saved_state, sealed, state_numbers, truth_number, unwatched};
-ghost use Rattle.rl_session.specs.State.{ChangedFrom, Ends, State};
+ghost use Rattle.rl_session.specs.State.{ChangedFrom, Ends, HoldsLimit, State};
 ghost use Rattle.rl_session.specs.declared.options.Options.{Options};
 
 use crate::options::{Bound, Options};
@@ -32,7 +32,7 @@ impl Session {
     #[tactic(auto, unfolding(crate::specs::SavedSession::sealed))]
     pub fn save(&self) -> Result<Vec<u8>, SaveFault>
         ensures ok { IfOk result (λ bytes. bytes.items ≡ saved_session self.now) }
-        ensures loads { OnOk result (IsSavedState self.now) }
+        ensures loads { OnOk result (self.now.line.grow ≡ false → IsSavedState self.now) }
         ensures err { IfErr result (λ f. f ≡ TooLong → ¬ (FitsSaving self.now)) }
     {
         let mut out = Vec::new(self.alloc);
@@ -47,7 +47,7 @@ impl Session {
     #[tactic(auto, unfolding(crate::specs::SavedSession::saved_state))]
     fn put(&self, out: &mut Vec<u8>) -> Result<(), SaveFault>
         ensures ok { OnOk result (out.new.items ≡ out.old.items ++ saved_state self.now) }
-        ensures loads { OnOk result (IsSavedState self.now) }
+        ensures loads { OnOk result (self.now.line.grow ≡ false → IsSavedState self.now) }
         ensures err { IfErr result (λ f. f ≡ TooLong → ¬ (FitsSaving self.now)) }
     {
         self.stands();
@@ -96,6 +96,7 @@ impl Session {
         ensures loaded { (s : State) → IsSavedState s → bytes.now ≡ saved_session s → Loads (unwatched s) result }
         ensures sealed { OnOk result ((inside : List ℕ) × (bytes.now ≡ sealed inside)) }
         ensures ends { IfOk result Ends }
+        ensures held { IfOk result (λ s. s.options.holds ≡ true → HoldsLimit s) }
         ensures changed { IfOk result (λ s. ChangedFrom s.line.text s) }
         ensures unknown { result ≡ Err Unknown ↔ ((inside : List ℕ) → bytes.now ≡ heading ++ inside → ⊥) }
     {
@@ -113,6 +114,7 @@ impl Session {
         ensures loaded { (s : State) → IsSavedState s → inside.now ≡ saved_state s → Loads (unwatched s) result }
         ensures part { IfErr result IsOfPart }
         ensures ends { IfOk result Ends }
+        ensures held { IfOk result (λ s. s.options.holds ≡ true → HoldsLimit s) }
         ensures changed { IfOk result (λ s. ChangedFrom s.line.text s) }
     {
         let mut bytes = Unread::new(inside);
@@ -147,6 +149,7 @@ impl Session {
 fn read_line(alloc: Global, bytes: &mut Unread) -> Result<(LineBuffer, Options), LoadFault>
     ensures ok { IfOk result (λ made. (s : State) (rest : List ℕ) → IsSavedState s → bytes.old ≡ saved_line s ++ rest → (made.0 ≡ s.line) × (made.1 ≡ s.options) × (bytes.new ≡ rest)) }
     ensures err { IfErr result (λ f. (s : State) (rest : List ℕ) → IsSavedState s → bytes.old ≡ saved_line s ++ rest → f ≡ NoMemory) }
+    ensures grows_not { IfOk result (λ made. made.0.grow ≡ false) }
     ensures part { IfErr result IsOfPart }
 {
     let mut head = [0; 10];
@@ -222,19 +225,17 @@ fn options_of(head: [u64; 10]) -> Option<Options>
 
 // The line of these numbers and a text.
 fn line_of(alloc: Global, head: [u64; 10], text: &str) -> Result<LineBuffer, LoadFault>
-    ensures ok { IfOk result (λ made. (line : Line) (rest : List ℕ) → length text.now ≤ line.limit → head ≡ line_numbers line ++ rest → text.now ≡ line.text → made ≡ line) }
-    ensures err { IfErr result (λ f. (line : Line) (rest : List ℕ) → IsCharBoundary line.text line.cursor → length text.now ≤ line.limit → head ≡ line_numbers line ++ rest → text.now ≡ line.text → f ≡ NoMemory) }
+    ensures ok { IfOk result (λ made. (line : Line) (rest : List ℕ) → line.grow ≡ false → length text.now ≤ line.limit → head ≡ line_numbers line ++ rest → text.now ≡ line.text → made ≡ line) }
+    ensures err { IfErr result (λ f. (line : Line) (rest : List ℕ) → line.grow ≡ false → IsCharBoundary line.text line.cursor → length text.now ≤ line.limit → head ≡ line_numbers line ++ rest → text.now ≡ line.text → f ≡ NoMemory) }
+    ensures grows_not { IfOk result (λ made. made.grow ≡ false) }
     ensures part { IfErr result IsOfPart }
 {
     let (limit, pos) = (head[0] as usize, head[1] as usize);
-    let Some(grows) = truth_of(head[2]) else {
-        return Err(LoadFault::Damaged);
-    };
-    if text.len() > limit || !text.is_char_boundary(pos) {
+    if head[2] != 0 || text.len() > limit || !text.is_char_boundary(pos) {
         return Err(LoadFault::Damaged);
     }
     match filled(LineBuffer::with_limit(alloc, limit), text, pos) {
-        Ok(line) => Ok(line.can_growth(grows)),
+        Ok(line) => Ok(line),
         Err(_) => Err(LoadFault::NoMemory),
     }
 }
