@@ -38,7 +38,7 @@ TOP = Path(__file__).resolve().parent.parent
 sys.path.insert(0, str(TOP / "clients/rustyline"))
 from sources import take_offline  # noqa: E402
 
-PAGES = ["README.md", "docs/GUIDE.md", "docs/RULES.md", "docs/DECISIONS.md"]
+PAGES = ["README.md", "docs/GUIDE.md", "docs/FORMAT.md", "docs/RULES.md", "docs/DECISIONS.md"]
 PAGES += ["clients/python/README.md", "clients/rust/lodvarn/README.md"]
 # Blocks in these languages are not pieces of code: outputs, pictures, and commands that take long.
 PLAIN = {"", "text", "sh"}
