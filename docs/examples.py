@@ -190,7 +190,8 @@ def run_c(text, place):
     environment = {**os.environ, "PKG_CONFIG_PATH": str(place.out / "lib/pkgconfig")}
     flags = output(["pkg-config", "--cflags", "--libs", "lodvarn"], env=environment).split()
     output(["gcc", *WARNINGS, "example.c", *flags, "-o", "example"], cwd=folder)
-    return output([str(folder / "example")], env={**os.environ, "LD_LIBRARY_PATH": str(place.out / "lib")})
+    libraries = {**os.environ, "LD_LIBRARY_PATH": str(place.out / "lib")}
+    return output([str(folder / "example")], env=libraries, cwd=folder)
 
 
 def run_python(text, place):
