@@ -7,7 +7,8 @@
 Before each fenced block of code stands a comment that says what it is:
 
     <!-- run: rattle -->    a program in Rattle, run by `rt try` in a copy of the crates, as an extra crate
-    <!-- run: c -->         a program in C, built by gcc and pkg-config over the library in FOLDER (clients/out)
+    <!-- run: c -->         a program in C, built by gcc and pkg-config over the library in FOLDER (clients/out), and
+                            run in a folder of its own
     <!-- run: python -->    a program in Python, with the folder clients/python to import from, whose module is built
     <!-- run: rust -->      a program in Rust, in a package that depends on clients/rust/lodvarn
     <!-- run: script -->    lines for the program at PATH (crates/rl_script/out/rl_script)
