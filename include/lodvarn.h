@@ -92,7 +92,7 @@ enum lodvarn_answer {
     LODVARN_BAD_PLACE = -2,      /* a place is past the end or inside a character, or two places are out of order */
     LODVARN_BAD_YANK_SIZE = -3,  /* no text of the yanked size ends at the cursor of a line by itself */
     LODVARN_NOT_REPLAYING = -4,  /* the entries do not lead to the present text */
-    LODVARN_NO_ROOM = -5,        /* the text would get longer than the limit */
+    LODVARN_NO_ROOM = -5,        /* the text would get longer than the limit, or is too long to be saved */
     LODVARN_NOT_UTF8 = -6,       /* a text that was passed is not UTF-8 */
     LODVARN_NO_SUCH_NUMBER = -7, /* a number is not in its enum, is no character, or is a count above 65535 */
     LODVARN_TOO_SMALL = -8,      /* the text to write is longer than the buffer */
