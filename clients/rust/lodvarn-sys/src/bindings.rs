@@ -20,6 +20,8 @@ pub const LODVARN_NO_SUCH_NUMBER: lodvarn_answer = -7;
 pub const LODVARN_TOO_SMALL: lodvarn_answer = -8;
 pub const LODVARN_IS_WATCHED: lodvarn_answer = -9;
 pub const LODVARN_CLOSED: lodvarn_answer = -10;
+pub const LODVARN_UNKNOWN_FORMAT: lodvarn_answer = -11;
+pub const LODVARN_DAMAGED: lodvarn_answer = -12;
 pub type lodvarn_answer = ::std::os::raw::c_int;
 pub const LODVARN_UNICODE: lodvarn_mode = 10;
 pub const LODVARN_WC_WIDTH: lodvarn_mode = 11;
@@ -137,6 +139,21 @@ extern "C" {
         options: *const lodvarn_options,
         text: *const ::std::os::raw::c_char,
         len: usize,
+    ) -> ::std::os::raw::c_int;
+}
+extern "C" {
+    pub fn lodvarn_load(
+        out: *mut *mut lodvarn,
+        bytes: *const ::std::os::raw::c_char,
+        len: usize,
+    ) -> ::std::os::raw::c_int;
+}
+extern "C" {
+    pub fn lodvarn_save(
+        s: *mut lodvarn,
+        out: *mut ::std::os::raw::c_char,
+        cap: usize,
+        len: *mut usize,
     ) -> ::std::os::raw::c_int;
 }
 extern "C" {

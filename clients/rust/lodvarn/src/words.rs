@@ -414,6 +414,10 @@ pub enum Fault {
     NoSuchNumber,
     /// The session keeps reports already.
     IsWatched,
+    /// The bytes do not begin as this version saves a session.
+    UnknownFormat,
+    /// The saved bytes are not those of a session.
+    Damaged,
 }
 
 impl Fault {
@@ -427,6 +431,8 @@ impl Fault {
             ffi::LODVARN_NO_ROOM => Fault::NoRoom,
             ffi::LODVARN_NO_SUCH_NUMBER => Fault::NoSuchNumber,
             ffi::LODVARN_IS_WATCHED => Fault::IsWatched,
+            ffi::LODVARN_UNKNOWN_FORMAT => Fault::UnknownFormat,
+            ffi::LODVARN_DAMAGED => Fault::Damaged,
             ffi::LODVARN_CLOSED | ffi::LODVARN_NOT_UTF8 | ffi::LODVARN_TOO_SMALL => {
                 unreachable!("the types rule out {}", calls::answer_name(answer))
             }
@@ -445,6 +451,8 @@ impl fmt::Display for Fault {
             Fault::NoRoom => "no room for the text",
             Fault::NoSuchNumber => "no number that the call takes",
             Fault::IsWatched => "reports are kept already",
+            Fault::UnknownFormat => "the bytes are not of a known version",
+            Fault::Damaged => "the saved bytes are damaged",
         })
     }
 }
