@@ -2,11 +2,11 @@
 //! what that writes or lends. A public method of a session that makes one call is a line of `methods` where its page is.
 //!
 //! Why they are sound: a handle has what a call has opened, until it is dropped. A text is passed as the pointer and the
-//! length of a `&str`, a buffer as those of a `&mut [u8]`, and the library keeps neither. What a call writes is read only
-//! if it returns that it is done. A call that changes something takes its handle by `&mut`, so no text that the handle
-//! lends is there then. A read takes what is read out of its handle for the time of the call: so two threads that share
-//! one wait for each other, and what may not be shared is not `Sync`. An edit has the handles of whom it tells from
-//! `Known`, which has them as by a `&mut`. The library's texts are UTF-8.
+//! length of a `&str`, bytes as those of a `&[u8]`, a buffer as those of a `&mut [u8]`, and the library keeps none.
+//! What a call writes is read only if it returns that it is done. A call that changes something takes its handle by
+//! `&mut`, so no text that the handle lends is there then. A read takes what is read out of its handle for the time of
+//! the call: so two threads that share one wait for each other, and what may not be shared is not `Sync`. An edit has
+//! the handles of whom it tells from `Known`, which has them as by a `&mut`. The library's texts are UTF-8.
 #![allow(unsafe_code)]
 
 mod parts;
@@ -188,6 +188,11 @@ impl Handle<lodvarn> {
         Handle::opened(|out| unsafe { lodvarn_open(out, &options, start_of(text), text.len()) })
     }
 
+    pub(crate) fn load(bytes: &[u8]) -> Result<Self, Fault> {
+        let (at, len) = (bytes.as_ptr().cast(), bytes.len());
+        Handle::opened(|out| unsafe { lodvarn_load(out, at, len) })
+    }
+
     calls! {
         fn part(&mut self) = lodvarn_part();
         fn clear_ring(&mut self) = lodvarn_clear_ring();
@@ -197,6 +202,11 @@ impl Handle<lodvarn> {
         fn watch(&mut self, reports: usize, text_bytes: usize)
             = lodvarn_watch(reports, text_bytes);
         fn unwatch(&mut self) = lodvarn_unwatch();
+    }
+
+    calls! {
+        fn save(&self, out: &mut [u8], len: &mut usize) -> i32
+            = lodvarn_save(out.as_mut_ptr().cast(), out.len(), len);
     }
 
     calls! {

@@ -40,6 +40,7 @@ mod listeners;
 mod reads;
 mod record;
 mod ring;
+mod saved;
 mod texts;
 mod words;
 
@@ -61,7 +62,8 @@ use std::fmt;
 /// The version of this crate, and of the library that it links: with another one it is not built.
 pub const VERSION: &str = env!("CARGO_PKG_VERSION");
 
-/// A text with its cursor, a ring of killed texts, and the record of its changes. [`Session::builder`] opens one.
+/// A text with its cursor, a ring of killed texts, and the record of its changes. [`Session::builder`] opens one,
+/// and [`Session::from_bytes`] one that was saved.
 ///
 /// It may be sent to another thread, but not shared between threads.
 ///

@@ -408,7 +408,7 @@ pub enum Fault {
     /// The entries to keep do not lead to the present text, or the changes of a [`Changeset`](crate::undo::Changeset)
     /// do not fit the text of the line.
     NotReplaying,
-    /// The text would get longer than the limit.
+    /// The text would get longer than the limit, or one to be saved has 4 GiB or more.
     NoRoom,
     /// The call takes no such number, or no such movement.
     NoSuchNumber,
