@@ -126,6 +126,7 @@ fn sessions_say_that_memory_is_refused() {
         undo(1),
         watch(9, 999),
         group(),
+        to_bytes(),
     ];
     let left = |s: &mut Session| assert!(s.text().is_char_boundary(s.pos()));
     let counted = calls
@@ -139,6 +140,9 @@ fn sessions_say_that_memory_is_refused() {
 fn what_needs_no_session_says_that_memory_is_refused() {
     let open = |(): &mut ()| Session::builder().text("one").open();
     assert!(refuse("open", || (), open, |()| {}) > 0);
+    let bytes = session().to_bytes().expect("a session is saved");
+    let load = |(): &mut ()| Session::from_bytes(&bytes);
+    assert!(refuse("from_bytes", || (), load, |()| {}) > 3);
     // No line of it needs memory, which would be refused by a line of what is printed.
     let script = "where\n".repeat(99);
     let run = |(): &mut ()| run_script(script.as_bytes());
