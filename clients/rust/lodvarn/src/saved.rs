@@ -4,9 +4,9 @@ use crate::words::Fault;
 use crate::{done, ffi, room, Session};
 
 impl Session {
-    /// The session as bytes, which [`from_bytes`](Session::from_bytes) loads again. It is no command and changes nothing:
-    /// reports are not saved, and those that wait stay. The same session gives the same bytes on every machine;
-    /// `docs/FORMAT.md` of the repository says what each is.
+    /// The session as bytes, which [`from_bytes`](Session::from_bytes) loads again. It is no command and changes
+    /// nothing: reports are not saved, and those that wait stay. The same session gives the same bytes on every
+    /// machine; `docs/FORMAT.md` of the repository says what each is.
     ///
     /// ```
     /// # use lodvarn::{Fault, Session};
@@ -39,8 +39,8 @@ impl Session {
     }
 
     /// Opens a session of the bytes that [`to_bytes`](Session::to_bytes) returned. Text and cursor, record, ring and
-    /// options are as they were, with open groups, what may be redone, and the save; nothing changed yet, and no reports
-    /// are kept. Any bytes may be passed, and take no more memory than some times their length.
+    /// options are as they were, with open groups, what may be redone, and the save point; nothing changed yet, and no
+    /// reports are kept. Any bytes may be passed, and take no more memory than some times their length.
     ///
     /// ```
     /// # use lodvarn::{Fault, Session};
@@ -55,8 +55,8 @@ impl Session {
     ///
     /// # Errors
     ///
-    /// [`Fault::UnknownFormat`] if the bytes do not begin as this version saves them; [`Fault::Damaged`] if their checksum
-    /// is wrong, or a record in them does not lead to their text; [`Fault::NoMemory`].
+    /// [`Fault::UnknownFormat`] if the bytes do not begin as this version saves them; [`Fault::Damaged`] if their
+    /// checksum is wrong, or a record in them does not lead to their text; [`Fault::NoMemory`].
     pub fn from_bytes(bytes: &[u8]) -> Result<Session, Fault> {
         let handle = Handle::load(bytes)?;
         Ok(Session {

@@ -1,5 +1,5 @@
 //! Sessions that are saved as bytes and loaded again: by themselves, and at random.
-use lodvarn::{Fault, Inserted, Mode, Movement, Options, ReportKind, Session};
+use lodvarn::{Direction, Fault, Inserted, Mode, Movement, Options, ReportKind, Session};
 use random::{command, Random};
 
 mod random;
@@ -62,7 +62,7 @@ fn a_loaded_session_goes_on() -> Result<(), Fault> {
 fn a_save_is_no_command() -> Result<(), Fault> {
     let mut session = opened("one two three");
     session.watch(9, 99)?;
-    session.kill_range(8..13, Default::default())?;
+    session.kill_range(8..13, Direction::Forward)?;
     let mut loaded = reloaded(&session);
     assert_eq!((loaded.count_reports(), loaded.take_change()), (0, None));
     assert_eq!(loaded.watch(9, 99), Ok(()));
