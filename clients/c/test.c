@@ -121,14 +121,14 @@ static void scripts_print(void) {
 #define NAMED(answer) see(#answer " has its name", !strcmp(lodvarn_answer_name(LODVARN_##answer), "LODVARN_" #answer))
 
 static void versions_and_answers_have_names(void) {
-    static const int none[] = {3, 4, 255, 256, INT_MAX, -11, -12, -255, INT_MIN};
+    static const int none[] = {3, 4, 255, 256, INT_MAX, -13, -14, -255, INT_MIN};
     char numbers[32];
     snprintf(numbers, sizeof numbers, "%d.%d.%d", LODVARN_VERSION_MAJOR, LODVARN_VERSION_MINOR, LODVARN_VERSION_PATCH);
     SEE(!strcmp(LODVARN_VERSION, numbers) && lodvarn_version() == LODVARN_VERSION_NUMBER);
     SEE(lodvarn_version() == LODVARN_VERSION_MAJOR * 65536 + LODVARN_VERSION_MINOR * 256 + LODVARN_VERSION_PATCH);
     NAMED(NOTHING), NAMED(DONE), NAMED(DONE_AT_END), NAMED(NO_MEMORY), NAMED(BAD_PLACE), NAMED(BAD_YANK_SIZE);
     NAMED(NOT_REPLAYING), NAMED(NO_ROOM), NAMED(NOT_UTF8), NAMED(NO_SUCH_NUMBER), NAMED(TOO_SMALL), NAMED(IS_WATCHED);
-    NAMED(CLOSED);
+    NAMED(CLOSED), NAMED(UNKNOWN_FORMAT), NAMED(DAMAGED);
     for (size_t i = 0; i < COUNT(none); i++)
         if (!SEE(!strcmp(lodvarn_answer_name(none[i]), "unknown"))) printf("  of %d\n", none[i]);
 }
@@ -1446,6 +1446,119 @@ static void a_session_begins_anew(void) {
     SEE(lodvarn_restart(s, "", 0) == LODVARN_DONE && chosen().limit == 9);
 }
 
+/* The bytes of a session, by a call that tells how many they are, one with too little room, and one that writes them; to
+ * be freed. */
+static char *saved(size_t *len) {
+    char *bytes;
+    SEE(lodvarn_save(s, NULL, 0, len) == LODVARN_TOO_SMALL);
+    must((bytes = calloc(1, *len)) != NULL);
+    SEE(lodvarn_save(s, bytes, *len - 1, len) == LODVARN_TOO_SMALL && *bytes == 0);
+    SEE(lodvarn_save(s, bytes, *len, len) == LODVARN_DONE);
+    return bytes;
+}
+
+/* Prints all that the reads tell of a session. */
+static void print_all(FILE *to) {
+    options = chosen();
+    fprintf(to, "%zu %zu %d %d ", lodvarn_entries(s), lodvarn_level(s), lodvarn_can_undo(s), lodvarn_can_redo(s));
+    fprintf(to, "%d %d %d ", lodvarn_is_saved(s), lodvarn_last_was_yank(s), options.limit_holds);
+    fprintf(to, "%zu %zu %d %d ", options.limit, options.ring_size, options.mode, options.prompt);
+    fprintf(to, "%zu %zu %zu ", options.max_entries, options.max_bytes, options.max_ring_bytes);
+    print_ring(to);
+    fputc('\n', to);
+}
+
+/* What each line prints, and what the reads tell after it: of those with a ; between them, and of some more; to be
+ * freed. */
+static char *printed_on(const char *lines) {
+    char copy[256], *printed = NULL;
+    size_t len = 0;
+    FILE *to = open_memstream(&printed, &len);
+    must(to != NULL);
+    print_all(to);
+    snprintf(copy, sizeof copy, "%s;where;redo;undo 1;end;undo 1;undo 9;redo;redo;redo;redo;yank 1;yankpop;undo 1", lines);
+    for (char *line = strtok(copy, ";"); line; line = strtok(NULL, ";")) {
+        fprintf(to, "%s", run(line));
+        print_all(to);
+    }
+    fclose(to);
+    return printed;
+}
+
+/* What is done before a session is saved, and after it. The text is "one two", with the cursor at its end;
+ * lodvarn_set_saved comes after the first line. */
+static const char *const kept[][2] = {
+    {"where", "ins 1 x"},
+    {"ins 1 x;ins 1 y", "ins 1 z"},
+    {"ins 1 x;part", "ins 1 z"},
+    {"kill bword 1 emacs", "kill bword 1 emacs"},
+    {"kill bword 1 emacs;where;kill bword 1 emacs;yank 2", "yankpop;yankpop"},
+    {"rep 0 3 " FAMILY ";pos 0;ins 1 é;undo 1", "redo"},
+    {"pos 2;begin;rep 4 5 T;ins 1 \\u{1f680};begin;back 1", "ins 1 z;end;endone"},
+    {"begin;str 0 " FLAGS ";ins 1 x;endone;undo 1;undo 9", "reopen;redo"},
+    {"begin;ins 1 x;back 1;endone", "reopen;ins 1 y"},
+    {"begin;ins 1 x;begin;killline;undo 1", "abandon"},
+};
+
+static void a_session_is_saved_and_loaded(void) {
+    for (size_t i = 0; i < COUNT(kept); i++) {
+        char lines[128], *bytes, *again, *wanted;
+        size_t len, len_again;
+        lodvarn *loaded = NULL;
+        lodvarn_splice change;
+        begin_script();
+        run("text one two");
+        must(SET(mode, Z) > 0 && SET(prompt, 7) > 0 && SET(max_entries, 90 + i) > 0 && SET(max_ring_bytes, 80 + i) > 0);
+        must(SET(limit, 500 + i) > 0 && SET(limit_holds, i % 2) > 0 && (i % 3 || lodvarn_watch(s, 1, 0) > 0));
+        for (char *line = strtok(strcpy(lines, kept[i][0]), ";"); line; line = strtok(NULL, ";")) {
+            run(line);
+            if (line == lines) lodvarn_set_saved(s);
+        }
+        bytes = saved(&len);
+        wanted = printed_on(kept[i][1]);
+        if (!see(kept[i][0], lodvarn_load(&loaded, bytes, len) == LODVARN_DONE)) return;
+        lodvarn_close(&s);
+        script_session.s = s = loaded;
+        SEE(lodvarn_take_change(s, &change) == LODVARN_NOTHING && lodvarn_count_reports(s) == 0);
+        again = saved(&len_again);
+        SEE(len_again == len && !memcmp(again, bytes, len));
+        see_printed(kept[i][0], printed_on(kept[i][1]), wanted);
+        SEE(lodvarn_watch(s, 1, 0) == LODVARN_DONE);
+        free(bytes), free(again), free(wanted);
+    }
+}
+
+/* Bytes of which no session is loaded, from a block of just their length. */
+static void refuse_bytes(const char *bytes, size_t len, int wanted) {
+    char *copy = malloc(len + !len);
+    lodvarn *out = s;
+    must(copy != NULL);
+    memcpy(copy, bytes, len);
+    int answer = lodvarn_load(&out, copy, len);
+    if (!SEE(answer == wanted && out == s)) printf("  %s of %zu bytes\n", lodvarn_answer_name(answer), len);
+    free(copy);
+}
+
+static void damaged_bytes_are_not_loaded(void) {
+    enum { HEADING = 8 };
+    size_t len;
+    open_at("one |two", 64);
+    lodvarn_kill(s, WORD_BACK), lodvarn_insert(s, 0x1f680, 1), lodvarn_undo(s, 1), lodvarn_begin_group(s);
+    char *bytes = saved(&len);
+    for (size_t i = 0; i < len; i++) {
+        int wanted = i < HEADING ? LODVARN_UNKNOWN_FORMAT : LODVARN_DAMAGED;
+        refuse_bytes(bytes, i, wanted);
+        for (int bit = 0; bit < 8; bytes[i] ^= (char)(1 << bit++)) {
+            bytes[i] ^= (char)(1 << bit);
+            refuse_bytes(bytes, len, wanted);
+        }
+    }
+    must((bytes = realloc(bytes, len + 1)) != NULL);
+    bytes[len] = 0;
+    refuse_bytes(bytes, len + 1, LODVARN_DAMAGED);
+    free(bytes);
+}
+
 int main(void) {
     scripts_print();
     versions_and_answers_have_names();
@@ -1488,6 +1601,8 @@ int main(void) {
     asking_what_changed_parts_nothing();
     reports_are_drained_quickly();
     a_session_begins_anew();
+    a_session_is_saved_and_loaded();
+    damaged_bytes_are_not_loaded();
     lodvarn_close(&s);
     return sum();
 }
