@@ -1446,8 +1446,8 @@ static void a_session_begins_anew(void) {
     SEE(lodvarn_restart(s, "", 0) == LODVARN_DONE && chosen().limit == 9);
 }
 
-/* The bytes of a session, by a call that tells how many they are, one with too little room, and one that writes them; to
- * be freed. */
+/* The bytes of a session, by a call that tells how many they are, one with too little room, and one that writes them.
+ * To be freed. */
 static char *saved(size_t *len) {
     char *bytes;
     SEE(lodvarn_save(s, NULL, 0, len) == LODVARN_TOO_SMALL);
@@ -1476,7 +1476,7 @@ static char *printed_on(const char *lines) {
     FILE *to = open_memstream(&printed, &len);
     must(to != NULL);
     print_all(to);
-    snprintf(copy, sizeof copy, "%s;where;redo;undo 1;end;undo 1;undo 9;redo;redo;redo;redo;yank 1;yankpop;undo 1", lines);
+    snprintf(copy, sizeof copy, "%s;where;redo;undo 1;end;undo 1;undo 9;redo;redo;redo;redo;yank 1;yankpop", lines);
     for (char *line = strtok(copy, ";"); line; line = strtok(NULL, ";")) {
         fprintf(to, "%s", run(line));
         print_all(to);
