@@ -17,6 +17,8 @@ NAMES = [".hid", "a\x1b", "a b", "a\u009b", "c/d", os.fsdecode(b"c\xff")]
 COMMAND = "export m=$(stty -g); ./edit; echo $?; [ $m = $(stty -g) ] && echo as before; exec cat"
 DIGITS, FORTY = "0123456789", "\r".join(f": {n}" for n in range(40))
 ENTER, UP, TAB = keys("Enter"), keys("Up"), keys("Tab")
+# A prompt in the prompt, whose session the file k keeps.
+KEPT = ["./edit k", ENTER]
 # What is shown, what is sent, the last rows that this leads to on a screen of 60 columns, and the cursor's column.
 CASES = [
     ("a command", ["echo one", ENTER], ["$ echo one", "one", "$"], 2),
@@ -35,6 +37,12 @@ CASES = [
     ("a name that fits", ["x" * 4090 + " n/", TAB], ["$ " + "x" * 47 + " n/c/"], 54),
     ("no name", ["n/e", TAB, "f"], ["$ n/ef"], 6),
     ("the ring of the line before", [": a b", keys("C-w"), ENTER, keys("C-y")], ["$ : a", "$ b"], 3),
+    (
+        "the ring and the record of the run before",
+        [*KEPT, ": a b", keys("C-w C-a C-k C-d"), PAUSED, *KEPT, keys("C-_ C-_ C-y"), ENTER, keys("C-d")],
+        ["$ : a b: a", "$", "$"],
+        2,
+    ),
     ("an undo stays in a line of before", [": one", ENTER, "two", UP, keys("C-_")], ["$ : one", "$ : one"], 7),
     ("what was typed comes back", [": one", ENTER, "two", keys("C-p Down")], ["$ : one", "$ two"], 5),
     ("the newest lines are kept", [FORTY, ENTER] + [UP] * 40 + [keys("C-n")], ["$ : 39", "$ : 10"], 6),

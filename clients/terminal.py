@@ -59,7 +59,7 @@ class Terminal:
         environment.pop("TMUX", None)
         self.environment = environment
         editor = self.path / "edit"
-        editor.write_text(f"#!/bin/sh\necho $$ > pid\nexec '{program}'\n")
+        editor.write_text(f"#!/bin/sh\necho $$ > pid\nexec '{program}' \"$@\"\n")
         editor.chmod(0o755)
         size = ["-x", str(columns), "-y", str(rows)]
         self.tmux("new-session", "-d", *size, "-s", "edit", "-c", str(self.path), command)

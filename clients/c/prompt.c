@@ -1,5 +1,8 @@
-/* The prompt of a small shell over Lodvarn: sh runs each line, up to C-d on an empty one. */
+/* The prompt of a small shell over Lodvarn: sh runs each line, up to C-d on an empty one.
+ *
+ *     prompt [FILE]    FILE keeps the kill ring, and the last line with its record, for the next run */
 #define _POSIX_C_SOURCE 200809L
+#include "kept.h"
 #include "lodvarn.h"
 #include <glob.h>
 #include <signal.h>
@@ -16,6 +19,7 @@ static struct termios outside, raw;  /* the terminal's modes for commands, and t
 static struct winsize size;
 static char lines[LINES][LIMIT + 1]; /* the one that is typed, and those before it, the newest first */
 static size_t shown;                 /* which of them the session has */
+static const char *path;             /* of the file that keeps the session, or NULL */
 
 static lodvarn_view text(void) {
     lodvarn_view view = {"", 0};
@@ -43,6 +47,11 @@ static void hang_up(int number) { tcsetattr(0, TCSANOW, &outside), _exit(128 + n
 /* Keeps what is typed. */
 static void keep(lodvarn_view line) { memcpy(lines[0], line.at, line.len), lines[0][line.len] = 0; }
 
+/* Keeps the session for the next run. */
+static void keep_session(void) {
+    if (path && !kept_save(path, s)) perror(path);
+}
+
 /* Shows an older line, or a newer one. The session begins anew with it, so that no undo leads out of it. */
 static int recall(int older) {
     if (older ? shown == LINES - 1 || !*lines[shown + 1] : shown == 0) return LODVARN_NOTHING;
@@ -63,7 +72,9 @@ static int end_line(int is_accepted) {
         memmove(lines + 1, lines, sizeof lines - sizeof *lines);
     }
     shown = 0;
-    return lodvarn_restart(s, "", 0);
+    int answer = lodvarn_restart(s, "", 0);
+    keep_session(); /* a hang-up keeps no more */
+    return answer;
 }
 
 /* Types a character. All that is typed with no other key between is one undo, as in GNU readline. */
@@ -154,10 +165,11 @@ static int take(char byte) {
     return press(key, c);
 }
 
-int main(void) {
+int main(int argc, char **argv) {
     lodvarn_options options = LODVARN_OPTIONS;
     options.limit_holds = true; /* a name would raise the limit */
-    if (tcgetattr(0, &outside) || lodvarn_open(&s, &options, "", 0) < 0) return perror("prompt"), 1;
+    if (argc > 1) s = kept_load(path = argv[1], options);
+    if (tcgetattr(0, &outside) || (!s && lodvarn_open(&s, &options, "", 0) < 0)) return perror("prompt"), 1;
     raw = outside;
     raw.c_lflag &= ~(tcflag_t)(ECHO | ICANON | IEXTEN | ISIG);
     raw.c_cc[VMIN] = 1;
@@ -167,5 +179,6 @@ int main(void) {
         if (take(byte) <= 0) dprintf(1, "\a"); /* nothing was done */
     dprintf(1, "\n");
     tcsetattr(0, TCSADRAIN, &outside);
+    keep_session();
     return lodvarn_close(&s), 0;
 }

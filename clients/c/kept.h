@@ -1,0 +1,66 @@
+/* A session that goes on in the next run of a program, since a file keeps it, with its record and its ring. Define
+ * _POSIX_C_SOURCE as 200809L before all headers.
+ *
+ *     lodvarn_options options = LODVARN_OPTIONS;
+ *     lodvarn *s = kept_load(path, options);
+ *     if (!s && lodvarn_open(&s, &options, "", 0) < 0) return 1;
+ *     lodvarn_insert(s, 'c', 1);
+ *     if (!kept_save(path, s)) perror(path);
+ *
+ * A file that was not written whole is not loaded, since its checksum is wrong. */
+#ifndef KEPT_H
+#define KEPT_H
+
+#include "lodvarn.h"
+#include <fcntl.h>
+#include <stdlib.h>
+#include <sys/stat.h>
+#include <unistd.h>
+
+/* Reads a whole file; free frees its bytes. Returns NULL if it can't be read, or memory is out. */
+static inline char *kept_read(const char *path, size_t *len) {
+    int file = open(path, O_RDONLY);
+    off_t size = file < 0 ? -1 : lseek(file, 0, SEEK_END);
+    char *bytes = size < 0 ? NULL : malloc((size_t)size + 1);
+    if (bytes && pread(file, bytes, *len = (size_t)size, 0) != size) free(bytes), bytes = NULL;
+    if (file >= 0) close(file);
+    return bytes;
+}
+
+/* Writes a whole file, which has that mode if it is new. Returns whether it could. */
+static inline int kept_write(const char *path, mode_t mode, const char *bytes, size_t len) {
+    int file = open(path, O_WRONLY | O_CREAT | O_TRUNC, mode);
+    int is_written = file >= 0 && write(file, bytes, len) == (ssize_t)len;
+    return file >= 0 && !close(file) && is_written;
+}
+
+/* Loads the session of a file, and gives it the options but for the size of its ring. Returns NULL if the file has none,
+ * or one whose text is longer than the limit. */
+static inline lodvarn *kept_load(const char *path, lodvarn_options options) {
+    lodvarn_options own = LODVARN_OPTIONS;
+    lodvarn_view text = {"", 0};
+    lodvarn *s = NULL;
+    size_t len;
+    char *bytes = kept_read(path, &len);
+    if (bytes && lodvarn_load(&s, bytes, len) > 0) {
+        lodvarn_get_options(s, &own);
+        options.ring_size = own.ring_size;
+        lodvarn_text(s, &text);
+        if (text.len > options.limit || lodvarn_set_options(s, &options) < 0) lodvarn_close(&s);
+    }
+    free(bytes);
+    return s;
+}
+
+/* Saves a session to a file that only its owner may read, since the ring has what was killed. Returns whether it
+ * could. */
+static inline int kept_save(const char *path, lodvarn *s) {
+    size_t len = 0;
+    lodvarn_save(s, NULL, 0, &len);
+    char *bytes = malloc(len);
+    int is_saved = bytes && lodvarn_save(s, bytes, len, &len) > 0 && kept_write(path, 0600, bytes, len);
+    free(bytes);
+    return is_saved;
+}
+
+#endif
