@@ -400,6 +400,14 @@ SHELL_STEPS = [
     ("the editor once more", ["./edit\r"], ["$ ./edit", ">"]),
     ("ends by its key", [keys("C-d")], [">", "$"]),
     ("with the modes before", [f"{MODES}\r"], [f"$ {MODES}", "same", "$"]),
+    ("the editor of a file", ["./edit f\r"], ["$ ./edit f", ">"]),
+    ("writes it", ["one", keys("Enter"), "two", keys("C-u"), "x", keys("C-x C-s"), "y"], ["> one", "xy"]),
+    ("and ends", [keys("C-c")], ["> one", "xy", "$"]),
+    ("which is there", ["cat f; echo\r"], ["$ cat f; echo", "one", "x", "$"]),
+    ("and goes on with it", ["./edit f\r"], ["$ ./edit f", "> one", "x"]),
+    ("and its record and ring", [keys("C-_ C-_ C-a C-y C-x C-s C-c")], ["> one", "twotwo", "$"]),
+    ("but not with another text", ["echo z > f; ./edit f\r"], ["$ echo z > f; ./edit f", "> z"]),
+    ("of which no undo leads back", [keys("C-_ C-_"), "x", keys("C-c")], ["> z", "x", "$"]),
 ]
 
 # Random keys: how many times, how many each time, which, and a small screen for them, so that rows wrap and scroll.

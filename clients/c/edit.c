@@ -1,6 +1,12 @@
 /* A line editor for a terminal over Lodvarn: the Emacs keys of GNU readline, UTF-8, several rows. Each accepted text
- * is printed as "=> text". C-d on an empty text ends the editor, C-c drops the text, and C-z stops the job. */
+ * is printed as "=> text". C-d on an empty text ends the editor, C-c drops the text, and C-z stops the job.
+ *
+ *     edit [FILE]    edits FILE: Enter begins a row, C-x C-s writes FILE, and C-c ends the editor
+ *
+ * The session is written with FILE, to .FILE.undo beside it. As long as it has the text of FILE, the next run goes on
+ * with it: with what may be undone and redone, and with the kill ring. */
 #define _DEFAULT_SOURCE
+#include "kept.h"
 #include "lodvarn.h"
 #include <errno.h>
 #include <signal.h>
@@ -47,6 +53,8 @@ struct editor {
     unsigned char input[4096];
     size_t input_len, input_at;
     char pasted[LIMIT], output[65536];
+    const char *path; /* of the file that is edited, or NULL */
+    char kept[4104];  /* that of its session. What is too long here is so for the system */
 };
 
 /* Moves the terminal's cursor to a cell. Only relative moves lead to its row, since what was there before the editor
@@ -390,8 +398,42 @@ static void stop(struct editor *e, uint32_t stopping) {
     if (!ended_by) enter_raw(e);
 }
 
-/* Shows the text up to its end, prints it if it is accepted, and begins the next one, with the kill ring as it is. */
+/* Opens the session of the file, or begins one with its text: UTF-8, without control characters but for tabs and
+ * newlines. Returns whether it could. */
+static int open_file(struct editor *e, lodvarn_options options) {
+    const char *slash = strrchr(e->path, '/'), *name = slash ? slash + 1 : e->path;
+    lodvarn_view kept = {"", 0};
+    size_t len = 0;
+    char *text = kept_read(e->path, &len);
+    int can_open = text || errno == ENOENT;
+    for (size_t i = 0; can_open && i < len; i++) {
+        unsigned char byte = (unsigned char)text[i], next = i + 1 < len ? (unsigned char)text[i + 1] : ' ';
+        can_open = byte < ' ' ? strchr("\t\n", byte) && byte : byte != 0x7f && (byte != 0xc2 || next >= 0xa0);
+    }
+    if (options.limit < len) options.limit = len;
+    snprintf(e->kept, sizeof e->kept, "%.*s.%s.undo", (int)(name - e->path), e->path, name);
+    if (can_open && (e->session = kept_load(e->kept, options))) lodvarn_text(e->session, &kept);
+    if (kept.len != len || (len && memcmp(kept.at, text, len))) lodvarn_close(&e->session);
+    if (can_open && !e->session) lodvarn_open(&e->session, &options, text, len);
+    free(text);
+    return e->session != NULL;
+}
+
+static void write_file(struct editor *e, uint32_t unused) {
+    lodvarn_view text;
+    (void)unused;
+    lodvarn_text(e->session, &text);
+    int is_written = e->path && kept_write(e->path, 0666, text.len ? text.at : "", text.len);
+    if (is_written) lodvarn_set_saved(e->session);
+    e->rings |= !is_written || !kept_save(e->kept, e->session);
+}
+
+/* Shows the text up to its end, prints it if it is accepted, and begins the next one, with the kill ring as it is. A
+ * file goes on, or the editor ends. */
 static void end_text(struct editor *e, uint32_t is_accepted) {
+    if (e->path && is_accepted) insert(e, '\n');
+    e->is_over = e->path && !is_accepted;
+    if (e->path) return;
     lodvarn_move(e->session, lodvarn_to_text_end());
     redraw(e);
     if (is_accepted) printf("\n=> %.*s\n", (int)e->len, e->text);
@@ -437,6 +479,7 @@ static const struct key {
     {{"\x19"}, "yank", .does = yank},
     {{"\x1a"}, "stop the job", .does = stop, .number = SIGTSTP},
     {{"\x1f", "\x18\x15"}, "undo", .does = undo},
+    {{"\x18\x13"}, "write the file", .does = write_file},
     {{"\x1b" "b", "\x1b[1;5D"}, "backward-word", .call = lodvarn_move, .by = word_back},
     {{"\x1b" "f", "\x1b[1;5C"}, "forward-word", .call = lodvarn_move, .by = word_end},
     {{"\x1b" "d"}, "kill-word", .call = lodvarn_kill, .by = word_end},
@@ -496,13 +539,15 @@ static int take_key(struct editor *e) {
     return byte != END && !e->is_over;
 }
 
-int main(void) {
+int main(int argc, char **argv) {
     static struct editor e;
     if (tcgetattr(0, &e.before)) return perror("edit"), 1;
     lodvarn_options options = LODVARN_OPTIONS;
     options.limit = LIMIT;
     options.prompt = prompt_columns;
-    if (lodvarn_open(&e.session, &options, "", 0) < 0) return 1;
+    e.path = argc > 1 ? argv[1] : NULL;
+    if (e.path ? !open_file(&e, options) : lodvarn_open(&e.session, &options, "", 0) < 0)
+        return fprintf(stderr, "edit: can't open %s\n", e.path ? e.path : "a session"), 1;
     setvbuf(stdout, e.output, _IOFBF, sizeof e.output);
     hear_signals(&e);
     enter_raw(&e);
