@@ -90,7 +90,7 @@ enum lodvarn_answer {
     LODVARN_DONE_AT_END = 2,     /* done, and what was inserted went to the end of the text */
     LODVARN_NO_MEMORY = -1,      /* out of memory */
     LODVARN_BAD_PLACE = -2,      /* a place is past the end or inside a character, or two places are out of order */
-    LODVARN_BAD_YANK_SIZE = -3,  /* no text of the yanked size ends at the cursor of a line by itself */
+    LODVARN_BAD_YANK_SIZE = -3,  /* no text of the yanked size ends at the cursor, of a line by itself or one just loaded */
     LODVARN_NOT_REPLAYING = -4,  /* the entries do not lead to the present text */
     LODVARN_NO_ROOM = -5,        /* the text would get longer than the limit, or is too long to be saved */
     LODVARN_NOT_UTF8 = -6,       /* a text that was passed is not UTF-8 */
@@ -384,7 +384,8 @@ int lodvarn_yank(lodvarn *s, size_t n);
 /* Replaces the text that the last call yanked by the one before it in the ring. These are two changes: call
  * lodvarn_begin_group before the yank, and lodvarn_end_group after the last call of this, if one undo should take back
  * all. Returns NOTHING if lodvarn_last_was_yank is false. If the text before it is empty, what was yanked is deleted.
- * Errors: NO_ROOM, which leaves the whole session; NO_MEMORY. */
+ * Errors: NO_ROOM, which leaves the whole session; NO_MEMORY; BAD_YANK_SIZE only right after lodvarn_load, if the bytes
+ * were made to say that another text was yanked than stands before the cursor. */
 int lodvarn_yank_pop(lodvarn *s);
 
 /* Replaces the whole text by another one, which is cut to the limit. The cursor goes to the place pos of the new text,
