@@ -90,7 +90,7 @@ enum lodvarn_answer {
     LODVARN_DONE_AT_END = 2,     /* done, and what was inserted went to the end of the text */
     LODVARN_NO_MEMORY = -1,      /* out of memory */
     LODVARN_BAD_PLACE = -2,      /* a place is past the end or inside a character, or two places are out of order */
-    LODVARN_BAD_YANK_SIZE = -3,  /* no text of the yanked size ends at the cursor, of a line by itself or one just loaded */
+    LODVARN_BAD_YANK_SIZE = -3,  /* no text of the yanked size ends at the cursor; see lodvarn_yank_pop */
     LODVARN_NOT_REPLAYING = -4,  /* the entries do not lead to the present text */
     LODVARN_NO_ROOM = -5,        /* the text would get longer than the limit, or is too long to be saved */
     LODVARN_NOT_UTF8 = -6,       /* a text that was passed is not UTF-8 */
@@ -323,10 +323,10 @@ static inline lodvarn_movement lodvarn_to_text_end(void) { return lodvarn_moveme
  * text. Errors: NOT_UTF8, NO_SUCH_NUMBER also if size is none that this version knows, NO_MEMORY; they leave *out. */
 int lodvarn_open(lodvarn **out, const lodvarn_options *options, const char *text, size_t len);
 
-/* Opens a session of the bytes that lodvarn_save wrote, and sets *out to it, which is not read: text and cursor, record,
- * ring and options are as they were, nothing changed yet, and no reports are kept. Errors: UNKNOWN_FORMAT if the bytes do
- * not begin as this version saves them; DAMAGED if their checksum is wrong, or a record in them does not lead to their
- * text; NO_MEMORY; they leave *out. Any bytes may be passed, and take no more memory than some times their length. */
+/* Opens a session of the bytes that lodvarn_save wrote, and sets *out to it, which is not read: text and cursor,
+ * record, ring and options are as they were, nothing changed yet, and no reports are kept. Errors: UNKNOWN_FORMAT if the
+ * bytes do not begin as this version saves them; DAMAGED if their checksum is wrong, or a record in them does not lead to
+ * their text; NO_MEMORY; they leave *out. Any bytes may be passed, and take no more memory than some times their length. */
 int lodvarn_load(lodvarn **out, const char *bytes, size_t len);
 
 /* Writes the session as bytes to out, and how many to *len, also if they are more than cap (TOO_SMALL) and nothing is
