@@ -66,6 +66,13 @@ static long long py_open(session *it, const lodvarn_options *options, const char
     return lodvarn_open(&it->s, options, text, len);
 }
 
+static long long py_load(session *it, const char *bytes, size_t len) {
+    int answer = lodvarn_load(&it->s, bytes, len);
+    lodvarn_view text = text_of(it);
+    it->told = chars_in(text.at, text.len);
+    return answer;
+}
+
 static long long py_index(session *it) {
     return it->s ? (long long)chars_in(text_of(it).at, lodvarn_pos(it->s)) : LODVARN_CLOSED;
 }

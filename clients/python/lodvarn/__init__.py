@@ -10,9 +10,9 @@
 A place is an index of the text, as of any str: session.text[start:end] is what stands between two places. Only what has
 `bytes` in its name counts bytes of UTF-8. A count n is of grapheme clusters, words, lines or repetitions, at most
 65535, and 0 does nothing. Lines and columns count from 0. A command returns whether there was anything to do. What is
-refused raises a LodvarnError; one for a place or a number that is out of its range is a ValueError too. One thread at a
-time uses a session, and no signal handler changes one. A call keeps the interpreter's lock, so other threads wait for
-its end.
+refused raises a LodvarnError; one for a place or a number that is out of its range, or for bytes that are no saved
+session, is a ValueError too. One thread at a time uses a session, and no signal handler changes one. A call keeps the
+interpreter's lock, so other threads wait for its end.
 """
 
 from __future__ import annotations
@@ -27,10 +27,11 @@ from typing import Any, Callable, Iterator, NamedTuple, Optional, TypeVar
 from ._lodvarn import ffi, lib
 
 __all__ = [
-    "BadPlaceError", "BadYankSizeError", "Case", "ClosedError", "Cluster", "Direction", "IsWatchedError",
-    "LodvarnError", "Mode", "Movement", "NoMemoryError", "NoRoomError", "NoSuchNumberError", "NotReplayingError",
-    "Report", "ReportKind", "Screen", "Search", "Session", "Side", "Splice", "Stop", "Word", "cell", "clusters",
-    "first_cluster", "last_cluster", "place_at", "rows", "run_script", "width",
+    "BadPlaceError", "BadYankSizeError", "Case", "ClosedError", "Cluster", "DamagedError", "Direction",
+    "IsWatchedError", "LodvarnError", "Mode", "Movement", "NoMemoryError", "NoRoomError", "NoSuchNumberError",
+    "NotReplayingError", "Report", "ReportKind", "Screen", "Search", "Session", "Side", "Splice", "Stop",
+    "UnknownFormatError", "Word", "cell", "clusters", "first_cluster", "last_cluster", "place_at", "rows",
+    "run_script", "width",
 ]
 
 __version__ = "0.1.0"
@@ -58,7 +59,7 @@ class NotReplayingError(LodvarnError):
 
 
 class NoRoomError(LodvarnError):
-    """The text would get longer than the limit."""
+    """The text would get longer than the limit, or a text to save has 4 GiB or more."""
 
 
 class NoSuchNumberError(LodvarnError, ValueError):
@@ -73,6 +74,14 @@ class ClosedError(LodvarnError, ValueError):
     """The session is closed."""
 
 
+class UnknownFormatError(LodvarnError, ValueError):
+    """The bytes do not begin as this version saves a session."""
+
+
+class DamagedError(LodvarnError, ValueError):
+    """The saved bytes are not those of a session: their checksum is wrong, or the record does not lead to the text."""
+
+
 _ERRORS: dict[int, type[LodvarnError]] = {
     lib.LODVARN_NO_MEMORY: NoMemoryError,
     lib.LODVARN_BAD_PLACE: BadPlaceError,
@@ -82,8 +91,11 @@ _ERRORS: dict[int, type[LodvarnError]] = {
     lib.LODVARN_NO_SUCH_NUMBER: NoSuchNumberError,
     lib.LODVARN_IS_WATCHED: IsWatchedError,
     lib.LODVARN_CLOSED: ClosedError,
+    lib.LODVARN_UNKNOWN_FORMAT: UnknownFormatError,
+    lib.LODVARN_DAMAGED: DamagedError,
 }
 _T = TypeVar("_T")
+_S = TypeVar("_S", bound="Session")
 # What is looked up once, since it is asked often.
 _new, _insert, _index = ffi.new, lib.py_insert, lib.py_index
 _VIEW, _REPORT = ffi.typeof("lodvarn_view *"), ffi.typeof("lodvarn_report *")
@@ -420,8 +432,8 @@ def _on(screen: Screen) -> list[tuple[int, int, int, int, int, int]]:
     return [(columns, prompt, tab, _of(Mode, mode).value, continuation, controls)]
 
 
-# How many characters of each side of the cursor repr shows.
-_SHOWN = 20
+# How many characters of each side of the cursor repr shows, and how many bytes of a saved session are expected.
+_SHOWN, _SAVED = 20, 4096
 
 
 class Session:
@@ -459,9 +471,38 @@ class Session:
             "max_entries": _or_most(max_entries), "max_bytes": _or_most(max_bytes),
             "max_ring_bytes": _or_most(max_ring_bytes), "limit_holds": limit_holds,
         }
+        self._open(lib.py_open, [options], *_sent(text))
+
+    def _open(self, call: Any, *given: Any) -> None:
+        """Opens the session by a call, and lets go what was open before."""
         it = ffi.gc(_new("session *"), lib.py_close)
-        _asked(lib.py_open, it, [options], *_sent(text))
+        _asked(call, it, *given)
         self._it, self._on_change = it, None
+
+    @classmethod
+    def load(cls: type[_S], saved: bytes) -> _S:
+        """Opens a session of the bytes that `save` returned.
+
+        Text and cursor, record, ring and options are as they were. Nothing changed yet, and no reports are kept. Any
+        bytes may be passed. Raises UnknownFormatError, DamagedError, NoMemoryError.
+        """
+        session, given = cls.__new__(cls), ffi.from_buffer(saved)
+        session._open(lib.py_load, given, len(given))
+        return session
+
+    def save(self) -> bytes:
+        """Returns the session as bytes, for `load`, also by another process or machine.
+
+        In them are text and cursor, the record with open groups and what may be redone, the ring and the options, but
+        no reports. The same session gives the same bytes. It is no command and changes nothing. Raises NoRoomError if
+        a text of the record or of the ring has 4 GiB or more, NoMemoryError.
+        """
+        size, answer = _new("size_t *", _SAVED), lib.LODVARN_TOO_SMALL
+        while answer == lib.LODVARN_TOO_SMALL:
+            out = _new("char[]", size[0])
+            answer = lib.py_save(self._it, out, len(out), size)
+        _seen(lib.py_save, answer)
+        return bytes(ffi.buffer(out, size[0]))
 
     def close(self) -> None:
         """Closes the session. Whatever is asked of it later raises ClosedError, but for closing it again, its repr and
