@@ -453,10 +453,6 @@ class Faults(Scripts):
         self.stands(session, "c", 1)
         self.assertIsNone(first())
 
-    def test_a_session_has_no_copy(self):
-        for take in (copy.copy, copy.deepcopy, pickle.dumps):
-            self.assertRaises(TypeError, take, Session("ab"))
-
     def test_what_never_opened_is_let_go(self):
         for _ in range(100):
             self.assertRaises(UnicodeEncodeError, Session, "\ud800")

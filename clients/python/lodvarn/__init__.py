@@ -440,7 +440,7 @@ class Session:
     """A text with its cursor, a ring of killed texts, and the record of its changes.
 
     A `with` closes it at its end. Otherwise `close` does, or the garbage collector. Its length is that of the text, its
-    str is the text, and it is true also if that is empty.
+    str is the text, and it is true also if that is empty. pickle and copy make another of it, without the reports.
     """
 
     # What a session has that is not open.
@@ -540,8 +540,14 @@ class Session:
         end = "..." if len(after) > _SHOWN else ""
         return f"<Session {start}{before[-_SHOWN:]!r}|{after[:_SHOWN]!r}{end}>"
 
-    def __reduce__(self) -> str:
-        raise TypeError("a session has no copy")
+    def __reduce__(self) -> tuple[Any, ...]:
+        """Returns what pickle and copy make another session of, as `load` makes it of what `save` returns.
+
+        It goes on by itself. A session that is watched loses its reports by it, those that wait too, and `on_change`;
+        other attributes that were set go along. Raises as `save` does.
+        """
+        others = {name: it for name, it in vars(self).items() if name not in ("_it", "_on_change")}
+        return type(self).load, (self.save(),), others or None
 
     def _do(self, call: Any, *given: Any) -> bool:
         """Makes a command. Returns whether anything was done."""
