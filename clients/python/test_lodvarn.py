@@ -1,11 +1,14 @@
 """What the package for Python makes of the library: the worked scripts by its calls, and what it has of its own."""
 
 import copy
+import hashlib
 import inspect
 import pickle
 import random
 import re
+import subprocess
 import sys
+import tempfile
 import threading
 import unittest
 import weakref
@@ -19,6 +22,7 @@ from lodvarn import (
     Case, Direction, Mode, Movement, Report, ReportKind, Screen, Search, Session, Side, Splice, Stop, Word,
     lib,
 )
+from read_saved import read
 from typed import MOVEMENTS, NAMES, WORDS, Typed, do
 
 TOP = Path(__file__).resolve().parent.parent.parent
@@ -322,6 +326,151 @@ class Groups(Scripts):
             self.fail("it was entered")
 
 
+class Noted(Session):
+    """A session that has an attribute of its own."""
+
+    note: object = None
+
+
+def edited(kind=Session):
+    """A session with a ring of two texts, an open group, and a change that was undone."""
+    options = {"limit_bytes": 100, "ring_size": 3, "mode": Mode.NO_ZWJ, "prompt": 2, "max_entries": 50}
+    session = kind("né two", **options, max_bytes=99, max_ring_bytes=98, limit_holds=True)
+    session.kill(BACK)
+    session.keep("日本")
+    session.set_saved()
+    session.yank()
+    session.begin_group()
+    session.insert("é")
+    session.replace(0, 1, "漢 ")
+    session.undo()
+    return session
+
+
+# What a saved session has, as read_saved.py prints it.
+PRINTED = """text 'né 日本é'
+cursor 12
+slot 'two'
+slot '日本'
+deletion 4 7 4 'two' ''
+insertion 4 4 10 '' '日本'
+begin 0 0 0 '' ''
+insertion 10 10 12 '' 'é'
+undone replacement 0 12 4 'n' '漢 '
+"""
+
+
+class Saved(Scripts):
+    def are_equal(self, one, other):
+        """All that two sessions tell is the same, but for what is called on a change."""
+        for name, it in vars(Session).items():
+            if isinstance(it, property) and name != "on_change":
+                self.assertEqual(getattr(one, name), getattr(other, name), name)
+        self.assertEqual(one.save(), other.save())
+
+    def test_it_comes_back_and_goes_on(self):
+        for last in (Session.part, Session.yank, lambda it: it.kill(START), lambda it: it.insert("a")):
+            session = edited()
+            last(session)
+            loaded = Session.load(session.save())
+            self.are_equal(loaded, session)
+            for call, *given in [
+                (Session.yank_pop,), (Session.redo,), (Session.kill, START), (Session.yank,), (Session.undo, 2),
+                (Session.insert, "b"), (Session.redo,), (Session.abandon_group,), (Session.undo, 9), (Session.redo,),
+                (Session.paste, "x" * 95),
+            ]:
+                with self.subTest(last=last, call=call):
+                    replies = []
+                    for it in (session, loaded):
+                        try:
+                            replies.append(call(it, *given))
+                        except lodvarn.NoRoomError as fault:
+                            replies.append(str(fault))
+                    self.assertEqual(*replies)
+                    self.are_equal(loaded, session)
+
+    def test_it_counts_characters(self):
+        session = opened("é漢é", 1)
+        session.insert("字")
+        loaded = Session.load(session.save())
+        self.stands(loaded, "é字漢é", 2)
+        self.assertIsNone(loaded.take_change())
+        loaded.undo()
+        self.assertEqual((loaded.take_change(), session.take_change()), (Splice(1, 2, 1), Splice(1, 1, 2)))
+        loaded.watch()
+        loaded.insert("é")
+        self.assertEqual(list(loaded.changes()), [report(ReportKind.CHAR_INSERTED, 1, "", "é", 1, 2)])
+
+    def test_what_is_long_comes_back(self):
+        session = Session("é漢" * 5000, limit_bytes=None)
+        session.kill(Movement.whole_text())
+        session.paste(FAMILY, 999)
+        for saved in (session.save(), bytearray(session.save()), memoryview(session.save())):
+            self.are_equal(Session.load(saved), session)
+
+    def test_what_is_none_is_refused(self):
+        saved = edited().save()
+        other = saved[:-16].replace("日本é".encode(), "本日é".encode(), 1)  # The record does not lead to that text.
+        self.assertRaises(lodvarn.DamagedError, Session.load, other + hashlib.md5(other).digest())
+        for at in range(len(saved)):
+            flipped = saved[:at] + bytes([saved[at] ^ 32]) + saved[at + 1 :]
+            for damaged in (saved[:at], flipped):
+                with self.assertRaises(ValueError) as raised:
+                    Session.load(damaged)
+                self.assertIs(type(raised.exception), lodvarn.UnknownFormatError if at < 8 else lodvarn.DamagedError)
+                self.assertRaises(ValueError, list, read(damaged))
+
+    def test_pickle_and_copy_make_another(self):
+        by_pickle = [partial(pickle.dumps, protocol=it) for it in range(pickle.HIGHEST_PROTOCOL + 1)]
+        for take in [copy.copy, copy.deepcopy, *by_pickle]:
+            session = edited(Noted)
+            session.watch()
+            session.redo()
+            session.on_change, session.note = print, ["a"]
+            other = take(session)
+            other = pickle.loads(other) if isinstance(other, bytes) else other
+            with self.subTest(take=take):
+                self.are_equal(other, session)
+                self.assertEqual((type(other), other.note), (Noted, ["a"]))
+                self.assertEqual(other.note is session.note, take is copy.copy)
+                self.assertEqual((other.count_reports(), session.count_reports()), (0, 1))
+                self.assertEqual((other.on_change, session.on_change), (None, print))
+                other.undo()
+                self.stands(session, "漢 é 日本é", 2)
+                session.close()
+                self.stands(other, "né 日本é", 6)
+                self.assertRaises(lodvarn.ClosedError, take, session)
+
+    def test_plain_python_reads_it(self):
+        session = edited()
+        with tempfile.NamedTemporaryFile() as file:
+            file.write(session.save())
+            file.flush()
+            program = [sys.executable, "-I", TOP / "clients/python/read_saved.py", file.name]
+            said = subprocess.run(program, stdout=subprocess.PIPE, check=True, env={"PYTHONIOENCODING": "utf-8"}).stdout
+        self.assertEqual(said.decode(), PRINTED)
+
+    def test_what_is_read_is_what_the_library_tells(self):
+        session = edited()
+        (_, text), (_, cursor), *parts = read(session.save())
+        self.assertEqual((text, cursor), (session.text, len(session.before.encode())))
+        self.assertEqual([it for name, *it in parts if name == "slot"], [[it] for it in reversed(session.ring)])
+        entries = [it for it in parts if it[0] != "slot"]
+        undone = [it for it in entries if it[0].startswith("undone")]
+        self.assertEqual(len(entries) - len(undone), session.entries)
+        changes = [(session.redo, at, went, came, pos) for _, at, _, pos, went, came in undone]
+        changes += [(session.undo, at, came, went, pos) for _, at, pos, _, went, came in reversed(entries)]
+        given = text.encode()
+        for call, at, old, new, pos in changes:
+            is_mark = not old and not new
+            self.assertEqual(call(), not is_mark)
+            self.assertEqual(given[at : at + len(old.encode())].decode(), old)
+            given = given[:at] + new.encode() + given[at + len(old.encode()) :]
+            self.assertEqual((session.text, len(session.before.encode())), (given.decode(), cursor if is_mark else pos))
+            cursor = pos
+        self.assertEqual((session.text, session.undo()), ("né two", False))
+
+
 # Of each type of an argument what is right, what is a TypeError, and what is out of its range.
 ARGUMENTS = {
     "int": (1, [None, "1", 1.0], [-1, 2**64]),
@@ -366,7 +515,7 @@ def asked(session):
             yield name, partial(getattr, session, name)
         elif name == "group":
             yield name, session.group().__enter__
-        elif name.strip("_") in ("enter", "len", "str", name) and name != "close":
+        elif name.strip("_") in ("enter", "len", "str", "reduce", name) and name not in ("close", "load"):
             call = getattr(session, name)
             yield name, partial(call, **right(call))
     for name, member in SET.items():
@@ -415,7 +564,8 @@ class Faults(Scripts):
         session = Session("ab")
         names = [name for name, it in vars(Session).items() if inspect.isfunction(it) and name[0] != "_"]
         calls = [getattr(session, name) for name in names]
-        calls += [*MAKERS, *(getattr(lodvarn, name) for name in lodvarn.__all__ if name.islower()), Session]
+        calls += [*MAKERS, *(getattr(lodvarn, name) for name in lodvarn.__all__ if name.islower())]
+        calls += [Session, Session.load]
         for call in calls:
             for name, kind in kinds(call).items():
                 for it, fault in wrong(kind):
@@ -441,7 +591,7 @@ class Faults(Scripts):
             names.add(name)
             with self.subTest(name=name):
                 self.assertRaises(lodvarn.ClosedError, ask)
-        self.assertLess({"kill", "text", "group", "__len__", "insert"}, names)
+        self.assertLess({"kill", "text", "group", "__len__", "insert", "save", "__reduce__"}, names)
         self.assertEqual((repr(session), bool(session)), ("<Session closed>", True))
 
     def test_a_session_that_is_opened_again_is_let_go_before(self):
