@@ -1,14 +1,15 @@
 """mirror_refused.py [SEED]: the mirrors of test_lodvarn.py, with requests of the library for memory refused at random.
 
 A command that finds no memory may have changed the text: the copies hold all the same. Memory is refused also while
-reports are read, which wait then. To be run with the shared object of clients/c/refuse.c in LD_PRELOAD.
+reports are read, which wait then, and while a session is saved and loaded, which leaves it. To be run with the shared object of clients/c/refuse.c in LD_PRELOAD.
 """
 
 import ctypes
 import sys
+from contextlib import suppress
 
 import test_lodvarn
-from lodvarn import ffi, lib
+from lodvarn import NoMemoryError, Session, ffi, lib
 
 SEED = int(sys.argv.pop(1)) if len(sys.argv) > 1 else 7
 
@@ -33,6 +34,18 @@ class Refused(test_lodvarn.Mirrors):
         refuse(0)
         self.assertGreater(self.refused, 500)
         self.assertGreater(self.halfway, 10)
+
+    def test_a_session_is_saved_and_loaded_or_finds_no_memory(self):
+        session, loaded = test_lodvarn.edited(), 0
+        saved = session.save()
+        self.addCleanup(refuse, 0)
+        refuse(12)
+        for _ in range(1000):
+            with suppress(NoMemoryError):
+                self.assertEqual(Session.load(session.save()).save(), saved)
+                loaded += 1
+        refuse(0)
+        self.assertTrue(0 < loaded < 999, loaded)
 
 
 if __name__ == "__main__":
