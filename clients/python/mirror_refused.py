@@ -1,7 +1,8 @@
 """mirror_refused.py [SEED]: the mirrors of test_lodvarn.py, with requests of the library for memory refused at random.
 
 A command that finds no memory may have changed the text: the copies hold all the same. Memory is refused also while
-reports are read, which wait then, and while a session is saved and loaded, which leaves it. To be run with the shared object of clients/c/refuse.c in LD_PRELOAD.
+reports are read, which wait then, and while a session is saved and loaded, which leaves it. To be run with the shared
+object of clients/c/refuse.c in LD_PRELOAD.
 """
 
 import ctypes
