@@ -543,8 +543,8 @@ class Session:
     def __reduce__(self) -> tuple[Any, ...]:
         """Returns what pickle and copy make another session of, as `load` makes it of what `save` returns.
 
-        It goes on by itself. A session that is watched loses its reports by it, those that wait too, and `on_change`;
-        other attributes that were set go along. Raises as `save` does.
+        That one goes on by itself. It is not watched: the reports that wait stay behind, and so does `on_change`. Other
+        attributes that were set go along. Raises as `save` does.
         """
         others = {name: it for name, it in vars(self).items() if name not in ("_it", "_on_change")}
         return type(self).load, (self.save(),), others or None
