@@ -324,9 +324,10 @@ static inline lodvarn_movement lodvarn_to_text_end(void) { return lodvarn_moveme
 int lodvarn_open(lodvarn **out, const lodvarn_options *options, const char *text, size_t len);
 
 /* Opens a session of the bytes that lodvarn_save wrote, and sets *out to it, which is not read: text and cursor,
- * record, ring and options are as they were, nothing changed yet, and no reports are kept. Errors: UNKNOWN_FORMAT if the
- * bytes do not begin as this version saves them; DAMAGED if their checksum is wrong, or a record in them does not lead to
- * their text; NO_MEMORY; they leave *out. Any bytes may be passed, and take no more memory than some times their length. */
+ * record, ring and options are as they were, nothing changed yet, and no reports are kept. Errors: UNKNOWN_FORMAT if
+ * the bytes do not begin as this version saves them; DAMAGED if their checksum is wrong, or a record in them does not
+ * lead to their text; NO_MEMORY; they leave *out. Any bytes may be passed, and take no more memory than some times
+ * their length. */
 int lodvarn_load(lodvarn **out, const char *bytes, size_t len);
 
 /* Writes the session as bytes to out, and how many to *len, also if they are more than cap (TOO_SMALL) and nothing is
