@@ -12,6 +12,7 @@
 - Each crate (rl_..): in crates.txt, or a call that clients/handles.c makes.
 - Each word of a script (specs/Grammar.antt): one row in docs/RULES.md, and no other rows.
 - Each function, clause and definition in the column of contracts of docs/PROMISES.md: in the crates, as it is spelled.
+- Each default that a page tells: the limit and the size of the ring as LODVARN_OPTIONS has them.
 - Each page: no line of more than WIDTH characters, apart from code, tables and pictures.
 
 Its last line is 'N passed, M failed'.
@@ -183,6 +184,24 @@ def see_words(count, page):
             count.see(page, faults + ([] if rows[word] == 1 else [f"{heading}: {rows[word]} rows for {word}"]))
 
 
+# --- the defaults ---
+
+# How pages tell them: the limit in bytes, and how many texts the ring keeps.
+LIMIT_TOLD = re.compile(r"\ba limit of (\d+) bytes|\b(\d+) bytes if you (?:set|name) none|`limit_bytes` \((\d+) if")
+RING_TOLD = re.compile(r"\ba ring of (\d+) (?:killed )?texts, and|\ba ring of (\d+)\n")
+
+
+def defaults():
+    """Returns the limit and the size of the ring that a session has without options."""
+    header = (TOP / "include/lodvarn.h").read_text()
+    return re.search(r"{ sizeof\(lodvarn_options\), LODVARN_UNICODE, 0, (\d+), (\d+),", header).groups()
+
+
+def told_by(pattern, page):
+    """Returns the numbers that the page tells so, each once."""
+    return {number for found in pattern.findall(page.read_text()) for number in found if number}
+
+
 # --- the contracts of docs/PROMISES.md ---
 
 # Where a type, a trait or an impl begins, and where a function does.
@@ -294,6 +313,8 @@ def see_page(count, page, header, crates):
     count.see_all(page, "call", calls_of(page), header.__contains__)
     count.see_all(page, "crate", crates_of(page), crates.__contains__)
     prose = prose_of(page).splitlines()
+    for name, pattern, default in zip(("limit", "ring"), (LIMIT_TOLD, RING_TOLD), defaults()):
+        count.see_all(page, f"default {name} of", told_by(pattern, page), default.__eq__)
     wide = [line for line in prose if len(line) > WIDTH and not line.startswith(("|", "    ", "!["))]
     count.see(page, [f"too wide: {line[:60]}.." for line in wide])
 
