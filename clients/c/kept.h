@@ -7,12 +7,13 @@
  *     lodvarn_insert(s, 'c', 1);
  *     if (!kept_save(path, s)) perror(path);
  *
- * A file that was not written whole is not loaded, since its checksum is wrong. */
+ * A file that is not whole is not loaded, since its checksum is wrong. */
 #ifndef KEPT_H
 #define KEPT_H
 
 #include "lodvarn.h"
 #include <fcntl.h>
+#include <stdio.h>
 #include <stdlib.h>
 #include <sys/stat.h>
 #include <unistd.h>
@@ -27,11 +28,14 @@ static inline char *kept_read(const char *path, size_t *len) {
     return bytes;
 }
 
-/* Writes a whole file, which has that mode if it is new. Returns whether it could. */
+/* Writes a whole file of that mode beside the old one, PATH.new, which then takes its place: so one of the two is whole
+ * whenever the process ends. Returns whether it could. */
 static inline int kept_write(const char *path, mode_t mode, const char *bytes, size_t len) {
-    int file = open(path, O_WRONLY | O_CREAT | O_TRUNC, mode);
-    int is_written = file >= 0 && write(file, bytes, len) == (ssize_t)len;
-    return file >= 0 && !close(file) && is_written;
+    char beside[4096];
+    int is_named = snprintf(beside, sizeof beside, "%s.new", path) < (int)sizeof beside;
+    int file = is_named ? open(beside, O_WRONLY | O_CREAT | O_TRUNC, mode) : -1;
+    int is_written = file >= 0 && write(file, bytes, len) == (ssize_t)len && !fsync(file);
+    return file >= 0 && !close(file) && is_written && !rename(beside, path);
 }
 
 /* Loads the session of a file, and gives it the options but for the size of its ring. Returns NULL if the file has none,
