@@ -2,13 +2,14 @@
 """Checks that what the pages (*.md) name is there. Each thing named counts one for each page.
 
     python3 docs/check.py
+    python3 docs/check.py --bodies      checks nothing: it prints the table of the edits that must fail
 
-- Each row of the tables of wrong bodies in docs/PROVING.md: its edits that must fail, its tests and its files; and how
-  many edits and tests there are.
+- Each row of the table of wrong bodies in docs/PROVING.md: its tests and files.
 - Each relative link: its file, and the heading of its #part.
 - Each path in backquotes that begins with a folder of the top: a file or a folder, or a pattern that matches one.
 - Each call and constant of C (lodvarn_.., LODVARN_..): in the headers of include, or a header, or a variable of the
-  environment.
+  environment. How many calls a page says that there are: those of a header, or of both.
+- Each call in the tables of calls of README.md and the clients' pages: in the headers, or in the client.
 - Each crate (rl_..): in crates.txt, or a call that clients/handles.c makes.
 - Each word of a script (specs/Grammar.antt): one row in docs/RULES.md, and no other rows.
 - Each function, clause and definition in the column of contracts of docs/PROMISES.md: in the crates, as it is spelled.
@@ -18,16 +19,16 @@
 Its last line is 'N passed, M failed'.
 """
 
+import argparse
 import re
 import sys
 from collections import Counter
+from functools import cache, partial
 from pathlib import Path
 
 TOP = Path(__file__).resolve().parent.parent
 GLOBS = ["*.md", "docs/*.md", "clients/*/README.md", "clients/rust/*/README.md"]
 PAGES = sorted(page for glob in GLOBS for page in TOP.glob(glob))
-HEADING = "## Wrong bodies, and what refuses each"
-HEAD = "| Wrong body |"
 FOLDERS = ("crates", "docs", "clients", "faults", "include", ".ci")
 # A folder that the build makes; a checkout does not have it.
 BUILT = "out"
@@ -41,39 +42,50 @@ CRATE = re.compile(r"\brl_[a-z_]+\b")
 WIDTH = 120
 
 
-# --- the tables of wrong bodies ---
+# --- tables ---
+
+TABLE = re.compile(r"^\|(.*)\|\n\|[-|]+\|\n((?:\|.*\n)+)", re.M)
 
 
-def has_name(name):
-    """Whether a file, a test as module::name, or an edit that must fail has that name."""
-    if "/" in name:
-        return (TOP / name).is_file()
-    if "::" in name:
-        module, test = name.split("::")
-        sources = TOP.glob(f"crates/rl_*tests/src/{module}.rt")
-        return any(f"#[test]\nfn {test}(" in source.read_text() for source in sources)
-    return any(TOP.glob(f"crates/*/must-fail/{name}.edit"))
+def cells_of(row):
+    return [cell.strip() for cell in re.split(r" \|(?= |$)", row.strip("|"))]
 
 
 def rows_of(page):
-    """The rows of the tables of wrong bodies."""
-    section = page.read_text().partition(HEADING)[2].partition("\n## ")[0]
-    return [line for line in section.splitlines() if line.startswith("| ") and not line.startswith(HEAD)]
+    """The rows of the tables of a page: the cells by the heads of their columns, without what follows a comma there."""
+    for heads, rows in TABLE.findall(page.read_text()):
+        names = [head.partition(",")[0] for head in cells_of(heads)]
+        yield from (dict(zip(names, cells_of(row))) for row in rows.splitlines())
 
 
-def faults_of_row(row):
-    """What is wrong with a row."""
-    body, told = row.strip("| ").split(" | ")
-    names = re.findall(r"`([^`]+)`", told)
-    missing = [f"{body}: there is no {name}" for name in names if not has_name(name)]
-    return missing if names else [f"{body}: nothing is named"]
+def see_column(count, page, head, faults_of):
+    """Checks the cells of the columns with that head, of which there is one. 'the same' is what stands under C."""
+    cells = [row[head].replace("the same", row.get("C", "the same")) for row in rows_of(page) if head in row]
+    for cell in cells:
+        count.see(page, [f"{fault}: {cell[:60]}.." for fault in faults_of(cell)])
+    count.see(page, [] if cells else [f"no table has a column '{head}'"])
 
 
-def tried():
-    """What the gate tries, as docs/PROVING.md says it."""
-    edits = len(list(TOP.glob("crates/*/must-fail/*.edit")))
-    tests = sum(source.read_text().count("#[test]\n") for source in TOP.glob("crates/*_tests/src/**/*.rt"))
-    return f"{edits} edits that must fail, {tests} tests"
+# --- wrong bodies ---
+
+
+def bodies():
+    """The rows of the edits that must fail: their crate, the file that their first line names, and what they do."""
+    edits = TOP.glob("crates/*/must-fail/*.edit")
+    return sorted(f"| {it.parts[-3]} | {it.read_text().split()[1]} | {it.stem.replace('_', ' ')} |" for it in edits)
+
+
+def has_name(name):
+    """Whether a file, or a test as module::name, has that name."""
+    module, _, test = name.partition("::")
+    sources = TOP.glob(f"crates/rl_*tests/src/{module}.rt")
+    return (TOP / name).is_file() or any(f"#[test]\nfn {test}(" in source.read_text() for source in sources)
+
+
+def faults_of_tests(cell):
+    """What is wrong with the tests and files that tell a wrong body."""
+    names = re.findall(r"`([^`]+)`", cell)
+    return [f"there is no {name}" for name in names if not has_name(name)] if names else ["nothing is named"]
 
 
 # --- links ---
@@ -184,22 +196,55 @@ def see_words(count, page):
             count.see(page, faults + ([] if rows[word] == 1 else [f"{heading}: {rows[word]} rows for {word}"]))
 
 
-# --- the defaults ---
+# --- numbers ---
 
-# How pages tell them: the limit in bytes, and how many texts the ring keeps.
-LIMIT_TOLD = re.compile(r"\ba limit of (\d+) bytes|\b(\d+) bytes if you (?:set|name) none|`limit_bytes` \((\d+) if")
-RING_TOLD = re.compile(r"\ba ring of (\d+) (?:killed )?texts, and|\ba ring of (\d+)\n")
+# How pages tell the limit in bytes and how many texts the ring keeps, if nobody sets them, and how many calls C has.
+TOLD = {
+    "default limit": r"\ba limit of (\d+) bytes|\b(\d+) bytes if you (?:set|name) none|`limit_bytes` \((\d+) if",
+    "default ring": r"\ba ring of (\d+) (?:killed )?texts, and|\ba ring of (\d+)\n",
+    "number of calls": r"(?<![\d,])(\d+) calls\b",
+}
+DECLARED = re.compile(r"^(?!static)\w[\w ]*[ *]lodvarn_\w+\(", re.M)
 
 
-def defaults():
-    """Returns the limit and the size of the ring that a session has without options."""
-    header = (TOP / "include/lodvarn.h").read_text()
-    return re.search(r"{ sizeof\(lodvarn_options\), LODVARN_UNICODE, 0, (\d+), (\d+),", header).groups()
+def numbers():
+    """The right numbers for each of TOLD, by the headers. Those of calls are of each header, and of both."""
+    headers = [it.read_text() for it in (TOP / "include").glob("*.h")]
+    options = re.search(r"{ sizeof\(lodvarn_options\), LODVARN_UNICODE, 0, (\d+), (\d+),", "".join(headers))
+    calls = [len(DECLARED.findall(it)) for it in headers]
+    return {options[1]}, {options[2]}, {str(it) for it in (*calls, sum(calls))}
 
 
 def told_by(pattern, page):
-    """Returns the numbers that the page tells so, each once."""
-    return {number for found in pattern.findall(page.read_text()) for number in found if number}
+    """The numbers that the page tells so, each once."""
+    return {number for found in re.finditer(pattern, page.read_text()) for number in found.groups() if number}
+
+
+# --- the tables of calls ---
+
+# Where each language has what these tables name: in C, calls without their lodvarn_, and options.
+LANGUAGES = {
+    "C": ("include/*.h", r"^(?:\w[\w ]*[ *]lodvarn_|    \w[\w ]*[ *])(\w+)[(;]"),
+    "Python": ("clients/python/lodvarn/*.py", r"^ *(?:def|class) (\w+)"),
+    "Rust": ("clients/rust/lodvarn/src/**/*.rs", r"\bpub (?:fn|struct) (\w+)"),
+}
+# A page, the head of a column, and its language.
+CALL_TABLES = [("README.md", language, language) for language in LANGUAGES]
+CALL_TABLES += [("clients/python/README.md", "Calls of a `Session`", "Python")]
+CALL_TABLES += [("clients/rust/lodvarn/README.md", "Calls of a `Session`", "Rust")]
+
+
+@cache
+def named_in(language):
+    """The names that a table of calls may have."""
+    glob, pattern = LANGUAGES[language]
+    return {name for file in TOP.glob(glob) for name in re.findall(pattern, file.read_text(), re.M)}
+
+
+def faults_of_calls(language, cell):
+    """What a cell names that is not there: in `session.group(reopen=True)` group, in `len(session)` len or __len__."""
+    called = re.findall(r"(?:lodvarn_)?(\w+)(?:\([^`]*)?`", cell)
+    return [f"{language} has no {it}" for it in called if not {it, f"__{it}__"} & named_in(language)]
 
 
 # --- the contracts of docs/PROMISES.md ---
@@ -271,17 +316,10 @@ def faults_of_group(contracts, group):
     return missing + [f"clause {name}" for name, _ in names_in(clauses) if name not in known]
 
 
-def see_contracts(count, page):
-    """Checks each cell of the column of contracts, whose groups are parted by ';'."""
-    contracts = Contracts()
-    tables = re.findall(r"^\|.*\| Contract \|\n\|---\|---\|\n((?:\|.*\n)+)", page.read_text(), re.M)
-    for row in "".join(tables).splitlines():
-        cell = row.strip("| ").split(" | ")[1]
-        groups = re.split(r";(?![^(]*\))", cell)
-        missing = [it for group in groups for it in faults_of_group(contracts, group)]
-        count.see(page, [f"there is no {it}: {cell[:60]}.." for it in missing])
-    if not tables:
-        count.see(page, ["there is no table of contracts"])
+def faults_of_contracts(contracts, cell):
+    """What is not there of a cell of the column of contracts, whose groups are parted by ';'."""
+    groups = re.split(r";(?![^(]*\))", cell)
+    return [f"there is no {it}" for group in groups for it in faults_of_group(contracts, group)]
 
 
 # --- all of them ---
@@ -313,28 +351,24 @@ def see_page(count, page, header, crates):
     count.see_all(page, "call", calls_of(page), header.__contains__)
     count.see_all(page, "crate", crates_of(page), crates.__contains__)
     prose = prose_of(page).splitlines()
-    for name, pattern, default in zip(("limit", "ring"), (LIMIT_TOLD, RING_TOLD), defaults()):
-        count.see_all(page, f"default {name} of", told_by(pattern, page), default.__eq__)
+    for kind, right in zip(TOLD, numbers()):
+        count.see_all(page, kind, told_by(TOLD[kind], page), right.__contains__)
     wide = [line for line in prose if len(line) > WIDTH and not line.startswith(("|", "    ", "!["))]
     count.see(page, [f"too wide: {line[:60]}.." for line in wide])
 
 
-def see_wrong_bodies(count, page):
-    """Looks for what refuses each wrong body, and for how many edits and tests there are."""
-    rows = rows_of(page)
-    for row in rows:
-        count.see(page, faults_of_row(row))
-    if not rows:
-        count.see(page, ["there is no table of wrong bodies"])
-    said = " ".join(page.read_text().split())
-    count.see(page, [] if tried() in said else [f"it does not say: {tried()}"])
-
-
 def main():
+    words = argparse.ArgumentParser(description=__doc__.splitlines()[0])
+    words.add_argument("--bodies", action="store_true", help="only print the table of the edits that must fail")
+    if words.parse_args().bodies:
+        print("| Crate | File | Wrong body |", "|---|---|---|", *bodies(), sep="\n")
+        return 0
     count = Count()
-    see_wrong_bodies(count, TOP / "docs/PROVING.md")
+    see_column(count, TOP / "docs/PROVING.md", "Told by", faults_of_tests)
+    see_column(count, TOP / "docs/PROMISES.md", "Contract", partial(faults_of_contracts, Contracts()))
     see_words(count, TOP / "docs/RULES.md")
-    see_contracts(count, TOP / "docs/PROMISES.md")
+    for page, head, language in CALL_TABLES:
+        see_column(count, TOP / page, head, partial(faults_of_calls, language))
     headers = list((TOP / "include").glob("*.h"))
     names = {name for header in headers for name in (header.stem, *CALL.findall(header.read_text()))}
     header = VARIABLES | names
