@@ -6,13 +6,16 @@ use Rattle.rl_base.specs.declared.motion.Movement.{Movement}
 use Rattle.rl_line.specs.Edits.{CanYankPop, too_long}
 use Rattle.rl_line.specs.Deletions.{CanDeleteBy, copied}
 use Rattle.rl_line.specs.Line.{Line}
-use Rattle.rl_session.specs.Commands.{Step, StepWith, deletion_of}
+use Rattle.rl_session.specs.Commands.{Keeps, Step, StepWith, deletion_of}
 use Rattle.rl_session.specs.Forgetting.{within_bound}
+use Rattle.rl_session.specs.History.{WasRefused}
 use Rattle.rl_session.specs.State.{State}
 use Rattle.rl_session.specs.declared.session.Command.{Command}
 use Rattle.rl_session.specs.declared.session.Command.TheVariants.{Indent, Insert, InsertStr, Paste, Replace, SetPos, Update, Yank, YankPop}
+use Rattle.rl_session.specs.declared.session.Fault.{Fault}
 use Rattle.rl_session.specs.declared.session.Reply.{Reply}
-use Rattle.rl_ffi.specs.Answers.{told, told_place, truth}
+use Rattle.rl_session.specs.declared.session.Reply.TheVariants as says
+use Rattle.rl_ffi.specs.Answers.{of_fault, told, told_place, truth}
 use Rattle.rl_ffi.specs.Buffers.{put}
 use Rattle.rl_ffi.specs.Calls.{Effect, EffectOut, leaves, of_named, of_text, only_where}
 use Rattle.rl_ffi.specs.Numbers.{char_of, count_of, dedents_of, movement_of}
@@ -32,12 +35,26 @@ does without command s n new = (reply : Reply) × Obeys s command reply new × (
 abbrev pub asks : Command → Effect State
 asks = does NoRoom
 
+-- what was undone is kept, if the options ask for that, or this is refused, which is answered
+unfoldable pub Kept : State → State → Type 0
+Kept s new = (reply : Reply) × Keeps s.options.keeps s reply new × ¬ (WasRefused reply)
+
+unfoldable pub cannot_keep : Effect State
+cannot_keep s n new = (why : Fault) × Keeps s.options.keeps s (says.Refused why) new × (n ≡ of_fault why)
+
+-- what an edit does, and the begin or end of a group: what was undone is kept before it
+unfoldable pub keeping : Effect State → Effect State
+keeping Does s n new = cannot_keep s n new ⊎ ((kept : State) × Kept s kept × Does kept n new)
+
+abbrev pub edits : Command → Effect State
+edits command = keeping (asks command)
+
 abbrev pub inserts : ℕ → ℕ → Effect State
-inserts c n = of_named (char_of c) (λ x. of_named (count_of n) (λ k. asks (Insert x k)))
+inserts c n = of_named (char_of c) (λ x. of_named (count_of n) (λ k. edits (Insert x k)))
 
 abbrev pub indents : CMovement → ℕ → ℕ → Effect State
 indents movement amount indentation =
-    of_named (movement_of movement) (λ m. of_named (dedents_of indentation) (λ dedent. asks (Indent m amount dedent)))
+    of_named (movement_of movement) (λ m. of_named (dedents_of indentation) (λ dedent. edits (Indent m amount dedent)))
 
 -- the same of a command with a text
 abbrev pub ObeysWith : List ℕ → (String Global → Command) → State → Reply → State → Type 0
@@ -49,23 +66,26 @@ does_with without bytes make s n new = (reply : Reply) × ObeysWith bytes make s
 abbrev pub asks_with : List ℕ → (String Global → Command) → Effect State
 asks_with bytes make = of_text bytes (does_with NoRoom bytes make)
 
+abbrev pub edits_with : List ℕ → (String Global → Command) → Effect State
+edits_with bytes make = of_text bytes (keeping (does_with NoRoom bytes make))
+
 -- a text in the place of the line's, with the cursor at a place in it
 unfoldable pub sets_text : ℕ → List ℕ → Effect State
-sets_text pos text = asks_with text (λ t. Update t pos)
+sets_text pos text = edits_with text (λ t. Update t pos)
 
 -- a text takes the place of what stands in a range
 unfoldable pub replaces : CRange → List ℕ → Effect State
-replaces range text = asks_with text (λ t. Replace range.from range.to t)
+replaces range text = edits_with text (λ t. Replace range.from range.to t)
 
 -- the answer if an insertion of a text inserted nothing: it is empty, or there is no room for it
 abbrev pub room_for : List ℕ → Answer
 room_for text = if length text == 0 then Nothing else NoRoom
 
 abbrev pub pastes : List ℕ → ℕ → Effect State
-pastes text n = of_named (count_of n) (λ k. of_text text (does_with (room_for text) text (λ t. Paste t k)))
+pastes text n = of_named (count_of n) (λ k. of_text text (keeping (does_with (room_for text) text (λ t. Paste t k))))
 
 abbrev pub puts_in : ℕ → List ℕ → Effect State
-puts_in place text = of_text text (λ s n new. (reply : Reply) × ObeysWith text (λ t. InsertStr place t) s reply new × (n ≡ told_place reply))
+puts_in place text = of_text text (keeping (λ s n new. (reply : Reply) × ObeysWith text (λ t. InsertStr place t) s reply new × (n ≡ told_place reply)))
 
 -- the ring's current text is yanked, if it has one
 abbrev pub lent_room : Option (List ℕ) → Answer
@@ -73,7 +93,7 @@ lent_room None = Nothing
 lent_room (Some text) = room_for text
 
 abbrev pub yanks : ℕ → Effect State
-yanks n s = does (lent_room (yank s.pair.ring)) (Yank n) s
+yanks n s = keeping (does (lent_room (yank s.pair.ring)) (Yank n)) s
 
 -- so many bytes find room in the place of as many before the cursor; none always do
 abbrev pub HasRoomFor : Line → ℕ → ℕ → Type 0
@@ -93,10 +113,10 @@ popped_length r = option_map (λ (found : ℕ × List ℕ). length found.1) (yan
 -- a yank-pop: without room nothing changes; if it puts in nothing, it took the yanked text out, if there was one
 abbrev pub pops : Effect State
 pops s =
-    only_where (λ s. PopHasRoom (yank_size s.pair.ring) (popped_length s.pair.ring) s.line) NoRoom (does (truth (is_some (yank_size s.pair.ring))) YankPop) s
+    only_where (λ s. PopHasRoom (yank_size s.pair.ring) (popped_length s.pair.ring) s.line) NoRoom (keeping (does (truth (is_some (yank_size s.pair.ring))) YankPop)) s
 
 abbrev pub deletes_by : CMovement → Effect State
-deletes_by movement = of_named (movement_of movement) (λ m. only_where (λ _. CanDeleteBy m) NoSuchNumber (asks (deletion_of m)))
+deletes_by movement = of_named (movement_of movement) (λ m. only_where (λ _. CanDeleteBy m) NoSuchNumber (edits (deletion_of m)))
 
 -- a run of kills ends, as by a motion to where the cursor is, and nothing else changes
 abbrev pub ends_kills : State → State → Type 0

@@ -5,7 +5,7 @@ use Rattle.rl_base.specs.declared.kill_ring.NewKill.TheVariants.{AfterNewest}
 use Rattle.rl_base.specs.declared.layout.GraphemeClusterMode.{GraphemeClusterMode}
 use Rattle.rl_line.specs.Line.{NeedsRoom}
 use Rattle.rl_session.specs.Forgetting.{bounded_by, within_bound}
-use Rattle.rl_session.specs.State.{FitsLimit, State, fresh, holding, limited, prompted, restarted, with_mode, with_ring}
+use Rattle.rl_session.specs.State.{FitsLimit, State, fresh, holding, keeping, limited, prompted, restarted, with_mode, with_ring}
 use Rattle.rl_ffi.specs.Calls.{Effect, leaves, of_named, of_text, only_where}
 use Rattle.rl_ffi.specs.Listeners.{fresh_listeners}
 use Rattle.rl_ffi.specs.Numbers.{mode_number, mode_of}
@@ -21,7 +21,7 @@ Opens fresh old n new = ((n ≡ Done) × (new ≡ Some fresh)) ⊎ ((n ≡ NoMem
 
 -- a session with other options; its ring keeps its size
 abbrev pub chosen : GraphemeClusterMode → COptions → State → State
-chosen mode o s = within_bound (bounded_by (record { entries = o.max_entries; bytes = o.max_bytes; ring_bytes = o.max_ring_bytes }) (limited o.limit (holding o.limit_holds (prompted o.prompt (with_mode mode s)))))
+chosen mode o s = within_bound (bounded_by (record { entries = o.max_entries; bytes = o.max_bytes; ring_bytes = o.max_ring_bytes }) (limited o.limit (keeping o.keeps_undone (holding o.limit_holds (prompted o.prompt (with_mode mode s))))))
 
 -- a new session on a text, with the cursor at its end, whose new kills go after the newest
 abbrev pub begun : GraphemeClusterMode → COptions → List ℕ → State
@@ -58,6 +58,7 @@ options_shape size s =
       max_bytes = s.options.bound.bytes;
       max_ring_bytes = s.options.bound.ring_bytes;
       limit_holds = s.options.holds;
+      keeps_undone = s.options.keeps;
     }
 
 -- the texts of the ring go

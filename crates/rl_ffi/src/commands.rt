@@ -1,22 +1,25 @@
 //! The calls that ask a session for a command.
-ghost use Rattle.std.specs.Prelude.{◌≡◌, String, true, false};
+ghost use Rattle.std.specs.Prelude.{◌≡◌, ◌⊎◌, IfErr, OnOk, String, true, false};
 ghost use Rattle.std.specs.String.{string_bytes};
 ghost use Rattle.std.specs.declared.alloc.Global.{Global};
 ghost use Rattle.rl_base.specs.KillRing.{yank, yank_size};
 ghost use Rattle.rl_line.specs.Deletions.{copied};
 ghost use Rattle.rl_session.specs.Commands.{Step};
+ghost use Rattle.rl_session.specs.History.{WasRefused};
 ghost use Rattle.rl_session.specs.Options.{no_bound};
 ghost use Rattle.rl_session.specs.State.{State};
 ghost use Rattle.rl_session.specs.declared.session.Command.{Command};
+ghost use Rattle.rl_session.specs.declared.session.Command.TheVariants.{KeepUndone};
 ghost use Rattle.rl_session.specs.declared.session.Reply.{Reply};
 ghost use Rattle.rl_ffi.specs.Answers.{merged};
 ghost use Rattle.rl_ffi.specs.Calls.{Through, ThroughOut, of_named};
-ghost use Rattle.rl_ffi.specs.Commands.{HasRoomFor, Obeys, ObeysWith, PopHasRoom, asks, asks_with, copies, deletes_by, ends_kills, hands_out, indents, inserts, lent_room, pastes, popped_length, pops, puts_in, replaces, room_for, sets_text, yanks};
+ghost use Rattle.rl_ffi.specs.Commands.{HasRoomFor, Kept, Obeys, ObeysWith, PopHasRoom, asks, asks_with, cannot_keep, copies, deletes_by, edits, ends_kills, hands_out, indents, inserts, lent_room, pastes, popped_length, pops, puts_in, replaces, room_for, sets_text, yanks};
 ghost use Rattle.rl_ffi.specs.Held.{a_session};
+ghost use Rattle.rl_ffi.specs.declared.answers.Answer.{Answer};
 ghost use Rattle.rl_ffi.specs.declared.answers.Answer.TheVariants.{Done};
 ghost use Rattle.rl_ffi.specs.Numbers.{case_of, count_of, direction_of, movement_of};
 
-use crate::answers::{Answer, Outcome, inserted, merged, told, told_place, truth};
+use crate::answers::{Answer, Outcome, inserted, merged, of_fault, told, told_place, truth};
 use crate::buffers::put;
 use crate::handle::{Handle, of};
 use crate::held::Held;
@@ -40,12 +43,17 @@ pub(crate) fn obey(session: &mut Session, command: &Command) -> Reply
 }
 
 /// A command of C on a session without a bound is a row of a run, since nothing is forgotten after it, also one with a text. So
-/// what is said of runs holds of such calls as it stands.
+/// what is said of runs holds of such calls as it stands. If the options ask to keep what was undone, a call that edits is two
+/// rows: `KeepUndone`, and its command, unless that was refused.
 pub fn calls_are_rows()
     ensures commands { (old new : State) (command : Command) (reply : Reply) → old.options.bound ≡ no_bound
         → Obeys old command reply new → Step old command reply new }
     ensures texts { (old new : State) (text : String Global) (make : String Global → Command) (reply : Reply) → old.options.bound ≡ no_bound
         → ObeysWith (string_bytes text) make old reply new → Step old (make text) reply new }
+    ensures drops { (command : Command) (old new : State) (n : Answer) → old.options.keeps ≡ false
+        → edits command old n new → asks command old n new }
+    ensures keeps { (command : Command) (old new : State) (n : Answer) → old.options.keeps ≡ true
+        → edits command old n new → (kept : State) × (reply : Reply) × Step old KeepUndone reply kept × ((WasRefused reply × (new ≡ kept)) ⊎ asks command kept n new) }
 {}
 
 #[inline(always)]
@@ -53,6 +61,28 @@ fn ask(session: &mut Session, command: &Command) -> Outcome
     ensures { asks command.now session.old (merged result) session.new }
 {
     Ok(told(Answer::NoRoom, &obey(session, command)))
+}
+
+// Keeps what was undone before an edit, if the session's options ask for that.
+#[tactic(auto, unfolding(crate::specs::Commands::Kept, crate::specs::Commands::cannot_keep))]
+#[inline(always)]
+fn keep_undone(session: &mut Session) -> Result<(), Answer>
+    ensures ok { OnOk result (Kept session.old session.new) }
+    ensures err { IfErr result (λ why. cannot_keep session.old why session.new) }
+{
+    match session.keep_if_asked() {
+        Reply::Refused(why) => Err(of_fault(why)),
+        _ => Ok(()),
+    }
+}
+
+#[tactic(auto, unfolding(crate::specs::Commands::keeping))]
+#[inline(always)]
+fn edit(session: &mut Session, command: &Command) -> Outcome
+    ensures { edits command.now session.old (merged result) session.new }
+{
+    keep_undone(session)?;
+    ask(session, command)
 }
 
 /// `lodvarn_set_pos`.
@@ -77,12 +107,14 @@ pub extern "C" fn lodvarn_move(alloc: Global, s: &mut Handle, movement: CMovemen
     of!(s, alloc, Held::Session(session) => move_by(session, movement))
 }
 
+#[tactic(auto, unfolding(crate::specs::Commands::keeping))]
 #[inline(always)]
 fn insert(session: &mut Session, c: u32, n: usize) -> Outcome
     ensures { inserts c n session.old (merged result) session.new }
 {
     let c = char_of(c)?;
     let n = count_of(n)?;
+    keep_undone(session)?;
     let reply = session.insert(c, n);
     session.forget();
     match reply {
@@ -99,11 +131,13 @@ pub extern "C" fn lodvarn_insert(alloc: Global, s: &mut Handle, c: u32, n: usize
     of!(s, alloc, Held::Session(session) => insert(session, c, n))
 }
 
+#[tactic(auto, unfolding(crate::specs::Commands::keeping))]
 fn yank(session: &mut Session, n: usize) -> Outcome
     ensures { of_named (count_of n) yanks session.old (merged result) session.new }
 {
     let n = count_of(n)?;
     let without = yank_room(session.ring());
+    keep_undone(session)?;
     Ok(told(without, &obey(session, &Command::Yank(n))))
 }
 
@@ -118,40 +152,40 @@ pub extern "C" fn lodvarn_yank(alloc: Global, s: &mut Handle, n: usize) -> i32
 /// `lodvarn_delete_range`.
 #[unsafe(no_mangle)]
 pub extern "C" fn lodvarn_delete_range(alloc: Global, s: &mut Handle, range: CRange) -> i32
-    ensures { Through a_session (asks (Command.DeleteRange range.from range.to)) s.old.value result s.new.value }
+    ensures { Through a_session (edits (Command.DeleteRange range.from range.to)) s.old.value result s.new.value }
 {
-    of!(s, alloc, Held::Session(session) => ask(session, &Command::DeleteRange(range.from, range.to)))
+    of!(s, alloc, Held::Session(session) => edit(session, &Command::DeleteRange(range.from, range.to)))
 }
 
 fn delete(session: &mut Session, n: usize) -> Outcome
-    ensures { of_named (count_of n) (λ k. asks (Command.Delete k)) session.old (merged result) session.new }
+    ensures { of_named (count_of n) (λ k. edits (Command.Delete k)) session.old (merged result) session.new }
 {
-    ask(session, &Command::Delete(count_of(n)?))
+    edit(session, &Command::Delete(count_of(n)?))
 }
 
 /// `lodvarn_delete`.
 #[unsafe(no_mangle)]
 pub extern "C" fn lodvarn_delete(alloc: Global, s: &mut Handle, n: usize) -> i32
-    ensures { Through a_session (of_named (count_of n) (λ k. asks (Command.Delete k))) s.old.value result s.new.value }
+    ensures { Through a_session (of_named (count_of n) (λ k. edits (Command.Delete k))) s.old.value result s.new.value }
 {
     of!(s, alloc, Held::Session(session) => delete(session, n))
 }
 
 fn backspace(session: &mut Session, n: usize) -> Outcome
-    ensures { of_named (count_of n) (λ k. asks (Command.Backspace k)) session.old (merged result) session.new }
+    ensures { of_named (count_of n) (λ k. edits (Command.Backspace k)) session.old (merged result) session.new }
 {
-    ask(session, &Command::Backspace(count_of(n)?))
+    edit(session, &Command::Backspace(count_of(n)?))
 }
 
 /// `lodvarn_backspace`.
 #[unsafe(no_mangle)]
 pub extern "C" fn lodvarn_backspace(alloc: Global, s: &mut Handle, n: usize) -> i32
-    ensures { Through a_session (of_named (count_of n) (λ k. asks (Command.Backspace k))) s.old.value result s.new.value }
+    ensures { Through a_session (of_named (count_of n) (λ k. edits (Command.Backspace k))) s.old.value result s.new.value }
 {
     of!(s, alloc, Held::Session(session) => backspace(session, n))
 }
 
-#[tactic(auto, unfolding(crate::specs::Calls::only_where))]
+#[tactic(auto, unfolding(crate::specs::Calls::only_where, crate::specs::Commands::keeping))]
 fn delete_by(session: &mut Session, movement: CMovement) -> Outcome
     ensures { deletes_by movement session.old (merged result) session.new }
 {
@@ -159,6 +193,7 @@ fn delete_by(session: &mut Session, movement: CMovement) -> Outcome
     if !can_delete_by(&movement) {
         return Err(Answer::NoSuchNumber);
     }
+    keep_undone(session)?;
     let reply = session.delete_by(&movement);
     session.forget();
     Ok(told(Answer::NoRoom, &reply))
@@ -175,64 +210,64 @@ pub extern "C" fn lodvarn_delete_by(alloc: Global, s: &mut Handle, movement: CMo
 /// `lodvarn_transpose_chars`.
 #[unsafe(no_mangle)]
 pub extern "C" fn lodvarn_transpose_chars(alloc: Global, s: &mut Handle) -> i32
-    ensures { Through a_session (asks Command.TransposeChars) s.old.value result s.new.value }
+    ensures { Through a_session (edits Command.TransposeChars) s.old.value result s.new.value }
 {
-    of!(s, alloc, Held::Session(session) => ask(session, &Command::TransposeChars))
+    of!(s, alloc, Held::Session(session) => edit(session, &Command::TransposeChars))
 }
 
 fn transpose_words(session: &mut Session, n: usize) -> Outcome
-    ensures { of_named (count_of n) (λ k. asks (Command.TransposeWords k)) session.old (merged result) session.new }
+    ensures { of_named (count_of n) (λ k. edits (Command.TransposeWords k)) session.old (merged result) session.new }
 {
-    ask(session, &Command::TransposeWords(count_of(n)?))
+    edit(session, &Command::TransposeWords(count_of(n)?))
 }
 
 /// `lodvarn_transpose_words`.
 #[unsafe(no_mangle)]
 pub extern "C" fn lodvarn_transpose_words(alloc: Global, s: &mut Handle, n: usize) -> i32
-    ensures { Through a_session (of_named (count_of n) (λ k. asks (Command.TransposeWords k))) s.old.value result s.new.value }
+    ensures { Through a_session (of_named (count_of n) (λ k. edits (Command.TransposeWords k))) s.old.value result s.new.value }
 {
     of!(s, alloc, Held::Session(session) => transpose_words(session, n))
 }
 
 fn change_case(session: &mut Session, to: u32) -> Outcome
-    ensures { of_named (case_of to) (λ action. asks (Command.EditWord action)) session.old (merged result) session.new }
+    ensures { of_named (case_of to) (λ action. edits (Command.EditWord action)) session.old (merged result) session.new }
 {
-    ask(session, &Command::EditWord(case_of(to)?))
+    edit(session, &Command::EditWord(case_of(to)?))
 }
 
 /// `lodvarn_change_case`.
 #[unsafe(no_mangle)]
 pub extern "C" fn lodvarn_change_case(alloc: Global, s: &mut Handle, to: u32) -> i32
-    ensures { Through a_session (of_named (case_of to) (λ action. asks (Command.EditWord action))) s.old.value result s.new.value }
+    ensures { Through a_session (of_named (case_of to) (λ action. edits (Command.EditWord action))) s.old.value result s.new.value }
 {
     of!(s, alloc, Held::Session(session) => change_case(session, to))
 }
 
 fn kill(session: &mut Session, movement: CMovement) -> Outcome
-    ensures { of_named (movement_of movement) (λ m. asks (Command.Kill m)) session.old (merged result) session.new }
+    ensures { of_named (movement_of movement) (λ m. edits (Command.Kill m)) session.old (merged result) session.new }
 {
-    ask(session, &Command::Kill(movement_of(movement)?))
+    edit(session, &Command::Kill(movement_of(movement)?))
 }
 
 /// `lodvarn_kill`.
 #[unsafe(no_mangle)]
 pub extern "C" fn lodvarn_kill(alloc: Global, s: &mut Handle, movement: CMovement) -> i32
-    ensures { Through a_session (of_named (movement_of movement) (λ m. asks (Command.Kill m))) s.old.value result s.new.value }
+    ensures { Through a_session (of_named (movement_of movement) (λ m. edits (Command.Kill m))) s.old.value result s.new.value }
 {
     of!(s, alloc, Held::Session(session) => kill(session, movement))
 }
 
 fn kill_range(session: &mut Session, range: CRange, direction: u32) -> Outcome
-    ensures { of_named (direction_of direction) (λ side. asks (Command.KillRange range.from range.to side)) session.old (merged result) session.new }
+    ensures { of_named (direction_of direction) (λ side. edits (Command.KillRange range.from range.to side)) session.old (merged result) session.new }
 {
     let side = direction_of(direction)?;
-    ask(session, &Command::KillRange(range.from, range.to, side))
+    edit(session, &Command::KillRange(range.from, range.to, side))
 }
 
 /// `lodvarn_kill_range`.
 #[unsafe(no_mangle)]
 pub extern "C" fn lodvarn_kill_range(alloc: Global, s: &mut Handle, range: CRange, side: u32) -> i32
-    ensures { Through a_session (of_named (direction_of side) (λ side. asks (Command.KillRange range.from range.to side))) s.old.value result s.new.value }
+    ensures { Through a_session (of_named (direction_of side) (λ side. edits (Command.KillRange range.from range.to side))) s.old.value result s.new.value }
 {
     of!(s, alloc, Held::Session(session) => kill_range(session, range, side))
 }
@@ -250,7 +285,7 @@ fn indent(session: &mut Session, movement: CMovement, amount: u8, indentation: u
 {
     let movement = movement_of(movement)?;
     let dedent = dedents_of(indentation)?;
-    ask(session, &Command::Indent(movement, amount, dedent))
+    edit(session, &Command::Indent(movement, amount, dedent))
 }
 
 /// `lodvarn_indent`.
@@ -270,25 +305,25 @@ pub extern "C" fn lodvarn_indent(
 /// `lodvarn_begin_group`.
 #[unsafe(no_mangle)]
 pub extern "C" fn lodvarn_begin_group(alloc: Global, s: &mut Handle) -> i32
-    ensures { Through a_session (asks Command.Begin) s.old.value result s.new.value }
+    ensures { Through a_session (edits Command.Begin) s.old.value result s.new.value }
 {
-    of!(s, alloc, Held::Session(session) => ask(session, &Command::Begin))
+    of!(s, alloc, Held::Session(session) => edit(session, &Command::Begin))
 }
 
 /// `lodvarn_end_group`.
 #[unsafe(no_mangle)]
 pub extern "C" fn lodvarn_end_group(alloc: Global, s: &mut Handle) -> i32
-    ensures { Through a_session (asks Command.EndOne) s.old.value result s.new.value }
+    ensures { Through a_session (edits Command.EndOne) s.old.value result s.new.value }
 {
-    of!(s, alloc, Held::Session(session) => ask(session, &Command::EndOne))
+    of!(s, alloc, Held::Session(session) => edit(session, &Command::EndOne))
 }
 
 /// `lodvarn_reopen_group`.
 #[unsafe(no_mangle)]
 pub extern "C" fn lodvarn_reopen_group(alloc: Global, s: &mut Handle) -> i32
-    ensures { Through a_session (asks Command.Reopen) s.old.value result s.new.value }
+    ensures { Through a_session (edits Command.Reopen) s.old.value result s.new.value }
 {
-    of!(s, alloc, Held::Session(session) => ask(session, &Command::Reopen))
+    of!(s, alloc, Held::Session(session) => edit(session, &Command::Reopen))
 }
 
 /// `lodvarn_abandon_group`.
@@ -310,9 +345,9 @@ pub extern "C" fn lodvarn_keep_undone(alloc: Global, s: &mut Handle) -> i32
 /// `lodvarn_end_all_groups`.
 #[unsafe(no_mangle)]
 pub extern "C" fn lodvarn_end_all_groups(alloc: Global, s: &mut Handle) -> i32
-    ensures { Through a_session (asks Command.End) s.old.value result s.new.value }
+    ensures { Through a_session (edits Command.End) s.old.value result s.new.value }
 {
-    of!(s, alloc, Held::Session(session) => ask(session, &Command::End))
+    of!(s, alloc, Held::Session(session) => edit(session, &Command::End))
 }
 
 fn undo(session: &mut Session, n: usize) -> Outcome
@@ -406,7 +441,7 @@ fn pop_has_room(session: &Session) -> bool
     }
 }
 
-#[tactic(auto, unfolding(crate::specs::Calls::only_where))]
+#[tactic(auto, unfolding(crate::specs::Calls::only_where, crate::specs::Commands::keeping))]
 fn yank_pop(session: &mut Session) -> Outcome
     ensures { pops session.old (merged result) session.new }
 {
@@ -414,6 +449,7 @@ fn yank_pop(session: &mut Session) -> Outcome
         return Err(Answer::NoRoom);
     }
     let without = truth(session.ring().yank_size().is_some());
+    keep_undone(session)?;
     Ok(told(without, &obey(session, &Command::YankPop)))
 }
 
@@ -425,11 +461,13 @@ pub extern "C" fn lodvarn_yank_pop(alloc: Global, s: &mut Handle) -> i32
     of!(s, alloc, Held::Session(session) => yank_pop(session))
 }
 
+#[tactic(auto, unfolding(crate::specs::Commands::keeping))]
 fn paste(session: &mut Session, text: &[u8], n: usize) -> Outcome
     ensures { pastes text.now n session.old (merged result) session.new }
 {
     let n = count_of(n)?;
     let text = text_of(text)?;
+    keep_undone(session)?;
     let reply = session.paste(text, n);
     session.forget();
     Ok(told(room_for(text), &reply))
@@ -443,11 +481,12 @@ pub extern "C" fn lodvarn_paste(alloc: Global, s: &mut Handle, text: &[u8], n: u
     of!(s, alloc, Held::Session(session) => paste(session, text, n))
 }
 
-#[tactic(auto, unfolding(crate::specs::Commands::sets_text))]
+#[tactic(auto, unfolding(crate::specs::Commands::sets_text, crate::specs::Commands::keeping))]
 fn set_text(session: &mut Session, pos: usize, text: &[u8]) -> Outcome
     ensures { sets_text pos text.now session.old (merged result) session.new }
 {
     let text = text_of(text)?;
+    keep_undone(session)?;
     let reply = session.update(text, pos);
     session.forget();
     Ok(told(Answer::NoRoom, &reply))
@@ -461,10 +500,12 @@ pub extern "C" fn lodvarn_set_text(alloc: Global, s: &mut Handle, pos: usize, te
     of!(s, alloc, Held::Session(session) => set_text(session, pos, text))
 }
 
+#[tactic(auto, unfolding(crate::specs::Commands::keeping))]
 fn insert_at(session: &mut Session, place: usize, text: &[u8]) -> Outcome
     ensures { puts_in place text.now session.old (merged result) session.new }
 {
     let text = text_of(text)?;
+    keep_undone(session)?;
     let reply = session.insert_str(place, text);
     session.forget();
     Ok(told_place(&reply))
@@ -478,11 +519,12 @@ pub extern "C" fn lodvarn_insert_at(alloc: Global, s: &mut Handle, place: usize,
     of!(s, alloc, Held::Session(session) => insert_at(session, place, text))
 }
 
-#[tactic(auto, unfolding(crate::specs::Commands::replaces))]
+#[tactic(auto, unfolding(crate::specs::Commands::replaces, crate::specs::Commands::keeping))]
 fn replace(session: &mut Session, range: CRange, text: &[u8]) -> Outcome
     ensures { replaces range text.now session.old (merged result) session.new }
 {
     let text = text_of(text)?;
+    keep_undone(session)?;
     let reply = session.replace(range.from, range.to, text);
     session.forget();
     Ok(told(Answer::NoRoom, &reply))

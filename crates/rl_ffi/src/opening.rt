@@ -46,6 +46,7 @@ fn choose(session: &mut Session, mode: GraphemeClusterMode, options: &COptions)
     session.set_mode(mode);
     session.set_prompt(options.prompt);
     session.set_limit_holds(options.limit_holds);
+    session.set_keeps(options.keeps_undone);
     session.set_limit(options.limit);
     session.set_bound(Bound {
         entries: options.max_entries,
@@ -199,6 +200,7 @@ fn get_options(session: &Session, options: &mut COptions) -> Outcome
         max_bytes: chosen.bound.bytes,
         max_ring_bytes: chosen.bound.ring_bytes,
         limit_holds: chosen.holds,
+        keeps_undone: chosen.keeps,
     };
     Ok(Answer::Done)
 }

@@ -354,6 +354,11 @@ DoesWith bytes make old reply new = (text : String Global) → string_bytes text
 abbrev pub StepWith : List ℕ → (String Global → Command) → State → Reply → State → Type 0
 StepWith bytes make old reply new = (text : String Global) → string_bytes text ≡ bytes → Step old (make text) reply new
 
+-- what was undone is kept before an edit, as by the command for it, if that is asked for; else nothing happens
+abbrev pub Keeps : Bool → State → Reply → State → Type 0
+Keeps false old reply new = (reply ≡ says.Answer false) × (new ≡ old)
+Keeps true old reply new = Step old KeepUndone reply new
+
 -- the command that deletes by a movement to one side of the cursor; other movements have none
 abbrev pub deletion_of : Movement → Command
 deletion_of BeginningOfLine = DiscardLine

@@ -12,7 +12,7 @@ no_bound = record { entries = 2 ^ 64 - 1; bytes = 2 ^ 64 - 1; ring_bytes = 2 ^ 6
 
 -- the options of a new session: a prompt that ends at column 0, no bound, and a limit that does not hold
 abbrev pub plain : GraphemeClusterMode → Options
-plain mode = record { mode = mode; prompt = 0; bound = no_bound; holds = false }
+plain mode = record { mode = mode; prompt = 0; bound = no_bound; holds = false; keeps = false }
 
 -- the layout by which motions over lines go: the prompt ends at its column
 abbrev pub layout_of : Options → Layout

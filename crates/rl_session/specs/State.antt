@@ -67,6 +67,10 @@ limited limit s = record s { line = record s.line { limit = max limit (length s.
 abbrev pub holding : Bool → State → State
 holding holds s = record s { options = record s.options { holds = holds } }
 
+-- the same in which what was undone is kept before an edit, or is not
+abbrev pub keeping : Bool → State → State
+keeping keeps s = record s { options = record s.options { keeps = keeps } }
+
 -- a session whose limit holds, and whose line has no leave to grow past it, as that of no session has
 pub record HoldsLimit (s : State) : Type 0 where
   pub stands : Stands s

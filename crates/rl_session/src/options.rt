@@ -1,4 +1,4 @@
-//! How a session measures columns, and how much its record and its ring may hold.
+//! How a session measures columns, how much its record and its ring may hold, and what holds of its edits.
 ghost use Rattle.std.specs.Prelude.{◌≡◌};
 ghost use Rattle.rl_session.specs.Options.{layout_of, no_bound, plain};
 
@@ -39,10 +39,14 @@ pub struct Options {
     pub bound: Bound,
     /// Whether the limit on the text's length holds: no command makes the text longer, and what would is refused.
     pub holds: bool,
+    /// Whether what was undone is kept before an edit. `Session::keep_if_asked` does it, which who asks for edits calls
+    /// before each.
+    pub keeps: bool,
 }
 
 impl Options {
-    /// The options of a new session: a prompt that ends at column 0, no bound, and a limit that does not hold.
+    /// The options of a new session: a prompt that ends at column 0, no bound, a limit that does not hold, and an edit drops
+    /// what was undone.
     pub fn new(mode: GraphemeClusterMode) -> Self
         ensures { result ≡ plain mode }
     {
@@ -51,6 +55,7 @@ impl Options {
             prompt: 0,
             bound: Bound::none(),
             holds: false,
+            keeps: false,
         }
     }
 

@@ -1,7 +1,7 @@
 //! A session that is saved and loaded again.
 use crate::script::is_so;
 use rl_base::{GraphemeClusterMode, LoadFault, Movement};
-use rl_session::{Command, Session};
+use rl_session::{Command, Reply, Session};
 use std::alloc::Global;
 use std::process::Abort;
 use std::test::Fail;
@@ -30,13 +30,18 @@ fn do_alike(rt: &impl Abort, one: &mut Session, other: &mut Session, command: &C
     is_so(rt, line.pos() == same.pos(), "the cursors");
 }
 
+// What was undone is kept, since the options ask for it.
+fn keeps(session: &mut Session) -> bool {
+    session.keep_if_asked() == Reply::Answer(true)
+}
+
 // So they go on through record and ring.
 fn go_on_alike(rt: &impl Abort, one: &mut Session, other: &mut Session) {
     do_alike(rt, one, other, &Command::Redo);
     do_alike(rt, one, other, &Command::Yank(1));
     do_alike(rt, one, other, &Command::Abandon);
     do_alike(rt, one, other, &Command::Undo(2));
-    do_alike(rt, one, other, &Command::KeepUndone);
+    is_so(rt, keeps(one) && keeps(other), "what was undone is kept");
     do_alike(rt, one, other, &Command::Undo(1));
     do_alike(rt, one, other, &Command::Undo(9));
 }
@@ -79,5 +84,11 @@ fn comes_back(rt: &impl Abort, alloc: Global, session: &mut Session) -> Result<(
 #[test]
 fn a_saved_session_comes_back(rt: HostRuntime) -> Result<(), Fail> {
     let mut session = Session::open(rt.alloc(), "", 0, 64, 60, GraphemeClusterMode::Unicode)?;
+    is_so(
+        &rt,
+        session.keep_if_asked() == Reply::Answer(false),
+        "nothing is kept unasked",
+    );
+    session.set_keeps(true);
     comes_back(&rt, rt.alloc(), &mut session)
 }

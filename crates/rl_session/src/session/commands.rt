@@ -2,7 +2,7 @@
 //! session's limit holds, those that would make the text longer, at their end or between their steps, reply `TooLong`, which
 //! leaves text, cursor and record as they were.
 ghost use Rattle.rl_line.specs.Deletions.{CanDeleteBy};
-ghost use Rattle.rl_session.specs.Commands.{Step, StepWith, deletion_of};
+ghost use Rattle.rl_session.specs.Commands.{Keeps, Step, StepWith, deletion_of};
 ghost use Rattle.rl_session.specs.declared.session.Command.{Command};
 
 use crate::session::replies::inserted;
@@ -251,6 +251,20 @@ impl Session {
         let reply = self.do_keep_undone();
         self.ends();
         reply
+    }
+
+    /// Keeps what was undone, as `keep_undone` does, if the options ask for it; else it does nothing, and answers false. Call
+    /// it before each edit, begin or end of a group. If it is refused, do not ask for the edit, which would drop what was
+    /// undone.
+    #[inline(always)]
+    pub fn keep_if_asked(&mut self) -> Reply
+        ensures { Keeps self.old.options.keeps self.old result self.new }
+    {
+        if self.options.keeps {
+            self.keep_undone()
+        } else {
+            Reply::Answer(false)
+        }
     }
 
     /// Undoes n units: one for 0, and all if there are fewer. Answers whether there was a change. `NoMemory` leaves text

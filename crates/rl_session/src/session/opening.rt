@@ -3,7 +3,7 @@ ghost use Rattle.std.specs.Prelude.{◌≡◌, ◌<◌, ◌≤◌, [], List, ℕ
 ghost use Rattle.std.specs.Str.{IsCharBoundary};
 ghost use Rattle.rl_base.specs.KillRing.{cleared, ruled};
 ghost use Rattle.rl_line.specs.Line.{NeedsRoom};
-ghost use Rattle.rl_session.specs.State.{Begins, ChangedFrom, FitsLimit, HoldsLimit, Opens, RefusesRestart, Replays, ReportedFrom, fresh, holding, limited, prompted, restarted, told_anew, with_mode, with_ring};
+ghost use Rattle.rl_session.specs.State.{Begins, ChangedFrom, FitsLimit, HoldsLimit, Opens, RefusesRestart, Replays, ReportedFrom, fresh, holding, keeping, limited, prompted, restarted, told_anew, with_mode, with_ring};
 
 use crate::options::Options;
 use crate::pair::Pair;
@@ -184,6 +184,15 @@ impl Session {
     {
         self.stands();
         self.options.holds = holds;
+    }
+
+    /// Sets whether what was undone is kept before an edit, by `keep_if_asked`.
+    pub fn set_keeps(&mut self, keeps: bool)
+        ensures set { self.new ≡ keeping keeps self.old }
+        ensures changed { (asked : List ℕ) → ChangedFrom asked self.old → ChangedFrom asked self.new }
+        ensures reported { (read : List ℕ) → ReportedFrom read self.old → ReportedFrom read self.new }
+    {
+        self.options.keeps = keeps;
     }
 
     /// Sets the column at which the prompt ends. `LineUp` and `LineDown` count the columns of the text's first line from

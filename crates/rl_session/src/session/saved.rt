@@ -70,7 +70,7 @@ impl Session {
         Ok(())
     }
 
-    fn numbers(&self) -> [u64; 10]
+    fn numbers(&self) -> [u64; 11]
         ensures numbers { result ≡ state_numbers self.now }
         ensures prompt { self.now.options.prompt < 2 ^ 16 }
     {
@@ -82,6 +82,7 @@ impl Session {
             mode_number(options.mode),
             options.prompt as u64,
             truth_number(options.holds),
+            truth_number(options.keeps),
             options.bound.entries as u64,
             options.bound.bytes as u64,
             options.bound.ring_bytes as u64,
@@ -152,11 +153,11 @@ fn read_line(alloc: Global, bytes: &mut Unread) -> Result<(LineBuffer, Options),
     ensures grows_not { IfOk result (λ made. made.0.grow ≡ false) }
     ensures part { IfErr result IsOfPart }
 {
-    let mut head = [0; 10];
+    let mut head = [0; 11];
     if !bytes.numbers(Width::Eight, &mut head) {
         return Err(LoadFault::Damaged);
     }
-    let Some(text) = bytes.text(head[9]) else {
+    let Some(text) = bytes.text(head[10]) else {
         return Err(LoadFault::Damaged);
     };
     let Some(options) = options_of(head) else {
@@ -204,27 +205,29 @@ fn mode_of(number: u64) -> Option<GraphemeClusterMode>
 }
 
 // The options of these numbers, which stand after those of the line.
-fn options_of(head: [u64; 10]) -> Option<Options>
+fn options_of(head: [u64; 11]) -> Option<Options>
     ensures { (options : Options) (line : Line) (rest : List ℕ) → options.prompt < 2 ^ 16 → head ≡ line_numbers line ++ (option_numbers options ++ rest) → result ≡ Some options }
 {
     let mode = mode_of(head[3])?;
     let prompt = u16::try_from(head[4]).ok()?;
     let holds = truth_of(head[5])?;
+    let keeps = truth_of(head[6])?;
     let bound = Bound {
-        entries: head[6] as usize,
-        bytes: head[7] as usize,
-        ring_bytes: head[8] as usize,
+        entries: head[7] as usize,
+        bytes: head[8] as usize,
+        ring_bytes: head[9] as usize,
     };
     Some(Options {
         mode,
         prompt,
         bound,
         holds,
+        keeps,
     })
 }
 
 // The line of these numbers and a text.
-fn line_of(alloc: Global, head: [u64; 10], text: &str) -> Result<LineBuffer, LoadFault>
+fn line_of(alloc: Global, head: [u64; 11], text: &str) -> Result<LineBuffer, LoadFault>
     ensures ok { IfOk result (λ made. (line : Line) (rest : List ℕ) → line.grow ≡ false → length text.now ≤ line.limit → head ≡ line_numbers line ++ rest → text.now ≡ line.text → made ≡ line) }
     ensures err { IfErr result (λ f. (line : Line) (rest : List ℕ) → line.grow ≡ false → IsCharBoundary line.text line.cursor → length text.now ≤ line.limit → head ≡ line_numbers line ++ rest → text.now ≡ line.text → f ≡ NoMemory) }
     ensures grows_not { IfOk result (λ made. made.grow ≡ false) }
