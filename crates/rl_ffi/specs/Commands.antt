@@ -1,17 +1,18 @@
 -- What a call that asks for a command does.
-use Rattle.std.specs.Prelude.{◌≡◌, ◌⊎◌, ℕ, ◌+◌, ◌-◌, ◌<◌, ◌≤◌, ◌^◌, ◌==◌, false, length, List, Option, Some, None, Result, Ok, Err, String, is_some, option_map, if◌then◌else◌}
+use Rattle.std.specs.Prelude.{◌≡◌, ◌⊎◌, ℕ, ◌+◌, ◌-◌, ◌<◌, ◌≤◌, ◌^◌, ◌==◌, true, false, length, List, Option, Some, None, Result, Ok, Err, String, is_some, option_map, if◌then◌else◌}
 use Rattle.std.specs.declared.alloc.Global.{Global}
 use Rattle.rl_base.specs.KillRing.{Ring, yank, yank_pop, yank_size}
 use Rattle.rl_base.specs.declared.motion.Movement.{Movement}
 use Rattle.rl_line.specs.Edits.{CanYankPop, too_long}
 use Rattle.rl_line.specs.Deletions.{CanDeleteBy, copied}
 use Rattle.rl_line.specs.Line.{Line}
+use Rattle.rl_line.specs.Units.{has_change, redo_of}
 use Rattle.rl_session.specs.Commands.{Keeps, Step, StepWith, deletion_of}
 use Rattle.rl_session.specs.Forgetting.{within_bound}
 use Rattle.rl_session.specs.History.{WasRefused}
 use Rattle.rl_session.specs.State.{State}
 use Rattle.rl_session.specs.declared.session.Command.{Command}
-use Rattle.rl_session.specs.declared.session.Command.TheVariants.{Indent, Insert, InsertStr, Paste, Replace, SetPos, Update, Yank, YankPop}
+use Rattle.rl_session.specs.declared.session.Command.TheVariants.{Indent, Insert, InsertStr, Paste, Reopen, Replace, SetPos, Update, Yank, YankPop}
 use Rattle.rl_session.specs.declared.session.Fault.{Fault}
 use Rattle.rl_session.specs.declared.session.Reply.{Reply}
 use Rattle.rl_session.specs.declared.session.Reply.TheVariants as says
@@ -48,6 +49,13 @@ keeping Does s n new = cannot_keep s n new ⊎ ((kept : State) × Kept s kept ×
 
 abbrev pub edits : Command → Effect State
 edits command = keeping (asks command)
+
+-- a group is taken up again, but not if that would forget what was undone and is to be kept
+abbrev pub MayReopen : State → Type 0
+MayReopen s = s.options.keeps ≡ true → has_change (redo_of s.pair.changes.pending) ≡ false
+
+abbrev pub reopens : Effect State
+reopens = only_where MayReopen Nothing (asks Reopen)
 
 abbrev pub inserts : ℕ → ℕ → Effect State
 inserts c n = of_named (char_of c) (λ x. of_named (count_of n) (λ k. edits (Insert x k)))

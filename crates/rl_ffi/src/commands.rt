@@ -13,7 +13,7 @@ ghost use Rattle.rl_session.specs.declared.session.Command.TheVariants.{KeepUndo
 ghost use Rattle.rl_session.specs.declared.session.Reply.{Reply};
 ghost use Rattle.rl_ffi.specs.Answers.{merged};
 ghost use Rattle.rl_ffi.specs.Calls.{Through, ThroughOut, of_named};
-ghost use Rattle.rl_ffi.specs.Commands.{HasRoomFor, Kept, Obeys, ObeysWith, PopHasRoom, asks, asks_with, cannot_keep, copies, deletes_by, edits, ends_kills, hands_out, indents, inserts, lent_room, pastes, popped_length, pops, puts_in, replaces, room_for, sets_text, yanks};
+ghost use Rattle.rl_ffi.specs.Commands.{HasRoomFor, Kept, Obeys, ObeysWith, PopHasRoom, asks, asks_with, cannot_keep, copies, deletes_by, edits, ends_kills, hands_out, indents, inserts, lent_room, pastes, popped_length, pops, puts_in, reopens, replaces, room_for, sets_text, yanks};
 ghost use Rattle.rl_ffi.specs.Held.{a_session};
 ghost use Rattle.rl_ffi.specs.declared.answers.Answer.{Answer};
 ghost use Rattle.rl_ffi.specs.declared.answers.Answer.TheVariants.{Done};
@@ -318,12 +318,22 @@ pub extern "C" fn lodvarn_end_group(alloc: Global, s: &mut Handle) -> i32
     of!(s, alloc, Held::Session(session) => edit(session, &Command::EndOne))
 }
 
+#[tactic(auto, unfolding(crate::specs::Calls::only_where))]
+fn reopen(session: &mut Session) -> Outcome
+    ensures { reopens session.old (merged result) session.new }
+{
+    if session.options().keeps && session.can_redo() {
+        return Ok(Answer::Nothing);
+    }
+    ask(session, &Command::Reopen)
+}
+
 /// `lodvarn_reopen_group`.
 #[unsafe(no_mangle)]
 pub extern "C" fn lodvarn_reopen_group(alloc: Global, s: &mut Handle) -> i32
-    ensures { Through a_session (edits Command.Reopen) s.old.value result s.new.value }
+    ensures { Through a_session reopens s.old.value result s.new.value }
 {
-    of!(s, alloc, Held::Session(session) => edit(session, &Command::Reopen))
+    of!(s, alloc, Held::Session(session) => reopen(session))
 }
 
 /// `lodvarn_abandon_group`.
