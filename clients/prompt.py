@@ -1,5 +1,5 @@
 #!/usr/bin/env python3
-"""Tests the prompt of clients/c/prompt.c, or a program that is named. Its last line is 'N passed, M failed'."""
+"""Tests the prompt of examples/prompt, or a program that is named. Its last line is 'N passed, M failed'."""
 
 import os
 import select

@@ -6,7 +6,7 @@
  * The session is written with FILE, to .FILE.undo beside it. As long as it has the text of FILE, the next run goes on
  * with it: with what may be undone and redone, and with the kill ring. */
 #define _DEFAULT_SOURCE
-#include "kept.h"
+#include "../../examples/prompt/kept.h"
 #include "lodvarn.h"
 #include <errno.h>
 #include <signal.h>

@@ -1,4 +1,4 @@
-"""The small vi of examples/modal.py in a terminal: keys go in, and rows, the cursor and the bell are compared."""
+"""The small vi of examples/modal in a terminal: keys go in, and rows, the cursor and the bell are compared."""
 
 import os
 import re
@@ -8,6 +8,7 @@ from contextlib import contextmanager
 from pathlib import Path
 
 HERE = Path(__file__).resolve().parent
+EXAMPLES = HERE.parents[1] / "examples"
 sys.path.insert(0, str(HERE.parent))
 
 from terminal import PAUSED, Terminal, await_that  # noqa: E402
@@ -93,7 +94,7 @@ ENDS = [
 def editing(text):
     """A terminal in which the editor has a screen for the text."""
     # The quotes that the terminal puts around a program part these words.
-    words = "' '".join([sys.executable, str(HERE / "examples/modal.py"), text])
+    words = "' '".join([sys.executable, str(EXAMPLES / "modal/modal.py"), text])
     terminal = Terminal(words, COLUMNS, ROWS, COMMAND)
     try:
         await_that(lambda: terminal.tmux("display", "-p", "-t", "edit", "#{alternate_on}"), lambda it: it == "1\n")
@@ -141,7 +142,7 @@ def run_selection():
 
 
 def main():
-    os.environ["PYTHONPATH"] = os.pathsep.join(filter(None, [str(HERE), os.environ.get("PYTHONPATH")]))
+    os.environ["PYTHONPATH"] = os.pathsep.join([str(HERE), str(EXAMPLES)])
     outcomes = [run(*case) for case in CASES] + [run(*case, rings=True) for case in RINGING]
     outcomes += [run_end(*case) for case in ENDS] + [run_selection()]
     print(f"{outcomes.count(True)} passed, {outcomes.count(False)} failed")

@@ -1,4 +1,4 @@
-"""The prompt of examples/repl.py in a pseudo-terminal: keys go in, and rows and the cursor's column are compared."""
+"""The prompt of examples/calculator in a pseudo-terminal: keys go in, and rows and the cursor's column are compared."""
 
 import os
 import pty
@@ -11,8 +11,9 @@ import termios
 from pathlib import Path
 
 HERE = Path(__file__).resolve().parent
-ENVIRONMENT = {**os.environ, "PYTHONPATH": str(HERE), "LC_ALL": "C.UTF-8"}
-PROGRAM, COLUMNS, PATIENCE = [sys.executable, HERE / "examples/repl.py"], 20, 10
+EXAMPLES = HERE.parents[1] / "examples"
+ENVIRONMENT = {**os.environ, "PYTHONPATH": f"{HERE}:{EXAMPLES}", "LC_ALL": "C.UTF-8"}
+PROGRAM, COLUMNS, PATIENCE = [sys.executable, EXAMPLES / "calculator/calculator.py"], 20, 10
 DRAWN = b"\x1b[K"
 NAMED = {"Up": "\x1b[A", "Down": "\x1b[B", "Right": "\x1b[C", "Left": "\x1b[D", "Home": "\x1b[H", "End": "\x1bOF"}
 NAMED.update({"DEL": "\x7f", "RET": "\r"})

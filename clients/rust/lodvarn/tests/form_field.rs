@@ -1,6 +1,6 @@
 //! The form field of the examples: what it shows after each key, worked out by hand.
 #[allow(dead_code)]
-#[path = "../examples/form_field.rs"]
+#[path = "../../../../examples/form_field/src/main.rs"]
 mod form_field;
 
 /// Presses the keys of the rows in a new field, which must answer as they say.

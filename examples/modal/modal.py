@@ -1,4 +1,4 @@
-"""A small vi in a terminal: PYTHONPATH=clients/python python3 clients/python/examples/modal.py [TEXT]
+"""A small vi in a terminal: PYTHONPATH=clients/python:examples python3 examples/modal/modal.py [TEXT]
 
 h j k l 0 ^ $ w b move, f goes to a character. i and a type, up to ESC. x kills a character, d what a motion covers in
 the line. v selects by motions; then d kills, y keeps. p puts what came last. m and a letter set a mark, ` and it go

@@ -1,4 +1,4 @@
-"""A calculator's prompt in a terminal: PYTHONPATH=clients/python python3 clients/python/examples/repl.py"""
+"""A calculator's prompt in a terminal: PYTHONPATH=clients/python:examples python3 examples/calculator/calculator.py"""
 
 import os
 import re

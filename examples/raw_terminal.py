@@ -1,4 +1,4 @@
-"""Standard input as a terminal whose keys come one by one, for the examples beside this file."""
+"""Standard input as a terminal whose keys come one by one, for the programs in the folders beside this file."""
 
 import codecs
 import os
