@@ -4,8 +4,8 @@
     python3 clients/terminal.py [PROGRAM]
 
 Tests too how soon a paste of 10 KB is shown, how many bytes the editor writes for a key, that it leaves nothing in the
-scrollback, what it leaves to a shell where it is stopped or ended, that random keys lead to the screen that is drawn
-anew, and that docs/lodvarn.svg is what docs/picture.py makes. Its last line is 'N passed, M failed'.
+scrollback, what it leaves to a shell where it is stopped or ended, and that random keys lead to the screen that is
+drawn anew. Its last line is 'N passed, M failed'.
 """
 
 import os
@@ -20,7 +20,6 @@ from pathlib import Path
 
 HERE = Path(__file__).resolve().parent
 PROGRAM = HERE / "out/edit"
-DOCS = HERE.parent / "docs"
 COLUMNS, ROWS = 60, 20
 # The bytes that a text of the editor may have.
 LIMIT = 65536
@@ -47,6 +46,8 @@ def screen_of(shown):
 
 # What runs in a terminal, in a folder where ./edit is the editor: it alone, or a shell.
 EDITOR, SHELL = "./edit; echo ended $?; exec cat", "PS1='$ ' ENV= exec sh -i"
+# What a terminal tells of a program that has begun, with a prompt of two columns, or with a screen of its own.
+PROMPT_SHOWN, SCREEN_SHOWN = "0 2", "1 0"
 
 
 class Terminal:
@@ -94,21 +95,25 @@ class Terminal:
         else:
             self.tmux("send-keys", "-t", "edit", "-l", "--", given)
 
+    def told(self, what):
+        """What tmux tells of the terminal."""
+        return self.tmux("display", "-p", "-t", "edit", what).strip()
+
     def screen(self):
         """The rows, without the empty ones at the end, and the cursor's row and column."""
         rows = [row.rstrip() for row in self.tmux("capture-pane", "-p", "-t", "edit").split("\n")]
         while rows and not rows[-1]:
             rows.pop()
-        row, column = self.tmux("display", "-p", "-t", "edit", "#{cursor_y} #{cursor_x}").split()
+        row, column = self.told("#{cursor_y} #{cursor_x}").split()
         return rows, (int(row), int(column))
 
     def scrollback(self):
         """How many rows the terminal keeps above its screen."""
-        return int(self.tmux("display", "-p", "-t", "edit", "#{history_size}"))
+        return int(self.told("#{history_size}"))
 
     def rang(self):
         """Whether the bell rang."""
-        return self.tmux("display", "-p", "-t", "edit", "#{window_bell_flag}").strip() == "1"
+        return self.told("#{window_bell_flag}") == "1"
 
     def begin_count(self):
         """From now on counts the bytes that the editor writes."""
@@ -144,11 +149,11 @@ def await_that(look, is_wanted, patience=PATIENCE):
 
 
 @contextmanager
-def editing(program, columns=COLUMNS, rows=ROWS, command=EDITOR):
-    """A terminal in which the editor, or a shell, shows its prompt."""
+def editing(program, columns=COLUMNS, rows=ROWS, command=EDITOR, begun=PROMPT_SHOWN):
+    """A terminal in which a program, or a shell, has begun."""
     terminal = Terminal(program, columns, rows, command)
     try:
-        await_that(terminal.screen, lambda seen: seen[1] == (0, 2))
+        await_that(lambda: terminal.told("#{alternate_on} #{cursor_x}"), begun.__eq__)
         yield terminal
     finally:
         terminal.close()
@@ -511,15 +516,6 @@ def run_random(program, seed=SEED):
     return True
 
 
-def run_picture(program):
-    """Whether the picture in docs is what the editor shows today."""
-    made = subprocess.run([sys.executable, DOCS / "picture.py", program], capture_output=True, timeout=10 * PATIENCE)
-    if made.returncode == 0 and made.stdout == (DOCS / "lodvarn.svg").read_bytes():
-        return True
-    print(f"FAILED: docs/lodvarn.svg is not what docs/picture.py makes\n{made.stderr.decode()}")
-    return False
-
-
 def main():
     program = Path(sys.argv[1]).resolve() if len(sys.argv) > 1 else PROGRAM
     outcomes = [run_case(program, *case) for case in CASES]
@@ -530,7 +526,6 @@ def main():
     outcomes += run_shell(program)
     outcomes += [outcome for case in COUNTED for outcome in run_counted(program, *case)]
     outcomes.append(run_random(program))
-    outcomes.append(run_picture(program))
     print(f"{outcomes.count(True)} passed, {outcomes.count(False)} failed")
     return 0 if all(outcomes) else 1
 

@@ -8,44 +8,53 @@ import signal
 import sys
 import termios
 import tty
-from typing import Any, Callable, Iterator, Optional
+import unicodedata
+from typing import Any, Callable, Iterator
 
+ESC, RETURN, BACKSPACE = "\x1b", "\r", "\x7f"
 # A key is a character, or what an arrow or a function key sends.
 KEY = re.compile(r"\x1b[\[O][ -?]*[@-~]|.", re.S)
+
+
+def control(letter: str) -> str:
+    """What a letter sends with Control."""
+    return chr(ord(letter) & 31)
+
+
+def is_text(key: str) -> bool:
+    """Whether a key is a character that may stand in a text."""
+    return len(key) == 1 and unicodedata.category(key) not in ("Cc", "Cs")
 
 
 class RawTerminal:
     """A terminal in raw mode, with a screen of its own if that is wanted. A `with` leaves it as it was."""
 
     def __init__(self, has_screen: bool = False) -> None:
-        self.screen, self.screen_before = ("\x1b[?1049h", "\x1b[?1049l") if has_screen else ("", "")
+        self.has_screen = has_screen
+        self.decoder = codecs.getincrementaldecoder("utf-8")("replace")
 
     def __enter__(self) -> "RawTerminal":
         signal.signal(signal.SIGTERM, lambda number, _: sys.exit(128 + number))  # So that the `with` ends.
         signal.signal(signal.SIGWINCH, lambda *_: None)  # It ends a wait, as all signals do that are heard.
-        self.decoder, (self.woken, waking) = codecs.getincrementaldecoder("utf-8")("replace"), os.pipe2(os.O_NONBLOCK)
+        self.woken, waking = os.pipe2(os.O_NONBLOCK)
         signal.set_wakeup_fd(waking)
         self.modes = termios.tcgetattr(0)
         tty.setraw(0, termios.TCSADRAIN)
-        print(self.screen, end="", flush=True)
+        print("\x1b[?1049h" if self.has_screen else "", end="", flush=True)
         return self
 
     def __exit__(self, *fault: Any) -> None:
+        print("\x1b[?1049l" if self.has_screen else "\r\n", end="", flush=True)
         termios.tcsetattr(0, termios.TCSADRAIN, self.modes)
-        print(self.screen_before, end="", flush=True)
-
-    def read(self, seconds: Optional[float] = None) -> Optional[str]:
-        """What is typed. An empty text if a signal or so many seconds end the wait, None at the end of input."""
-        ready = select.select([0, self.woken], [], [], seconds)[0]
-        came = os.read(ready[0], 4096) if ready else b""
-        if 0 in ready:
-            return self.decoder.decode(came) if came else None
-        return ""
 
     def keys(self, draw: Callable[[], None]) -> Iterator[str]:
         """The keys up to the end of input. It draws when it has to wait, once for all that came together."""
-        came: Optional[str] = ""
-        while came is not None:
-            yield from KEY.findall(came)
+        while True:
             draw()
-            came = self.read()
+            ready, _, _ = select.select([0, self.woken], [], [])
+            if self.woken in ready:
+                os.read(self.woken, 4096)
+            elif came := os.read(0, 4096):
+                yield from KEY.findall(self.decoder.decode(came))
+            else:
+                return

@@ -1,101 +1,120 @@
-"""A calculator's prompt in a terminal: PYTHONPATH=clients/python:examples python3 examples/calculator/calculator.py"""
+"""A calculator's prompt in a terminal: PYTHONPATH=clients/python:examples python3 examples/calculator/calculator.py
+
+The keys are those of Emacs. Each line that is entered is evaluated, up to C-d on an empty one. Without a terminal it
+evaluates the lines of its input.
+"""
 
 import os
-import re
-from typing import Callable, Dict, Iterator
+from typing import Callable, Dict
 
 from arithmetic import LIMIT, evaluate
-from lodvarn import Movement, NoRoomError, Screen, Session, Stop, Word, cell, clusters
-from raw_terminal import RawTerminal
+from lodvarn import Movement, NoRoomError, Screen, Session, Stop, Word, cell, place_at, width
+from raw_terminal import BACKSPACE, ESC, RETURN, RawTerminal, control, is_text
 
-PROMPT, SECONDS = "> ", 0.2  # The seconds are those to wait for the rest of a key.
-# A key is a character, or an escape with what belongs to it, which may be cut short. None is found if it may go on.
-KEY = re.compile(r"\x1b\[[ -?]*[@-~]|\x1bO[ -~]|\x1b[^\[O\0-\x1f]|\x1b(\[[ -?]*|O)?(?=[^ -~])|[^\x1b]")
-SAME = {f"M-[{end}": f"C-{c}" for end, c in zip("A B C D H 1~ F 4~".split(), "pnfbaaee")}  # Arrows, Home, End.
-
-
-def transpose(session: Session) -> bool:
-    """Exchanges two characters. One undo takes back both of its changes."""
-    with session.group():
-        return session.transpose_chars()
-
-
-START, END, BACK = Movement.to_line_start(), Movement.to_line_end(), Movement.words_back(Word.EMACS)
-LEFT, RIGHT, AHEAD = Movement.chars_back(), Movement.chars_forward(), Movement.words_forward(Word.EMACS, Stop.AFTER_END)
-KEYS: Dict[str, Callable[[Session], object]] = {
-    "C-a": lambda it: it.move(START), "C-e": lambda it: it.move(END), "C-b": lambda it: it.move(LEFT),
-    "C-f": lambda it: it.move(RIGHT), "M-b": lambda it: it.move(BACK), "M-f": lambda it: it.move(AHEAD),
-    "C-k": lambda it: it.kill(END), "C-u": lambda it: it.kill(START), "M-d": lambda it: it.kill(AHEAD),
-    "C-w": lambda it: it.kill(Movement.words_back(Word.BIG)), "C-y": Session.yank, "M-y": Session.yank_pop,
-    "C-d": Session.delete, "\x7f": Session.backspace, "C-_": Session.undo, "M-_": Session.redo, "C-t": transpose,
+PROMPT = "> "
+AHEAD = 8  # The columns from the cursor to the right edge, in a row that slides.
+ENDLESS = Screen(columns=65535)
+START, END = Movement.to_line_start(), Movement.to_line_end()
+LEFT, RIGHT = Movement.chars_back(), Movement.chars_forward()
+WORD_LEFT, WORD_RIGHT = Movement.words_back(Word.EMACS), Movement.words_forward(Word.EMACS, Stop.AFTER_END)
+# What keys do: moves, kills, other calls, and steps to an older or a newer line. Arrows, Home and End begin with ESC [.
+MOVES = {
+    control("a"): START, "\x1b[H": START, "\x1b[1~": START, control("e"): END, "\x1b[F": END, "\x1b[4~": END,
+    control("b"): LEFT, "\x1b[D": LEFT, control("f"): RIGHT, "\x1b[C": RIGHT,
+    ESC + "b": WORD_LEFT, ESC + "f": WORD_RIGHT,
 }
+KILLS = {control("k"): END, control("u"): START, control("w"): Movement.words_back(Word.BIG), ESC + "d": WORD_RIGHT}
+CALLS: Dict[str, Callable[[Session], bool]] = {
+    control("d"): Session.delete, BACKSPACE: Session.backspace, control("_"): Session.undo, ESC + "_": Session.redo,
+    control("y"): Session.yank, ESC + "y": Session.yank_pop,
+}
+STEPS = {control("p"): -1, "\x1b[A": -1, control("n"): 1, "\x1b[B": 1}
 
 
-def draw(session: Session) -> None:
-    """Draws the row. Of a text that is too wide it shows a window, which slides by half of its columns."""
-    half = max(((os.get_terminal_size(1).columns or 80) - len(PROMPT)) // 2, 1)
-    column, (_, cursor) = 0, cell(Screen(65535), session.pos, session.text)
-    row, first = f"\r\x1b[K{PROMPT}", max(cursor // half - 1, 0) * half
-    for cluster, columns in clusters(session.text):
-        if (column := column + columns) > first + 2 * half:
-            break
-        row += cluster if column - columns >= first else ""
-        if column > first and not cluster.isascii():  # Terminals differ in the widths of these.
-            row += f"\x1b[{len(PROMPT) + column - first + 1}G"
-    print(f"{row}\x1b[{len(PROMPT) + cursor - first + 1}G", end="", flush=True)
+class Calculator:
+    """A prompt for line after line in one session, so that what was killed can be yanked in later ones."""
 
+    def __init__(self, terminal: RawTerminal) -> None:
+        self.session = Session(limit_bytes=LIMIT)
+        self.keys = terminal.keys(self.draw)
+        self.lines = [""]  # The lines of before and, last, the one that is typed now.
+        self.shown = 0  # Which of them the session has.
 
-def read_keys(session: Session, terminal: RawTerminal) -> Iterator[str]:
-    """The names of the keys, up to the end of input. It draws when it has to wait, once for all that came together."""
-    keys = ""
-    while True:
-        draw(session)
-        came = terminal.read(SECONDS if keys else None)
-        if came is None:
-            return
-        keys = keys + came if came else ""
-        while key := KEY.match(keys):
-            keys = keys[key.end() :]
-            name = key[0].replace("\x1bO", "\x1b[").replace("\x1b", "M-")
-            name = f"C-{chr(ord(name) | 64).lower()}" if name < " " or "\x7f" < name < "\xa0" else name
-            yield SAME.get(name, name)
-
-
-def edit(session: Session, terminal: RawTerminal) -> None:
-    """Evaluates lines until the input ends. All are edited in one session, so what was killed can be yanked later."""
-    lines, at = [""], 0  # The lines of before and, last, the one that is typed now. The one that is shown is lines[at].
-    for key in read_keys(session, terminal):
-        text, step = session.text, {"C-p": -1, "C-n": 1}.get(key, 0)
-        if key == "C-d" and not text:
-            return
-        if key in ("C-m", "C-j", "C-c"):
-            draw(session)
-            answer = f"{evaluate(text)}\r\n" if key != "C-c" and text.strip() else ""
-            print(f"\r\n{answer}", end="")
-            lines[-1:], at = ([text, ""], len(lines)) if answer else ([""], len(lines) - 1)
-            session.restart()
-        elif step and 0 <= at + step < len(lines):
-            lines[at], at = text, at + step
-            session.restart(lines[at])  # After a set_text C-_ would put the other line in the place of this one.
-        else:
+    def run(self) -> None:
+        """Does what the keys say, up to C-d on an empty line."""
+        for key in self.keys:
+            if key == ESC:
+                key += next(self.keys, "")  # With Alt a key sends ESC, and then what it sends alone.
+            if key == control("d") and not self.session.text:
+                return
             try:
-                done = KEYS[key](session) if key in KEYS else len(key) == 1 and session.insert(key)
+                done = self.press(key)
             except NoRoomError:
                 done = False
-            print("" if done else "\a", end="")
+            if not done:
+                print("\a", end="")
+
+    def press(self, key: str) -> bool:
+        """Does what a key says, or types the character that it is. Returns whether there was anything to do."""
+        if key in MOVES:
+            return self.session.move(MOVES[key])
+        if key in KILLS:
+            return self.session.kill(KILLS[key])
+        if key in CALLS:
+            return CALLS[key](self.session)
+        if key in STEPS:
+            return self.show(self.shown + STEPS[key])
+        if key in (RETURN, "\n"):
+            return self.enter()
+        if key == control("c"):
+            return self.begin_line()
+        return is_text(key) and self.session.insert(key)
+
+    def show(self, number: int) -> bool:
+        """Shows another line. The session begins anew with it, so that no undo leads out of it."""
+        if not 0 <= number < len(self.lines):
+            return False
+        self.lines[self.shown] = self.session.text
+        self.shown = number
+        self.session.restart(self.lines[number])
+        return True
+
+    def enter(self) -> bool:
+        """Evaluates the line, unless it is blank."""
+        answer = evaluate(self.session.text)
+        if answer:
+            self.lines.insert(-1, self.session.text)
+        self.begin_line()
+        print(f"{answer}\r\n" if answer else "", end="")
+        return True
+
+    def begin_line(self) -> bool:
+        """Begins the next line below the one that is shown, with the same kill ring."""
+        self.draw()
+        print("\r\n", end="")
+        self.lines[-1] = ""
+        self.shown = len(self.lines) - 1
+        self.session.restart()
+        return True
+
+    def draw(self) -> None:
+        """Draws one row, which the terminal cuts at its right edge. It slides to keep the cursor before that."""
+        columns = os.get_terminal_size(1).columns or 80
+        _, cursor = cell(ENDLESS, self.session.pos, self.session.text)
+        first = place_at(ENDLESS, (0, max(cursor + AHEAD - columns, 0)), self.session.before)
+        row = PROMPT + self.session.slice(first, len(self.session))
+        column = len(PROMPT) + width(self.session.slice(first, self.session.pos))
+        print(f"\r\x1b[?7l{row}\x1b[K\x1b[?7h\r\x1b[{column}C", end="", flush=True)
 
 
 def main() -> None:
-    """Edits lines in a terminal, and otherwise evaluates those of the input."""
-    if not (os.isatty(0) and os.isatty(1)):
+    """Edits lines in a terminal, or evaluates those of the input."""
+    if os.isatty(0) and os.isatty(1):
+        with RawTerminal() as terminal:
+            Calculator(terminal).run()
+    else:
         for line in open(0, encoding="utf-8", errors="replace"):
             print(evaluate(line), flush=True)
-        return
-    try:
-        with RawTerminal() as terminal:
-            edit(Session(limit_bytes=LIMIT), terminal)
-    finally:
-        print()
 
 
 if __name__ == "__main__":

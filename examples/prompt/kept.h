@@ -21,21 +21,27 @@
 /* Reads a whole file; free frees its bytes. Returns NULL if it can't be read, or memory is out. */
 static inline char *kept_read(const char *path, size_t *len) {
     int file = open(path, O_RDONLY);
-    off_t size = file < 0 ? -1 : lseek(file, 0, SEEK_END);
+    if (file < 0) return NULL;
+    off_t size = lseek(file, 0, SEEK_END);
     char *bytes = size < 0 ? NULL : malloc((size_t)size + 1);
-    if (bytes && pread(file, bytes, *len = (size_t)size, 0) != size) free(bytes), bytes = NULL;
-    if (file >= 0) close(file);
+    if (bytes && pread(file, bytes, (size_t)size, 0) != size) {
+        free(bytes);
+        bytes = NULL;
+    }
+    close(file);
+    *len = (size_t)size;
     return bytes;
 }
 
 /* Writes a whole file of that mode beside the old one, PATH.new, which then takes its place: so one of the two is whole
  * whenever the process ends. Returns whether it could. */
-static inline int kept_write(const char *path, mode_t mode, const char *bytes, size_t len) {
+static inline bool kept_write(const char *path, mode_t mode, const char *bytes, size_t len) {
     char beside[4096];
-    int is_named = snprintf(beside, sizeof beside, "%s.new", path) < (int)sizeof beside;
-    int file = is_named ? open(beside, O_WRONLY | O_CREAT | O_TRUNC, mode) : -1;
-    int is_written = file >= 0 && write(file, bytes, len) == (ssize_t)len && !fsync(file);
-    return file >= 0 && !close(file) && is_written && !rename(beside, path);
+    if (snprintf(beside, sizeof beside, "%s.new", path) >= (int)sizeof beside) return false;
+    int file = open(beside, O_WRONLY | O_CREAT | O_TRUNC, mode);
+    if (file < 0) return false;
+    bool is_written = write(file, bytes, len) == (ssize_t)len && fsync(file) == 0;
+    return close(file) == 0 && is_written && rename(beside, path) == 0;
 }
 
 /* Loads the session of a file, and gives it the options but for the size of its ring. Returns NULL if the file has none,
@@ -58,11 +64,11 @@ static inline lodvarn *kept_load(const char *path, lodvarn_options options) {
 
 /* Saves a session to a file that only its owner may read, since the ring has what was killed. Returns whether it
  * could. */
-static inline int kept_save(const char *path, lodvarn *s) {
+static inline bool kept_save(const char *path, lodvarn *s) {
     size_t len = 0;
     lodvarn_save(s, NULL, 0, &len);
     char *bytes = malloc(len);
-    int is_saved = bytes && lodvarn_save(s, bytes, len, &len) > 0 && kept_write(path, 0600, bytes, len);
+    bool is_saved = bytes && lodvarn_save(s, bytes, len, &len) > 0 && kept_write(path, 0600, bytes, len);
     free(bytes);
     return is_saved;
 }

@@ -2,15 +2,16 @@
 //! so that the cursor is always seen. Each line of standard input is a key, as `type abc`, `select-left` or `kill-word`,
 //! and is answered by what the field shows then, by the column of the cursor there, by what is selected, and by a star
 //! while the text is the one that was saved. In a text `\n` stands for a newline.
-use lodvarn::{clusters, width, At, Cluster, Fault, Inserted, Mode, Movement, Session, Word};
+use lodvarn::{clusters, width, At, Fault, Mode, Movement, Session, Word};
 use std::error::Error;
-use std::io::{self, BufRead, Write};
+use std::io;
 use std::ops::Range;
 
 /// The columns of the field. A cursor at the end of the text takes one of them.
 const WIDTH: usize = 10;
 /// How long the text may be, as a column of a database has it.
 const MAX_BYTES: usize = 16;
+const WORD_LEFT: Movement = Movement::BackwardWord(1, Word::Emacs);
 
 struct Field {
     session: Session,
@@ -21,6 +22,77 @@ struct Field {
 }
 
 impl Field {
+    /// Does what a key says, if there is something to do. False if there is no such key.
+    fn press(&mut self, line: &str) -> Result<bool, Fault> {
+        let (key, text) = line.split_once(' ').unwrap_or((line, ""));
+        if let Some(motion) = key.strip_prefix("select-") {
+            return Ok(self.go(motion));
+        }
+        if key == "undo" || key == "redo" {
+            return self.go_over(key);
+        }
+        let is_known = self.go(key) || self.edit(key, &text.replace("\\n", "\n"))?;
+        if is_known {
+            self.anchor = self.session.pos();
+        }
+        Ok(is_known)
+    }
+
+    /// Moves the cursor. False if there is no such motion.
+    fn go(&mut self, motion: &str) -> bool {
+        self.session.move_by(match motion {
+            "left" => Movement::BackwardChar(1),
+            "right" => Movement::ForwardChar(1),
+            "word-left" => WORD_LEFT,
+            "word-right" => Movement::ForwardWord(1, At::AfterEnd, Word::Emacs),
+            "home" => Movement::BeginningOfLine,
+            "end" => Movement::EndOfLine,
+            _ => return false,
+        });
+        true
+    }
+
+    /// Edits the text; what is selected gives way. False if there is no such edit.
+    fn edit(&mut self, key: &str, text: &str) -> Result<bool, Fault> {
+        let (selected, text) = (self.selected(), self.allowed(text)?);
+        let session = &mut self.session;
+        match key {
+            "type" | "paste" | "backspace" | "delete" if !selected.is_empty() => {
+                session.part();
+                session.replace(selected, &text)?;
+            }
+            "type" => {
+                for c in text.chars() {
+                    session.insert(c, 1)?;
+                }
+            }
+            "paste" => session.paste(&text, 1).map(drop)?,
+            "backspace" => session.backspace(1).map(drop)?,
+            "delete" => session.delete(1).map(drop)?,
+            "kill-word" => session.delete_by(WORD_LEFT).map(drop)?,
+            "save" => session.set_saved(),
+            _ => return Ok(false),
+        }
+        Ok(true)
+    }
+
+    /// Undoes or redoes, and selects what came in the place of something else.
+    fn go_over(&mut self, key: &str) -> Result<bool, Fault> {
+        self.session.take_change();
+        if key == "undo" {
+            self.session.undo(1)?;
+        } else {
+            self.session.redo()?;
+        }
+        self.anchor = self.session.pos();
+        let change = self.session.take_change();
+        if let Some(change) = change.filter(|it| it.old_to > it.from) {
+            self.session.set_pos(change.new_to)?;
+            self.anchor = change.from;
+        }
+        Ok(true)
+    }
+
     fn selected(&self) -> Range<usize> {
         let pos = self.session.pos();
         self.anchor.min(pos)..self.anchor.max(pos)
@@ -30,123 +102,71 @@ impl Field {
     fn allowed(&self, text: &str) -> Result<String, Fault> {
         let room = MAX_BYTES - (self.session.text().len() - self.selected().len());
         let mut allowed: String = text.chars().filter(|c| !c.is_control()).collect();
-        let ends = clusters(Mode::Unicode, &allowed)?
-            .into_iter()
-            .map(|it| it.to);
-        allowed.truncate(ends.take_while(|&it| it <= room).last().unwrap_or(0));
+        for cluster in clusters(Mode::Unicode, &allowed)? {
+            if cluster.to > room {
+                allowed.truncate(cluster.from);
+                break;
+            }
+        }
         Ok(allowed)
     }
 
-    /// Undoes or redoes, and selects what came in the place of something else.
-    fn go_over(&mut self, again: bool) -> Result<bool, Fault> {
-        let _seen = self.session.take_change();
-        let _is_done = if again {
-            self.session.redo()
-        } else {
-            self.session.undo(1)
-        }?;
-        self.anchor = self.session.pos();
-        if let Some(change) = self.session.take_change().filter(|it| it.old_to > it.from) {
-            self.session.set_pos(change.new_to)?;
-            self.anchor = change.from;
-        }
-        Ok(true)
+    /// The columns of the text from one place to another.
+    fn columns(&self, from: usize, to: usize) -> usize {
+        width(Mode::Unicode, &self.session.text()[from..to])
     }
 
-    /// Does what a key says, if there is something to do. False if there is no such key.
-    fn press(&mut self, line: &str) -> Result<bool, Fault> {
-        let (key, text) = line.split_once(' ').unwrap_or((line, ""));
-        let text = self.allowed(&text.replace("\\n", "\n"))?;
-        let (selected, session, word) = (self.selected(), &mut self.session, Word::Emacs);
-        let motion = key.strip_prefix("select-");
-        let _is_done = match motion.unwrap_or(key) {
-            "left" => session.move_by(Movement::BackwardChar(1)),
-            "right" => session.move_by(Movement::ForwardChar(1)),
-            "word-left" => session.move_by(Movement::BackwardWord(1, word)),
-            "word-right" => session.move_by(Movement::ForwardWord(1, At::AfterEnd, word)),
-            "home" => session.move_by(Movement::BeginningOfLine),
-            "end" => session.move_by(Movement::EndOfLine),
-            _ if motion.is_some() => return Ok(false),
-            "undo" | "redo" => return self.go_over(key == "redo"),
-            "save" => {
-                session.set_saved();
-                true
+    /// Scrolls no further than the cursor needs, and back if the rest of the text leaves room.
+    fn scroll(&mut self) -> Result<(), Fault> {
+        let (pos, end) = (self.session.pos(), self.session.text().len());
+        let at_cursor = self.session.cluster_at(pos)?;
+        let needed = at_cursor.map_or(1, |it| it.columns.max(1));
+        let mut first = 0;
+        for cluster in clusters(Mode::Unicode, self.session.text())? {
+            let may_begin = first >= self.first || self.columns(first, end) < WIDTH;
+            if first >= pos || may_begin && self.columns(first, pos) + needed <= WIDTH {
+                break;
             }
-            "kill-word" => session.delete_by(Movement::BackwardWord(1, word))?,
-            "type" | "paste" | "backspace" | "delete" if !selected.is_empty() => {
-                session.part();
-                session.replace(selected, &text)?;
-                true
-            }
-            "type" => text
-                .chars()
-                .try_fold(true, |_, c| session.insert(c, 1).map(|_| true))?,
-            "paste" => session.paste(&text, 1)? != Inserted::Nothing,
-            "backspace" => session.backspace(1)?,
-            "delete" => session.delete(1)?,
-            _ => return Ok(false),
-        };
-        if motion.is_none() {
-            self.anchor = self.session.pos();
+            first = cluster.to;
         }
-        Ok(true)
-    }
-
-    /// The field, the column of the cursor, what is selected, and a star if it is saved. It scrolls no further than the
-    /// cursor needs, and back if the rest of the text leaves room.
-    fn show(&mut self) -> Result<String, Fault> {
-        let (text, pos) = (self.session.text(), self.session.pos());
-        let places: Vec<Cluster> = clusters(Mode::Unicode, text)?;
-        let columns = |from: usize, to: usize| width(Mode::Unicode, &text[from..to]);
-        let cursor = places
-            .iter()
-            .find(|it| it.to > pos)
-            .map_or(1, |it| it.columns.max(1));
-        let may_begin = |from| from >= self.first || columns(from, text.len()) < WIDTH;
-        let shows = |from| may_begin(from) && columns(from, pos) + cursor <= WIDTH;
-        let found = places
-            .iter()
-            .map(|it| it.from)
-            .find(|&it| it >= pos || shows(it));
-        let first = found.map_or(pos, |it| it.min(pos));
-        let ends = places.iter().map(|it| it.to).filter(|&it| it > first);
-        let last = ends
-            .take_while(|&it| columns(first, it) <= WIDTH)
-            .last()
-            .unwrap_or(first);
-        let rest = " ".repeat(WIDTH - columns(first, last));
         self.first = first;
-        let (selected, star) = (
-            &text[self.selected()],
-            if self.session.is_saved() { "*" } else { "" },
-        );
-        let shown = format!(
-            "[{}{rest}] {} {selected}",
-            &text[first..last],
-            columns(first, pos)
-        );
+        Ok(())
+    }
+
+    /// The field, the column of the cursor, what is selected, and a star if it is saved.
+    fn show(&mut self) -> Result<String, Fault> {
+        self.scroll()?;
+        let text = self.session.text();
+        let mut last = self.first;
+        for cluster in clusters(Mode::Unicode, &text[self.first..])? {
+            if self.columns(self.first, self.first + cluster.to) <= WIDTH {
+                last = self.first + cluster.to;
+            }
+        }
+        let rest = " ".repeat(WIDTH - self.columns(self.first, last));
+        let column = self.columns(self.first, self.session.pos());
+        let selected = &text[self.selected()];
+        let shown = format!("[{}{rest}] {column} {selected}", &text[self.first..last]);
+        let star = if self.session.is_saved() { "*" } else { "" };
         Ok(format!("{}{star}", shown.trim_end()))
     }
 }
 
 /// Answers each key by a line.
-pub fn run(keys: impl BufRead, mut answers: impl Write) -> Result<(), Box<dyn Error>> {
-    let session = Session::builder().limit(MAX_BYTES).limit_holds(true).open()?;
+fn main() -> Result<(), Box<dyn Error>> {
+    let options = Session::builder().limit(MAX_BYTES).limit_holds(true);
     let mut field = Field {
-        session,
+        session: options.open()?,
         first: 0,
         anchor: 0,
     };
-    for line in keys.lines() {
+    for line in io::stdin().lines() {
         let line = line?;
-        match field.press(&line)? {
-            true => writeln!(answers, "{}", field.show()?)?,
-            false => writeln!(answers, "no such key: {line}")?,
+        if field.press(&line)? {
+            println!("{}", field.show()?);
+        } else {
+            println!("no such key: {line}");
         }
     }
     Ok(())
-}
-
-fn main() -> Result<(), Box<dyn Error>> {
-    run(io::stdin().lock(), io::stdout().lock())
 }
