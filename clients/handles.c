@@ -39,7 +39,8 @@ static void *closed(void *block) {
     return NULL;
 }
 
-/* This version knows one size. */
+/* This version knows one size. A later version puts no member into the padding at the end: the size would stay, and old
+ * programs leave anything there. */
 static bool is_known(const lodvarn_options *options) { return options->size == sizeof *options; }
 
 int lodvarn_open(lodvarn **out, const lodvarn_options *options, const char *text, size_t len) {

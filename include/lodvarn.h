@@ -43,6 +43,7 @@
  *   command, unless it is a read, lodvarn_kill_range, or lodvarn_yank_pop that is out of room: a kill after it begins a
  *   new text of the ring, and lodvarn_yank_pop after it finds nothing.
  * - Every other error: the whole session as it was.
+ * But a call that is refused may have kept what was undone, if the option keeps_undone is set.
  * A call writes to an argument only if it returns 1 or more, or TOO_SMALL. lodvarn_script writes in any case.
  *
  * Memory
@@ -217,11 +218,12 @@ typedef struct lodvarn_options {
     size_t max_bytes;      /* and they how many bytes of text. See lodvarn_set_options */
     size_t max_ring_bytes; /* how many bytes the texts of the ring may have together */
     bool limit_holds;      /* whether no call makes the text longer than the limit: see lodvarn_set_options */
+    bool keeps_undone;     /* whether each edit keeps what was undone: see lodvarn_keep_undone */
 } lodvarn_options;
 
 #define LODVARN_OPTIONS                                                                                            \
     { sizeof(lodvarn_options), LODVARN_UNICODE, 0, 4096, 60, LODVARN_NO_BOUND, LODVARN_NO_BOUND, LODVARN_NO_BOUND, \
-      false }
+      false, false }
 
 /* The kinds of movements. No program needs them: it calls the functions below. */
 enum lodvarn_movement_kind {
@@ -474,7 +476,8 @@ int lodvarn_part(lodvarn *s);
 int lodvarn_set_saved(lodvarn *s);
 
 /* Begins an undo group: once it is closed, one undo takes back all its changes. Groups may be nested. What was undone
- * is forgotten, also if nothing changes in the group: begin one only if a change is to come. Errors: NO_MEMORY. */
+ * is forgotten, or kept if keeps_undone is set, also if nothing changes in the group: begin one only if a change is to
+ * come. Errors: NO_MEMORY. */
 int lodvarn_begin_group(lodvarn *s);
 
 /* Closes the innermost group; lodvarn_end_all_groups all that are open. Returns NOTHING if it had no change, or none is
@@ -483,8 +486,8 @@ int lodvarn_end_group(lodvarn *s);
 int lodvarn_end_all_groups(lodvarn *s);
 
 /* Takes the group up again that was closed last, if nothing was recorded after it: it is open, and what comes is a part
- * of it, until it is closed once more. What was undone is forgotten then. Returns NOTHING if there is no such group,
- * and the record stays. */
+ * of it, until it is closed once more. What was undone is forgotten then. Returns NOTHING if there is no such group, or
+ * if keeps_undone is set and there is a change to redo; the record stays then. */
 int lodvarn_reopen_group(lodvarn *s);
 
 /* Takes back the innermost group that is open, with those that were closed in it, and forgets it, as for a completion
@@ -512,8 +515,9 @@ int lodvarn_redo(lodvarn *s);
  * nothing can be redone. So an undo of n goes to where n redos would have gone, as many undos more come back, and those
  * after them go on to what was recorded before. A bound counts all of these, and so does lodvarn_is_saved: only undos
  * come back to the save. The next change joins none of these, and the ring stays: so it may come before each edit, also
- * between kills, and before lodvarn_yank_pop. Returns NOTHING if nothing was undone, and the record stays. Errors:
- * NO_MEMORY. */
+ * between kills, and before lodvarn_yank_pop. If the option keeps_undone is set, each edit, and each begin and end of a
+ * group, does this first, also if it then finds nothing to do; but lodvarn_abandon_group, lodvarn_truncate and
+ * lodvarn_restart still forget. Returns NOTHING if nothing was undone, and the record stays. Errors: NO_MEMORY. */
 int lodvarn_keep_undone(lodvarn *s);
 
 /* Keeps the first entries of the record, as many as the argument says, and forgets the others and what was undone. The
@@ -631,7 +635,8 @@ bool lodvarn_can_redo(lodvarn *s);
 
 /* Returns whether the text is the one for which lodvarn_set_saved was called last, by the record: it was not changed
  * since, or undos, redos and abandons came back to it. It is false for good once a change that was made before the save
- * is dropped, since its group was abandoned or something else was done after it was undone, or forgotten. */
+ * is dropped, since its group was abandoned or something else was done after it was undone and not kept, or
+ * forgotten. */
 bool lodvarn_is_saved(lodvarn *s);
 
 /* Returns how many texts the kill ring has. */

@@ -76,13 +76,14 @@ static void read_reports(struct copy *c, int has_texts, unsigned most, unsigned 
     }
 }
 
-/* Bounds record and ring, or lets them grow. */
+/* Bounds record and ring, or lets them grow; and lets edits keep what was undone, or drop it. */
 static int bound(void) {
     lodvarn_options options = LODVARN_OPTIONS;
     if (lodvarn_get_options(s, &options) != LODVARN_DONE) exit(2);
     options.max_entries = below(2) ? most : LODVARN_NO_BOUND;
     options.max_bytes = below(2) ? most : LODVARN_NO_BOUND;
     options.max_ring_bytes = below(2) ? most : LODVARN_NO_BOUND;
+    options.keeps_undone = below(2);
     return lodvarn_set_options(s, &options);
 }
 

@@ -75,6 +75,16 @@ OPENS(opens, lodvarn, lodvarn_open(&opened, NULL, start, 5), lodvarn_close)
 OPENS(opens_a_line, lodvarn_line, lodvarn_line_open(&opened, 64, false, start, 5), lodvarn_line_close)
 OPENS(opens_a_record, lodvarn_record, lodvarn_record_open(&opened), lodvarn_record_close)
 OPENS(opens_a_ring, lodvarn_killring, lodvarn_killring_open(&opened, 2), lodvarn_killring_close)
+static char saved[1 << 14];
+static size_t saved_len;
+OPENS(loads, lodvarn, lodvarn_load(&opened, saved, saved_len), lodvarn_close)
+
+static int keeps_undone(void) {
+    lodvarn_options options = LODVARN_OPTIONS;
+    must(lodvarn_get_options(s, &options) > 0);
+    options.keeps_undone = true;
+    return lodvarn_set_options(s, &options);
+}
 
 /* The calls of a session that may take memory, one after the other. */
 static int step(unsigned which) {
@@ -126,7 +136,14 @@ static int step(unsigned which) {
     CALL(lodvarn_begin_group(s));
     CALL(lodvarn_replace(s, range(0, 1), "é", 2));
     CALL(lodvarn_undo(s, 3));
-    CALL(lodvarn_keep_undone(s));
+    CALL(keeps_undone());
+    CALL(lodvarn_delete_range(s, range(0, 0))); /* all that it does is to keep what was undone */
+    CALL(lodvarn_undo(s, 2));
+    STEPS(lodvarn_paste(s, "x y", 3, 2));
+    CALL(lodvarn_undo(s, 3));
+    STEPS(lodvarn_begin_group(s));
+    CALL(lodvarn_save(s, saved, sizeof saved, &saved_len));
+    CALL(loads());
     return NO_MORE;
 }
 
@@ -231,10 +248,10 @@ static void print_state(char *to, size_t cap) {
     lodvarn_options now = LODVARN_OPTIONS;
     lodvarn_view own, of_line;
     must(lodvarn_text(s, &own) > 0 && lodvarn_line_text(l, &of_line) > 0 && lodvarn_get_options(s, &now) > 0);
-    snprintf(to, cap, "%.*s %zu %zu %zu %zu %.*s %zu %zu %zu %zu %zu %zu", (int)own.len, own.at, lodvarn_pos(s),
-             now.limit, lodvarn_entries(s), lodvarn_level(s), (int)of_line.len, of_line.at, lodvarn_line_pos(l),
-             lodvarn_line_limit(l), lodvarn_line_count_reports(l), lodvarn_record_entries(r), lodvarn_record_level(r),
-             lodvarn_killring_count(g));
+    snprintf(to, cap, "%.*s %zu %zu %zu %zu %d %.*s %zu %zu %zu %zu %zu %zu", (int)own.len, own.at, lodvarn_pos(s),
+             now.limit, lodvarn_entries(s), lodvarn_level(s), lodvarn_can_redo(s), (int)of_line.len, of_line.at,
+             lodvarn_line_pos(l), lodvarn_line_limit(l), lodvarn_line_count_reports(l), lodvarn_record_entries(r),
+             lodvarn_record_level(r), lodvarn_killring_count(g));
 }
 
 /* After everything is undone the text is the first one. */

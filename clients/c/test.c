@@ -154,18 +154,18 @@ static int has_chosen(const lodvarn_options *wanted) {
     return now.size == sizeof now && now.mode == wanted->mode && now.prompt == wanted->prompt
         && now.limit == wanted->limit && now.ring_size == wanted->ring_size && now.max_entries == wanted->max_entries
         && now.max_bytes == wanted->max_bytes && now.max_ring_bytes == wanted->max_ring_bytes
-        && now.limit_holds == wanted->limit_holds;
+        && now.limit_holds == wanted->limit_holds && now.keeps_undone == wanted->keeps_undone;
 }
 
 static void options_are_chosen(void) {
     static const lodvarn_options defaults = LODVARN_OPTIONS,
-                                 first = {sizeof first, Z, 65535, 64, 3, 5, 90, 9, true},
+                                 first = {sizeof first, Z, 65535, 64, 3, 5, 90, 9, true, false},
                                  second = {sizeof second, W, 0, LODVARN_NO_LIMIT,
-                                           3, LODVARN_NO_BOUND, 0, LODVARN_NO_BOUND, false};
+                                           3, LODVARN_NO_BOUND, 0, LODVARN_NO_BOUND, false, true};
     lodvarn_close(&s);
     SEE(defaults.mode == LODVARN_UNICODE && defaults.prompt == 0 && defaults.limit == 4096 && defaults.ring_size == 60);
     SEE(defaults.max_entries == LODVARN_NO_BOUND && defaults.max_bytes == LODVARN_NO_BOUND);
-    SEE(defaults.max_ring_bytes == LODVARN_NO_BOUND);
+    SEE(defaults.max_ring_bytes == LODVARN_NO_BOUND && !defaults.limit_holds && !defaults.keeps_undone);
     SEE(lodvarn_open(&s, NULL, "ab", 2) == LODVARN_DONE && has_chosen(&defaults));
     lodvarn_close(&s);
     SEE(lodvarn_open(&s, &first, "ab", 2) == LODVARN_DONE && has_chosen(&first));
@@ -451,6 +451,85 @@ static void what_was_undone_is_kept(void) {
     SEE(lodvarn_keep_undone(s) == LODVARN_DONE && lodvarn_entries(s) == 2);
     DOES(DONE, lodvarn_undo(s, 1), "-+|");
     DOES(DONE, lodvarn_undo(s, 9), "-|");
+}
+
+/* A session in which "-" was typed after "one two", and undone. */
+static void begin_undone(bool keeps) {
+    open_at("one two|", 64);
+    must(SET(keeps_undone, keeps) > 0 && lodvarn_keep(s, "kept", 4) > 0);
+    must(lodvarn_insert(s, '-', 1) > 0 && lodvarn_undo(s, 1) > 0);
+}
+
+/* Whether undos come to the text that was undone. */
+static int comes_back(void) {
+    lodvarn_view text;
+    while (lodvarn_entries(s) > 0 && lodvarn_undo(s, 1) >= 0)
+        if (lodvarn_text(s, &text) > 0 && is(text, "one two-")) return 1;
+    return 0;
+}
+
+/* The call keeps what was undone if that is chosen; or it does not, and what was undone waits on or is forgotten. */
+#define KEEPS(call) UNDONE(call, comes_back() == keeps)
+#define PASSES(call) UNDONE(call, lodvarn_can_redo(s) && !comes_back())
+#define FORGETS(call) UNDONE(call, !lodvarn_can_redo(s) && !comes_back())
+#define UNDONE(call, holds)                                                                              \
+    for (int keeps = 0; keeps < 2; keeps++) {                                                            \
+        begin_undone(keeps);                                                                             \
+        int answer = (call);                                                                             \
+        if (!see(#call, (holds))) printf("  after %s, %d\n", lodvarn_answer_name(answer), keeps);        \
+    }
+
+static void edits_keep_what_was_undone(void) {
+    char copied[8];
+    size_t len;
+    KEEPS(lodvarn_insert(s, '+', 1));
+    KEEPS(lodvarn_insert(s, '+', 65535));
+    KEEPS(lodvarn_paste(s, "+", 1, 1));
+    KEEPS(lodvarn_yank(s, 1));
+    KEEPS(lodvarn_yank_pop(s));
+    KEEPS(lodvarn_set_text(s, 0, "+", 1));
+    KEEPS(lodvarn_insert_at(s, 0, "+", 1));
+    KEEPS(lodvarn_replace(s, range(0, 1), "+", 1));
+    KEEPS(lodvarn_delete_range(s, range(0, 1)));
+    KEEPS(lodvarn_delete_range(s, range(0, 9)));
+    KEEPS(lodvarn_delete(s, 1));
+    KEEPS(lodvarn_backspace(s, 1));
+    KEEPS(lodvarn_delete_by(s, lodvarn_to_line_start()));
+    KEEPS(lodvarn_transpose_chars(s));
+    KEEPS(lodvarn_transpose_words(s, 1));
+    KEEPS(lodvarn_change_case(s, LODVARN_UPPERCASE));
+    KEEPS(lodvarn_kill(s, WORD_BACK));
+    KEEPS(lodvarn_kill_range(s, range(0, 1), LODVARN_FORWARD));
+    KEEPS(lodvarn_indent(s, lodvarn_whole_text(), 1, LODVARN_INDENT));
+    KEEPS(lodvarn_begin_group(s));
+    KEEPS(lodvarn_end_group(s));
+    KEEPS(lodvarn_end_all_groups(s));
+    PASSES(lodvarn_insert(s, '+', 0));
+    PASSES(lodvarn_insert(s, '+', 65536));
+    PASSES(lodvarn_paste(s, "\xff", 1, 1));
+    PASSES(lodvarn_set_pos(s, 0));
+    PASSES(lodvarn_move(s, WORD_BACK));
+    PASSES(lodvarn_copy(s, WORD_BACK, copied, sizeof copied, &len));
+    PASSES(lodvarn_keep(s, "+", 1));
+    PASSES(lodvarn_part(s));
+    PASSES(lodvarn_set_saved(s));
+    PASSES(lodvarn_undo(s, 1));
+    PASSES(lodvarn_abandon_group(s));
+    PASSES(lodvarn_reopen_group(s));
+    FORGETS(lodvarn_truncate(s, 0));
+    FORGETS(lodvarn_restart(s, "+", 1));
+    begin_undone(true);
+    lodvarn_insert(s, '+', 1), lodvarn_undo(s, 1);
+    lodvarn_begin_group(s), lodvarn_kill(s, WORD_BACK), lodvarn_end_group(s);
+    DOES(DONE, lodvarn_undo(s, 1), "one two|#two#kept");
+    DOES(DONE, lodvarn_undo(s, 1), "one two+|#two#kept");
+    DOES(DONE, lodvarn_undo(s, 2), "one two-|#two#kept");
+    DOES(DONE, lodvarn_undo(s, 1), "one two|#two#kept");
+    DOES(NOTHING, lodvarn_undo(s, 1), "one two|#two#kept");
+    lodvarn_begin_group(s), lodvarn_insert(s, '-', 1), lodvarn_end_group(s);
+    lodvarn_insert(s, '+', 1), lodvarn_undo(s, 1);
+    SEE(lodvarn_reopen_group(s) == LODVARN_NOTHING && lodvarn_can_redo(s));
+    SEE(SET(keeps_undone, false) > 0 && lodvarn_reopen_group(s) == LODVARN_DONE && !lodvarn_can_redo(s));
 }
 
 static void options_take_effect(void) {
@@ -869,6 +948,7 @@ static void print_state(char *to, size_t cap) {
     fprintf(file, " %d %d", lodvarn_can_undo(s), lodvarn_can_redo(s));
     fprintf(file, " %d %u %zu %zu %zu %zu %zu", now.mode, (unsigned)now.prompt, now.limit, now.ring_size,
             now.max_entries, now.max_bytes, now.max_ring_bytes);
+    fprintf(file, " %d %d", now.limit_holds, now.keeps_undone);
     fprintf(file, " %zu %d %zu %zu", lodvarn_count_reports(s), report.kind, report.at, report.old_len);
     fclose(file);
 }
@@ -912,7 +992,7 @@ static int has_left_all(int yanked, int parts) {
 
 /* Options that differ from the session's, but in the size of the ring if that is 60. */
 static const lodvarn_options *other_options(size_t size, int mode, size_t ring_size) {
-    options = (lodvarn_options){size, (enum lodvarn_mode)mode, 7, 99, ring_size, 1, 1, 1, true};
+    options = (lodvarn_options){size, (enum lodvarn_mode)mode, 7, 99, ring_size, 1, 1, 1, true, true};
     return &options;
 }
 
@@ -1461,7 +1541,8 @@ static char *saved(size_t *len) {
 static void print_all(FILE *to) {
     options = chosen();
     fprintf(to, "%zu %zu %d %d ", lodvarn_entries(s), lodvarn_level(s), lodvarn_can_undo(s), lodvarn_can_redo(s));
-    fprintf(to, "%d %d %d ", lodvarn_is_saved(s), lodvarn_last_was_yank(s), options.limit_holds);
+    fprintf(to, "%d %d ", lodvarn_is_saved(s), lodvarn_last_was_yank(s));
+    fprintf(to, "%d %d ", options.limit_holds, options.keeps_undone);
     fprintf(to, "%zu %zu %d %d ", options.limit, options.ring_size, options.mode, options.prompt);
     fprintf(to, "%zu %zu %zu ", options.max_entries, options.max_bytes, options.max_ring_bytes);
     print_ring(to);
@@ -1509,7 +1590,8 @@ static void a_session_is_saved_and_loaded(void) {
         begin_script();
         run("text one two");
         must(SET(mode, Z) > 0 && SET(prompt, 7) > 0 && SET(max_entries, 90 + i) > 0 && SET(max_ring_bytes, 80 + i) > 0);
-        must(SET(limit, 500 + i) > 0 && SET(limit_holds, i % 2) > 0 && (i % 3 || lodvarn_watch(s, 1, 0) > 0));
+        must(SET(limit, 500 + i) > 0 && SET(limit_holds, i % 2) > 0 && SET(keeps_undone, i % 4 == 1) > 0);
+        must(i % 3 || lodvarn_watch(s, 1, 0) > 0);
         for (char *line = strtok(strcpy(lines, kept[i][0]), ";"); line; line = strtok(NULL, ";")) {
             run(line);
             if (line == lines) lodvarn_set_saved(s);
@@ -1575,6 +1657,7 @@ int main(void) {
     groups_are_closed();
     groups_are_abandoned();
     what_was_undone_is_kept();
+    edits_keep_what_was_undone();
     options_take_effect();
     widths_are_measured();
     clusters_are_found();

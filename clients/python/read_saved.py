@@ -13,7 +13,7 @@ def read(saved):
     if saved[:8] != b"lodvarn\1" or saved[-16:] != hashlib.md5(saved[:-16]).digest():
         raise ValueError("this is no saved session, or a damaged one")
     rest = io.BytesIO(saved[8:-16])
-    _, cursor, *_, size = struct.unpack("<10Q", rest.read(80))
+    _, cursor, *_, size = struct.unpack("<11Q", rest.read(88))
     yield "text", rest.read(size).decode()
     yield "cursor", cursor  # Places count bytes of UTF-8.
     for _ in range(struct.unpack("<7Q", rest.read(56))[6]):

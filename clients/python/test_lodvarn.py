@@ -168,11 +168,11 @@ class Places(Scripts):
 class Values(Scripts):
     def test_options_are_read_and_set(self):
         given = {"limit_bytes": 4096, "ring_size": 60, "mode": Mode.UNICODE, "prompt": 0}
-        given.update(max_entries=None, max_bytes=None, max_ring_bytes=None, limit_holds=False)
+        given.update(max_entries=None, max_bytes=None, max_ring_bytes=None, limit_holds=False, keeps_undone=False)
         session = Session()
         self.assertEqual({name: getattr(session, name) for name in given}, given)
         chosen = [("limit_bytes", None), ("mode", Mode.NO_ZWJ), ("prompt", 3), ("max_entries", 0), ("max_bytes", 1)]
-        chosen += [("max_ring_bytes", 2), ("limit_holds", True)]
+        chosen += [("max_ring_bytes", 2), ("limit_holds", True), ("keeps_undone", True)]
         for name, value in chosen:
             given[name] = value
             setattr(session, name, value)
@@ -291,6 +291,27 @@ class Groups(Scripts):
         self.stands(session, "né", 2)
         self.assertEqual((session.entries, session.undo()), (0, False))
 
+    def test_edits_keep_what_was_undone(self):
+        def type_in_group(session):
+            with session.group(reopen=True):
+                session.insert("b")
+
+        for edit, kept, forgotten in [
+            (lambda it: it.insert("b"), ["", "é-", ""], [""]),
+            (type_in_group, ["", "é-", ""], [""]),
+            (lambda it: it.delete(), ["é-", ""], []),
+            (lambda it: it.undo(), [], []),
+        ]:
+            for keeps, wanted in [(True, kept), (False, forgotten)]:
+                session, seen = Session(keeps_undone=keeps), []
+                session.paste("é-")
+                session.undo()
+                session = copy.copy(session)
+                edit(session)
+                while session.undo():
+                    seen.append(session.text)
+                self.assertEqual((seen, session.keeps_undone), (wanted, keeps))
+
     def test_it_hides_no_exception(self):
         session = Session("")
         with mock.patch.object(Session, "end_group", side_effect=lodvarn.NoMemoryError):
@@ -335,7 +356,7 @@ class Noted(Session):
 def edited(kind=Session):
     """A session with a ring of two texts, an open group, and a change that was undone."""
     options = {"limit_bytes": 100, "ring_size": 3, "mode": Mode.NO_ZWJ, "prompt": 2, "max_entries": 50}
-    session = kind("né two", **options, max_bytes=99, max_ring_bytes=98, limit_holds=True)
+    session = kind("né two", **options, max_bytes=99, max_ring_bytes=98, limit_holds=True, keeps_undone=True)
     session.kill(BACK)
     session.keep("日本")
     session.set_saved()
@@ -916,6 +937,7 @@ class Mirrors(Scripts):
             do(session, word, [some(rng, session, it) for it in WORDS[word][0]])
             if rng.random() < 0.03:
                 session.max_bytes = session.max_ring_bytes = rng.choice([None, 300])
+                session.keeps_undone = rng.random() < 0.5
                 session.restart(rng.choice(PIECES))
         except (lodvarn.NoSuchNumberError, lodvarn.NoMemoryError) as fault:
             self.refused += isinstance(fault, MemoryError)

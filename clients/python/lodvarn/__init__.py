@@ -39,7 +39,7 @@ __version__ = "0.1.0"
 
 class LodvarnError(Exception):
     """A call was refused. Text, cursor and record are as they were, except that an edit of several steps which ran out
-    of memory stops after the steps that it made."""
+    of memory stops after the steps that it made, and that with `keeps_undone` what was undone may be kept."""
 
 
 class NoMemoryError(LodvarnError, MemoryError):
@@ -459,6 +459,7 @@ class Session:
         max_bytes: Optional[int] = None,
         max_ring_bytes: Optional[int] = None,
         limit_holds: bool = False,
+        keeps_undone: bool = False,
     ) -> None:
         """Opens a session on a text, with the cursor at its end.
 
@@ -469,7 +470,7 @@ class Session:
             "size": ffi.sizeof("lodvarn_options"), "mode": _of(Mode, mode).value, "prompt": prompt,
             "limit": _or_most(limit_bytes), "ring_size": ring_size,
             "max_entries": _or_most(max_entries), "max_bytes": _or_most(max_bytes),
-            "max_ring_bytes": _or_most(max_ring_bytes), "limit_holds": limit_holds,
+            "max_ring_bytes": _or_most(max_ring_bytes), "limit_holds": limit_holds, "keeps_undone": keeps_undone,
         }
         self._open(lib.py_open, [options], *_sent(text))
 
@@ -741,7 +742,7 @@ class Session:
     def begin_group(self) -> None:
         """Begins an undo group: once it is closed, one undo takes back all its changes. Groups may be nested.
 
-        What was undone is forgotten, also if nothing changes in the group.
+        What was undone is forgotten, or kept with `keeps_undone`, also if nothing changes in the group.
         """
         self._do(lib.py_begin_group)
 
@@ -756,7 +757,8 @@ class Session:
     def reopen_group(self) -> bool:
         """Takes the group up again that was closed last, so that what comes is a part of it.
 
-        What was undone is forgotten then. Returns False if something was recorded after it, or there is none.
+        What was undone is forgotten then. Returns False if something was recorded after it, or there is none, or with
+        `keeps_undone` if there is a change to redo.
         """
         return self._do(lib.py_reopen_group)
 
@@ -772,7 +774,7 @@ class Session:
     def group(self, reopen: bool = False) -> Iterator[None]:
         """Makes one undo of the changes that are made inside of a `with`, also if an exception ends it.
 
-        With `reopen` it goes on with the group that was closed last, if nothing was recorded after that.
+        With `reopen` it goes on with the group that was closed last, if `reopen_group` takes that up again.
         It closes the groups that were begun inside of it, and no others, so one may stand in another. If that is
         refused after an exception, groups stay open and the exception goes on.
         """
@@ -806,7 +808,8 @@ class Session:
         It is recorded again, and then the inverse of each of its changes and groups, the last first. Text and cursor
         stay, and nothing can be redone. Then an undo of n goes to where n redos would have gone, as many undos more
         come back, and those after them go on to what was recorded before. The next change joins none of these, and
-        the ring stays: so it may come before each edit, also between kills. Returns False if nothing was undone.
+        the ring stays: so it may come before each edit, also between kills. With `keeps_undone` each edit does it by
+        itself. Returns False if nothing was undone.
         """
         return self._do(lib.py_keep_undone)
 
@@ -1099,6 +1102,18 @@ class Session:
     @limit_holds.setter
     def limit_holds(self, holds: bool) -> None:
         self._choose("limit_holds", holds)
+
+    @property
+    def keeps_undone(self) -> bool:
+        """Whether each edit, and each begin and end of a group, first does what the call `keep_undone` does.
+
+        So it forgets nothing that was undone: undos come to that, also if the edit then finds nothing to do.
+        """
+        return bool(self._options().keeps_undone)
+
+    @keeps_undone.setter
+    def keeps_undone(self, keeps: bool) -> None:
+        self._choose("keeps_undone", keeps)
 
 
 def run_script(script: bytes) -> bytes:

@@ -114,6 +114,7 @@ pub struct lodvarn_options {
     pub max_bytes: usize,
     pub max_ring_bytes: usize,
     pub limit_holds: bool,
+    pub keeps_undone: bool,
 }
 pub const LODVARN_WHOLE_LINE_: lodvarn_movement_kind = 100;
 pub const LODVARN_TO_LINE_START_: lodvarn_movement_kind = 101;

@@ -32,6 +32,7 @@ pub const LODVARN_OPTIONS: lodvarn_options = lodvarn_options {
     max_bytes: LODVARN_NO_BOUND,
     max_ring_bytes: LODVARN_NO_BOUND,
     limit_holds: false,
+    keeps_undone: false,
 };
 
 #[cfg(test)]

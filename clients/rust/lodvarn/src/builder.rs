@@ -96,6 +96,12 @@ impl<'t> SessionBuilder<'t> {
         self
     }
 
+    /// Lets no edit drop what was undone, as [`Options::keeps_undone`] says.
+    pub fn keeps_undone(mut self, keeps_undone: bool) -> Self {
+        self.options.keeps_undone = keeps_undone;
+        self
+    }
+
     /// Opens the session. No room is found for the limit before it is needed.
     ///
     /// # Errors

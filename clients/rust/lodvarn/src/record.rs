@@ -131,8 +131,8 @@ impl Session {
 
 methods! {
     /// Begins an undo group: once it is closed, one undo takes back all its changes. It may stay open from one key to
-    /// the next, where the guard of [`group`](Session::group) can't be held. What was undone is forgotten, also if
-    /// nothing changes in the group.
+    /// the next, where the guard of [`group`](Session::group) can't be held. What was undone is forgotten, or kept with
+    /// [`Options::keeps_undone`], also if nothing changes in the group.
     ///
     /// # Errors
     ///
@@ -147,7 +147,8 @@ methods! {
     pub fn end_group(&mut self) -> Result<bool, Fault> = found(lodvarn_end_group());
 
     /// Takes the group up again that was closed last, so that what comes is a part of it, until it is closed once more. What
-    /// was undone is forgotten then. False if something was recorded after it, or there is none.
+    /// was undone is forgotten then. False if something was recorded after it, or there is none, or with
+    /// [`Options::keeps_undone`] if there is a change to redo.
     pub fn reopen_group(&mut self) -> bool = is_done(lodvarn_reopen_group());
 
     /// Takes back the innermost group that is open, with those that were closed in it, and forgets it, as for a
@@ -198,7 +199,8 @@ methods! {
     /// and then the inverse of each of its changes and groups, the last first. Text and cursor stay, and nothing can be
     /// redone. Then an undo of n goes to where n redos would have gone, as many undos more come back, and those after
     /// them go on to what was recorded before. The next change joins none of these, and the ring stays: so it
-    /// may come before each edit, also between kills. False if nothing was undone.
+    /// may come before each edit, also between kills. With [`Options::keeps_undone`] each edit does it by itself. False
+    /// if nothing was undone.
     ///
     /// ```
     /// # use lodvarn::{Fault, Session};

@@ -244,6 +244,9 @@ pub struct Options {
     pub max_ring_bytes: Option<usize>,
     /// Whether no command makes the text longer than the limit: what would is refused with [`Fault::NoRoom`].
     pub limit_holds: bool,
+    /// Whether each edit, and each begin and end of a group, first does what
+    /// [`keep_undone`](crate::Session::keep_undone) does, so that it drops nothing that was undone.
+    pub keeps_undone: bool,
 }
 
 impl Options {
@@ -258,6 +261,7 @@ impl Options {
             max_bytes: self.max_bytes.unwrap_or(ffi::LODVARN_NO_BOUND),
             max_ring_bytes: self.max_ring_bytes.unwrap_or(ffi::LODVARN_NO_BOUND),
             limit_holds: self.limit_holds,
+            keeps_undone: self.keeps_undone,
             ..ffi::LODVARN_OPTIONS
         }
     }
@@ -276,6 +280,7 @@ impl Options {
             max_bytes: bounded(options.max_bytes, ffi::LODVARN_NO_BOUND),
             max_ring_bytes: bounded(options.max_ring_bytes, ffi::LODVARN_NO_BOUND),
             limit_holds: options.limit_holds,
+            keeps_undone: options.keeps_undone,
         }
     }
 }
@@ -395,7 +400,7 @@ impl Inserted {
 }
 
 /// Why a call was refused. Text, cursor, record and limit are as they were. But an edit of several steps that runs out of
-/// memory stops after the steps that it made.
+/// memory stops after the steps that it made, and with [`Options::keeps_undone`] what was undone may be kept.
 #[derive(Clone, Copy, Debug, PartialEq, Eq, Hash)]
 #[non_exhaustive]
 pub enum Fault {

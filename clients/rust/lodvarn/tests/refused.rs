@@ -87,10 +87,11 @@ fn fault_of<A>(call: impl FnOnce() -> A) -> Result<A, Fault> {
 
 fn session() -> Session {
     let text = "one two three ".repeat(20);
-    let session = Session::builder().text(&text).no_limit().open();
-    let mut session = session.expect("a session opens");
+    let session = Session::builder().text(&text).no_limit();
+    let mut session = session.keeps_undone(true).open().expect("a session opens");
     session.keep(&"kept ".repeat(30)).expect("it is kept");
     assert_eq!(session.kill(WORD_BACK), Ok(true));
+    assert_eq!(session.insert('-', 1).and(session.undo(1)), Ok(true));
     session
 }
 
@@ -123,12 +124,17 @@ fn sessions_say_that_memory_is_refused() {
         change_case(Case::Uppercase),
         indent(Movement::WholeLine, 200),
         begin_group(),
+        end_group(),
         undo(1),
         watch(9, 999),
         group(),
         to_bytes(),
     ];
-    let left = |s: &mut Session| assert!(s.text().is_char_boundary(s.pos()));
+    let left = |s: &mut Session| {
+        assert!(s.text().is_char_boundary(s.pos()));
+        // What was undone waits, or is kept beside the kill.
+        assert!(s.can_redo() || s.entries() >= 3);
+    };
     let counted = calls
         .into_iter()
         .map(|(what, call)| refuse(what, session, call, left));

@@ -82,9 +82,10 @@ fn options_are_loaded() -> Result<(), Fault> {
     let bounded = bounded.ring_size(1).max_entries(5).max_bytes(50);
     let bounded = bounded.max_ring_bytes(9).limit_holds(true);
     let free = Session::builder().no_limit().ring_size(0);
-    for built in [Session::builder(), bounded, free.mode(Mode::WcWidth)] {
+    let free = free.mode(Mode::WcWidth).keeps_undone(true);
+    for built in [Session::builder(), bounded, free] {
         // No text, record and ring have no bytes: these are the numbers, the heading and the checksum.
-        assert_eq!(reloaded(&built.open()?).to_bytes()?.len(), 208);
+        assert_eq!(reloaded(&built.open()?).to_bytes()?.len(), 216);
     }
     Ok(())
 }

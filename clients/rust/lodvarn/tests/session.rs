@@ -48,11 +48,13 @@ fn options_are_those_that_were_set() -> Result<(), Fault> {
     (options.limit, options.ring_size) = (Some(20), 1);
     (options.max_entries, options.max_bytes) = (Some(5), Some(50));
     (options.max_ring_bytes, options.limit_holds) = (Some(9), true);
+    options.keeps_undone = true;
     let built = Session::builder().mode(Mode::NoZwj).prompt(3).limit(20);
     let built = built.ring_size(1).max_entries(5).max_bytes(50);
     let built = built.max_ring_bytes(9).limit_holds(true);
-    let mut session = built.open()?;
+    let mut session = built.keeps_undone(true).open()?;
     assert_eq!(session.options(), options);
+    options.keeps_undone = false;
     (options.mode, options.limit, options.max_bytes) = (Mode::WcWidth, None, None);
     session.set_options(&options)?;
     assert_eq!(session.options(), options);
@@ -199,6 +201,37 @@ fn what_was_undone_is_kept() -> Result<(), Fault> {
     session.undo(1)?;
     stands(&session, "né", 3);
     assert_eq!((session.entries(), session.undo(1)), (0, Ok(false)));
+    Ok(())
+}
+
+#[test]
+fn edits_keep_what_was_undone() -> Result<(), Fault> {
+    type Edit = fn(&mut Session) -> Result<(), Fault>;
+    // An edit after "-" was pasted and undone, and the texts that undos come to then, with the option and without.
+    let rows: [(Edit, &[&str], &[&str]); 4] = [
+        (|s| s.insert('b', 1).map(drop), &["", "-", ""], &[""]),
+        (
+            |s| s.group()?.insert('b', 1).map(drop),
+            &["", "-", ""],
+            &[""],
+        ),
+        (|s| s.end_group().map(drop), &["-", ""], &[]),
+        (|s| s.keep("b"), &[], &[]),
+    ];
+    for (row, (edit, kept, dropped)) in rows.into_iter().enumerate() {
+        for (keeps, wanted) in [(true, kept), (false, dropped)] {
+            let mut session = Session::builder().keeps_undone(keeps).open()?;
+            session.paste("-", 1)?;
+            session.undo(1)?;
+            let mut session = Session::from_bytes(&session.to_bytes()?)?;
+            edit(&mut session)?;
+            let mut texts = Vec::new();
+            while session.undo(1)? {
+                texts.push(session.text().to_string());
+            }
+            assert_eq!(texts, wanted, "row {row}, {keeps}");
+        }
+    }
     Ok(())
 }
 

@@ -136,9 +136,10 @@ pub fn command(s: &mut Session, random: &mut Random) -> Result<(), Fault> {
 /// Changes an option of a session at random.
 fn change_options(s: &mut Session, random: &mut Random) -> Result<(), Fault> {
     let mut options = s.options();
-    match random.below(3) {
+    match random.below(4) {
         0 => options.limit = Some(random.below(257)),
         1 => options.prompt = random.count(),
+        2 => options.keeps_undone = random.below(2) > 0,
         _ => {
             let bounds = [(None, None), (Some(40), Some(1000)), (Some(100), Some(200))];
             (options.max_entries, options.max_bytes) = random.one(&bounds);
