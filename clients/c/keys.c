@@ -66,8 +66,6 @@ static int press(const char *word) {
     if (IS("M-_")) return lodvarn_redo(s);
     if (IS("RET")) return accept_line();
     if (!strncmp(word, "C-]", 3)) return find_in_line((unsigned char)word[3], 1);
-    /* No edit loses what was undone: undos come to it. */
-    lodvarn_keep_undone(s);
     if (IS("C-k")) return lodvarn_kill(s, lodvarn_to_line_end());
     if (IS("C-w")) return lodvarn_kill(s, lodvarn_words_back(LODVARN_BIG, 1));
     if (IS("M-d")) return lodvarn_kill(s, lodvarn_words_forward(LODVARN_EMACS, LODVARN_AFTER_END, 1));
@@ -84,6 +82,7 @@ int main(void) {
     char line[256];
     lodvarn_options options = LODVARN_OPTIONS;
     options.limit = LIMIT;
+    options.keeps_undone = true; /* no edit loses what was undone: undos come to it */
     if (lodvarn_open(&s, &options, "", 0) < 0) return 1;
     while (fgets(line, sizeof line, stdin)) {
         size_t columns = 0;
