@@ -29,7 +29,7 @@ from pathlib import Path
 TOP = Path(__file__).resolve().parent.parent
 GLOBS = ["*.md", "docs/*.md", "clients/*/README.md", "clients/rust/*/README.md", "examples/*/README.md"]
 PAGES = sorted(page for glob in GLOBS for page in TOP.glob(glob))
-FOLDERS = ("crates", "docs", "clients", "examples", "faults", "include", ".ci")
+FOLDERS = ("crates", "docs", "clients", "examples", "faults", "include", "packaging", ".ci")
 # A folder that the build makes; a checkout does not have it.
 BUILT = "out"
 FENCED = re.compile(r"^( *)(```+|~~~+).*?^\1\2", re.M | re.S)

@@ -259,6 +259,8 @@ static inline uint32_t lodvarn_index_(uint32_t number, uint32_t first, uint32_t 
     return number - first < count ? number - first : 1000;
 }
 
+/* The movements. */
+
 /* The cursor's whole line. */
 static inline lodvarn_movement lodvarn_whole_line(void) { return lodvarn_movement_(LODVARN_WHOLE_LINE_, 0, 0); }
 
@@ -319,6 +321,8 @@ static inline lodvarn_movement lodvarn_whole_lines_down(size_t n) {
 static inline lodvarn_movement lodvarn_whole_text(void) { return lodvarn_movement_(LODVARN_WHOLE_TEXT_, 0, 0); }
 static inline lodvarn_movement lodvarn_to_text_start(void) { return lodvarn_movement_(LODVARN_TO_TEXT_START_, 0, 0); }
 static inline lodvarn_movement lodvarn_to_text_end(void) { return lodvarn_movement_(LODVARN_TO_TEXT_END_, 0, 0); }
+
+/* Opening and closing, and the options. */
 
 /* Opens a session on a text, with the cursor at its end, and sets *out to it, which is not read. If options is NULL it
  * has those of LODVARN_OPTIONS. No room is reserved for the limit, and the kill ring takes no memory before it keeps a
