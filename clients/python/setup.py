@@ -19,6 +19,8 @@ except ImportError:
         bdist_wheel = None
 
 HERE = Path(__file__).resolve().parent
+# What may be done with the package, and with what the library has in it.
+LICENSES = ("LICENSE", "NOTICES")
 # The library of C, which is all that a wheel may need of the system, by which version of it the oldest tag takes.
 C_LIBRARY, OLDEST = "libc.so.6", 17
 
@@ -36,9 +38,10 @@ def tag_of(module):
 
 def main():
     """Runs what the words of the command say."""
-    license_of_all = HERE.parent.parent / "LICENSE"
-    if license_of_all.is_file():
-        shutil.copyfile(license_of_all, HERE / "LICENSE")
+    # Elsewhere than in a checkout a file of that name may be anyone's, and the source distribution has its own.
+    if (HERE.parent / "build").is_file():
+        for name in LICENSES:
+            shutil.copyfile(HERE.parent.parent / name, HERE / name)
     commands = {}
     if bdist_wheel:
 

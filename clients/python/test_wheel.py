@@ -19,7 +19,7 @@ HERE = Path(__file__).resolve().parent
 BUILT = HERE.parent / "out"
 NAME = f"lodvarn-{lodvarn.__version__}"
 TAG = "cp38-abi3-manylinux_2_17_x86_64.manylinux2014_x86_64"
-INFO = [f"{NAME}.dist-info/{it}" for it in ("LICENSE", "METADATA", "RECORD", "WHEEL", "top_level.txt")]
+INFO = [f"{NAME}.dist-info/{it}" for it in ("METADATA", *setup.LICENSES, "RECORD", "WHEEL", "top_level.txt")]
 NAMES = [f"lodvarn/{it}" for it in ("__init__.py", "_lodvarn.abi3.so", "_lodvarn.pyi", "py.typed")]
 # Edits a line, and says which files of a library for C are there.
 EDIT = """
@@ -87,12 +87,13 @@ class Wheel(unittest.TestCase):
         self.assertEqual(self.wheel.name, f"{NAME}-{TAG}.whl")
         with ZipFile(self.wheel) as wheel:
             self.assertEqual(sorted(wheel.namelist()), sorted([*INFO, *NAMES]))
-            said = message_from_string(wheel.read(INFO[1]).decode())
+            said = message_from_string(wheel.read(INFO[0]).decode())
         for name, wanted in [
-            ("Version", lodvarn.__version__), ("Requires-Dist", "cffi *\\(?>=1.15\\)?"), ("License-File", "LICENSE"),
+            ("Version", lodvarn.__version__), ("Requires-Dist", "cffi *\\(?>=1.15\\)?"),
             ("Requires-Python", ">=3.8"), ("Description-Content-Type", "text/markdown"), ("Summary", "A line of .*"),
         ]:
             self.assertRegex(said[name], f"^{wanted}$")
+        self.assertEqual(said.get_all("License-File"), [*setup.LICENSES])
         self.assertIn("License :: OSI Approved :: MIT License", said.get_all("Classifier"))
         self.assertEqual(said.get_payload().strip(), (HERE / "README.md").read_text().strip())
 
