@@ -8,8 +8,8 @@ bindgen.
 - Calls: each is an export of the crate or a function of handles.c, with the same arguments in the same order, and the
   same result. The calls that handles.c declares for itself are exports too. There are no others.
 - Structs: each has the same fields in the same order as that of the crate.
-- Numbers: each is that of the crate. Those of the enums that calls take all differ. A client uses each, and the name
-  that it gives it is the header's.
+- Numbers: each is that of the crate, or of OF_HANDLES. Those of the enums that calls take all differ. A client uses
+  each, and the name that it gives it is the header's.
 
 What only one side has fails, whichever it is. The last line is 'N passed, M failed', where each name counts one for each
 place that has it.
@@ -34,6 +34,8 @@ KINDS = {
     "lodvarn_record": "Handle",
     "lodvarn_killring": "Handle",
 }
+# The answers that clients/handles.c gives, and the crate does not.
+OF_HANDLES = {"WRONG_PROCESSOR": -13}
 # The names of the header for what the crate names otherwise.
 OTHERWISE = {
     "At::Start": "AT_START",
@@ -207,7 +209,7 @@ def main():
         see("clients/handles.c", {name: declares.get(name) for name in defines}, defines),
         see("the crate", {k: v for k, v in declares.items() if k not in defines} | calls_of(handles, ";"), exports_of(crate)),
         see("a struct of the crate", structs, structs_of_crate(crate)),
-        see("a number of the crate", kinds_of(numbers), numbers_of_crate(read("crates/rl_ffi/src/numbers.rt", "crates/rl_ffi/src/answers.rt"))),
+        see("a number of the crate", kinds_of(numbers), OF_HANDLES | numbers_of_crate(read("crates/rl_ffi/src/numbers.rt", "crates/rl_ffi/src/answers.rt"))),
         see("the enums that calls take", {"values": len(taken)}, {"values": len(set(taken))}),
     ]
     # In Python the header's functions make the movements, and no str is refused for what it encodes to.

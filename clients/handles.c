@@ -1,6 +1,8 @@
 /* What the exports of rl_ffi can't do, since they return no pointers: the block whose address a program holds. The
- * crate keeps its value behind the one pointer of a block, which is NULL while the block holds nothing. */
+ * crate keeps its value behind the one pointer of a block, which is NULL while the block holds nothing. And what must
+ * come before them: a look at the processor, on which this file runs whichever it is. */
 #include "lodvarn_parts.h"
+#include <cpuid.h>
 #include <stdlib.h>
 
 /* The calls of rl_ffi for this file. Those that open find at NULL, and leave it NULL if they return an error. */
@@ -14,11 +16,31 @@ void rl_close(void *block);
 int rl_set_options(void *block, const lodvarn_options *options);
 int rl_get_options(void *block, lodvarn_options *options);
 
+/* Returns whether the processor has all of x86-64-v2, for which the crate is compiled, as DONE or an error. */
+static int look_at_processor(void) {
+    const unsigned wanted = bit_SSE3 | bit_SSSE3 | bit_CMPXCHG16B | bit_SSE4_1 | bit_SSE4_2 | bit_POPCNT;
+    unsigned a, b, c, d;
+    if (!__get_cpuid(1, &a, &b, &c, &d) || (c & wanted) != wanted) return LODVARN_WRONG_PROCESSOR;
+    if (!__get_cpuid(0x80000001, &a, &b, &c, &d) || !(c & bit_LAHF_LM)) return LODVARN_WRONG_PROCESSOR;
+    return LODVARN_DONE;
+}
+
+/* The same, but looks once, since under a hypervisor that may take ten times as long as to open a session. If two
+ * threads look, both find the same. */
+static int see_processor(void) {
+    static int seen = LODVARN_NOTHING;
+    int answer = __atomic_load_n(&seen, __ATOMIC_RELAXED);
+    if (answer == LODVARN_NOTHING) __atomic_store_n(&seen, answer = look_at_processor(), __ATOMIC_RELAXED);
+    return answer;
+}
+
 /* Makes a block, which open fills, and sets *out to it, or frees it after an error. */
 #define OPEN(out, open)                                  \
     do {                                                 \
-        struct block *block = malloc(sizeof *block);     \
-        int answer;                                      \
+        struct block *block;                             \
+        int answer = see_processor();                    \
+        if (answer < 0) return answer;                   \
+        block = malloc(sizeof *block);                   \
         if (!block) return LODVARN_NO_MEMORY;            \
         block->at = NULL;                                \
         answer = (open);                                 \
@@ -102,6 +124,7 @@ const char *lodvarn_answer_name(int answer) {
         NAMED(LODVARN_CLOSED)
         NAMED(LODVARN_UNKNOWN_FORMAT)
         NAMED(LODVARN_DAMAGED)
+        NAMED(LODVARN_WRONG_PROCESSOR)
     }
     return "unknown";
 }

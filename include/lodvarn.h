@@ -5,7 +5,8 @@
  *     lodvarn_insert(s, 'c', 1);
  *     lodvarn_close(&s);
  *
- * The library is built for Linux on x86-64, and for a processor with x86-64-v2 (SSE4.2). It does not check that. Its
+ * The library is built for Linux on x86-64, and for a processor with x86-64-v2 (SSE4.2). Each call that opens something
+ * looks at the processor; the calls without a session do not, and may end the program by SIGILL on an older one. The
  * shared file is liblodvarn.so.0, and all calls bear the version LODVARN_0: docs/GUIDE.md says what that promises.
  *
  * Pointers
@@ -36,7 +37,7 @@
  * from 1 on if it is done. So if (lodvarn_undo(s, 1) > 0) asks whether something was undone. The comment of each call
  * names its errors, without LODVARN_. NO_SUCH_NUMBER is one of every call that takes a count, a character, a movement
  * or an enum: a count above 65535, no character, or a number that is not in the enum. NOT_UTF8 is one of every call
- * that takes a text. What an error leaves:
+ * that takes a text, and WRONG_PROCESSOR of every call that opens something. What an error leaves:
  * - NO_MEMORY: an edit of several steps stops after the steps that it made, and the record has these. Every other call
  *   leaves text, cursor, record and limit as they were. The ring may have kept a text that a kill did not delete.
  * - BAD_PLACE, NOT_REPLAYING and NO_ROOM: text, cursor, record and limit as they were. The call still counts as a
@@ -100,7 +101,8 @@ enum lodvarn_answer {
     LODVARN_IS_WATCHED = -9,     /* the session keeps reports already */
     LODVARN_CLOSED = -10,        /* the session was lost in a call that a signal handler left */
     LODVARN_UNKNOWN_FORMAT = -11, /* the bytes do not begin as this version saves them */
-    LODVARN_DAMAGED = -12        /* the saved bytes are not those of a session */
+    LODVARN_DAMAGED = -12,       /* the saved bytes are not those of a session */
+    LODVARN_WRONG_PROCESSOR = -13 /* the processor lacks some of x86-64-v2, for which the library is built */
 };
 
 /* How columns are counted. The values of all enums that calls take differ. */

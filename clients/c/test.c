@@ -121,14 +121,14 @@ static void scripts_print(void) {
 #define NAMED(answer) see(#answer " has its name", !strcmp(lodvarn_answer_name(LODVARN_##answer), "LODVARN_" #answer))
 
 static void versions_and_answers_have_names(void) {
-    static const int none[] = {3, 4, 255, 256, INT_MAX, -13, -14, -255, INT_MIN};
+    static const int none[] = {3, 4, 255, 256, INT_MAX, -14, -15, -255, INT_MIN};
     char numbers[32];
     snprintf(numbers, sizeof numbers, "%d.%d.%d", LODVARN_VERSION_MAJOR, LODVARN_VERSION_MINOR, LODVARN_VERSION_PATCH);
     SEE(!strcmp(LODVARN_VERSION, numbers) && lodvarn_version() == LODVARN_VERSION_NUMBER);
     SEE(lodvarn_version() == LODVARN_VERSION_MAJOR * 65536 + LODVARN_VERSION_MINOR * 256 + LODVARN_VERSION_PATCH);
     NAMED(NOTHING), NAMED(DONE), NAMED(DONE_AT_END), NAMED(NO_MEMORY), NAMED(BAD_PLACE), NAMED(BAD_YANK_SIZE);
     NAMED(NOT_REPLAYING), NAMED(NO_ROOM), NAMED(NOT_UTF8), NAMED(NO_SUCH_NUMBER), NAMED(TOO_SMALL), NAMED(IS_WATCHED);
-    NAMED(CLOSED), NAMED(UNKNOWN_FORMAT), NAMED(DAMAGED);
+    NAMED(CLOSED), NAMED(UNKNOWN_FORMAT), NAMED(DAMAGED), NAMED(WRONG_PROCESSOR);
     for (size_t i = 0; i < COUNT(none); i++)
         if (!SEE(!strcmp(lodvarn_answer_name(none[i]), "unknown"))) printf("  of %d\n", none[i]);
 }

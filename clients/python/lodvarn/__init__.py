@@ -30,8 +30,8 @@ __all__ = [
     "BadPlaceError", "BadYankSizeError", "Case", "ClosedError", "Cluster", "DamagedError", "Direction",
     "IsWatchedError", "LodvarnError", "Mode", "Movement", "NoMemoryError", "NoRoomError", "NoSuchNumberError",
     "NotReplayingError", "Report", "ReportKind", "Screen", "Search", "Session", "Side", "Splice", "Stop",
-    "UnknownFormatError", "Word", "cell", "clusters", "first_cluster", "last_cluster", "place_at", "rows",
-    "run_script", "width",
+    "UnknownFormatError", "Word", "WrongProcessorError", "cell", "clusters", "first_cluster", "last_cluster",
+    "place_at", "rows", "run_script", "width",
 ]
 
 __version__ = "0.1.0"
@@ -82,6 +82,10 @@ class DamagedError(LodvarnError, ValueError):
     """The saved bytes are not those of a session: their checksum is wrong, or the record does not lead to the text."""
 
 
+class WrongProcessorError(LodvarnError):
+    """The processor lacks some of x86-64-v2 (SSE4.2 and what came with it), for which the library is built."""
+
+
 _ERRORS: dict[int, type[LodvarnError]] = {
     lib.LODVARN_NO_MEMORY: NoMemoryError,
     lib.LODVARN_BAD_PLACE: BadPlaceError,
@@ -93,6 +97,7 @@ _ERRORS: dict[int, type[LodvarnError]] = {
     lib.LODVARN_CLOSED: ClosedError,
     lib.LODVARN_UNKNOWN_FORMAT: UnknownFormatError,
     lib.LODVARN_DAMAGED: DamagedError,
+    lib.LODVARN_WRONG_PROCESSOR: WrongProcessorError,
 }
 _T = TypeVar("_T")
 _S = TypeVar("_S", bound="Session")
@@ -464,7 +469,7 @@ class Session:
         """Opens a session on a text, with the cursor at its end.
 
         The kill ring keeps up to `ring_size` texts. The attributes of their names describe the others. Raises
-        NoSuchNumberError, NoMemoryError.
+        NoSuchNumberError, NoMemoryError, WrongProcessorError.
         """
         options = {
             "size": ffi.sizeof("lodvarn_options"), "mode": _of(Mode, mode).value, "prompt": prompt,
@@ -485,7 +490,7 @@ class Session:
         """Opens a session of the bytes that `save` returned.
 
         Text and cursor, record, ring and options are as they were. Nothing changed yet, and no reports are kept. Any
-        bytes may be passed. Raises UnknownFormatError, DamagedError, NoMemoryError.
+        bytes may be passed. Raises UnknownFormatError, DamagedError, NoMemoryError, WrongProcessorError.
         """
         session, given = cls.__new__(cls), ffi.from_buffer(saved)
         session._open(lib.py_load, given, len(given))

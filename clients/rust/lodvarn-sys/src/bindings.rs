@@ -22,6 +22,7 @@ pub const LODVARN_IS_WATCHED: lodvarn_answer = -9;
 pub const LODVARN_CLOSED: lodvarn_answer = -10;
 pub const LODVARN_UNKNOWN_FORMAT: lodvarn_answer = -11;
 pub const LODVARN_DAMAGED: lodvarn_answer = -12;
+pub const LODVARN_WRONG_PROCESSOR: lodvarn_answer = -13;
 pub type lodvarn_answer = ::std::os::raw::c_int;
 pub const LODVARN_UNICODE: lodvarn_mode = 10;
 pub const LODVARN_WC_WIDTH: lodvarn_mode = 11;

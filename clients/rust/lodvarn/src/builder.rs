@@ -106,7 +106,8 @@ impl<'t> SessionBuilder<'t> {
     ///
     /// # Errors
     ///
-    /// [`Fault::BadPlace`] if the cursor's place is past the text or inside a character; [`Fault::NoMemory`].
+    /// [`Fault::BadPlace`] if the cursor's place is past the text or inside a character; [`Fault::NoMemory`];
+    /// [`Fault::WrongProcessor`].
     pub fn open(&self) -> Result<Session, Fault> {
         let mut session = Session {
             handle: Handle::open(&self.options, self.text)?,

@@ -56,7 +56,8 @@ impl Session {
     /// # Errors
     ///
     /// [`Fault::UnknownFormat`] if the bytes do not begin as this version saves them; [`Fault::Damaged`] if their
-    /// checksum is wrong, or a record in them does not lead to their text; [`Fault::NoMemory`].
+    /// checksum is wrong, or a record in them does not lead to their text; [`Fault::NoMemory`];
+    /// [`Fault::WrongProcessor`].
     pub fn from_bytes(bytes: &[u8]) -> Result<Session, Fault> {
         let handle = Handle::load(bytes)?;
         Ok(Session {

@@ -423,6 +423,8 @@ pub enum Fault {
     UnknownFormat,
     /// The saved bytes are not those of a session.
     Damaged,
+    /// The processor lacks some of x86-64-v2, for which the library is built.
+    WrongProcessor,
 }
 
 impl Fault {
@@ -438,6 +440,7 @@ impl Fault {
             ffi::LODVARN_IS_WATCHED => Fault::IsWatched,
             ffi::LODVARN_UNKNOWN_FORMAT => Fault::UnknownFormat,
             ffi::LODVARN_DAMAGED => Fault::Damaged,
+            ffi::LODVARN_WRONG_PROCESSOR => Fault::WrongProcessor,
             ffi::LODVARN_CLOSED | ffi::LODVARN_NOT_UTF8 | ffi::LODVARN_TOO_SMALL => {
                 unreachable!("the types rule out {}", calls::answer_name(answer))
             }
@@ -458,6 +461,7 @@ impl fmt::Display for Fault {
             Fault::IsWatched => "reports are kept already",
             Fault::UnknownFormat => "the bytes are not of a known version",
             Fault::Damaged => "the saved bytes are damaged",
+            Fault::WrongProcessor => "the processor lacks some of x86-64-v2",
         })
     }
 }
