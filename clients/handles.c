@@ -62,7 +62,8 @@ static void *closed(void *block) {
 }
 
 /* This version knows one size. A later version puts no member into the padding at the end: the size would stay, and old
- * programs leave anything there. */
+ * programs leave anything there. 0 in a member that it adds is what there was before, since the client for Python sets
+ * all that it does not know to 0. */
 static bool is_known(const lodvarn_options *options) { return options->size == sizeof *options; }
 
 int lodvarn_open(lodvarn **out, const lodvarn_options *options, const char *text, size_t len) {

@@ -2,7 +2,7 @@
 
 The archive is the one in the folder that LODVARN_LIB names, if the environment has that; else the one that
 clients/build made in this checkout; both have their header in the folder include beside them. Else it is the installed
-one of this version, which pkg-config tells. Needs gcc.
+one, which pkg-config tells. Needs gcc.
 """
 
 import os
@@ -33,12 +33,13 @@ def ran(*words):
 
 
 def told(variable, version):
-    """Returns the folder that pkg-config tells of the library of that version."""
-    return Path(ran("pkg-config", "--print-errors", f"--variable={variable}", f"lodvarn = {version}").strip())
+    """Returns the folder that pkg-config tells of the library of that version, or a later one."""
+    return Path(ran("pkg-config", "--print-errors", f"--variable={variable}", f"lodvarn >= {version}").strip())
 
 
 def found(version):
-    """Returns the archive and the folder of its header. Ends if there is none, or it is of another version."""
+    """Returns the archive and the folder of its header. Ends if there is none, or it is not of that version, nor of a
+    later one whose shared file has the same name, so that the first two numbers are the same."""
     named, built = os.environ.get("LODVARN_LIB"), HERE.parent / "out/lib"
     try:
         # Beside another copy of the package than that of a checkout a folder of that name may be anyone's.
@@ -48,8 +49,10 @@ def found(version):
         else:
             archives, headers = told("libdir", version), told("includedir", version)
         header = re.findall(r"^#define LODVARN_VERSION_\w+ (\d+)$", (headers / "lodvarn.h").read_text(), re.M)
-        if ".".join(header) != version:
-            raise SystemExit(f"{headers}/lodvarn.h is of version {'.'.join(header)}, and this package of {version}")
+        its, own = ([*map(int, it)] for it in (header, version.split(".")))
+        if its[:2] != own[:2] or its < own:
+            taken = f"This package takes {version}, or a later one with the same first two numbers."
+            raise SystemExit(f"{headers}/lodvarn.h is of version {'.'.join(header)}. {taken}")
         return (archives / "liblodvarn.a").resolve(strict=True), headers.resolve()
     except (OSError, SystemExit) as fault:
         raise SystemExit(f"Lodvarn for Python is built on the library for C, which is not there. {fault}\n{HELP}")

@@ -9,8 +9,10 @@ import tempfile
 import unittest
 from email import message_from_string
 from pathlib import Path
+from unittest.mock import patch
 from zipfile import ZipFile
 
+import extension
 import lodvarn
 import setup
 import test_lodvarn
@@ -113,21 +115,40 @@ class Wheel(unittest.TestCase):
     def test_the_source_asks_for_the_library(self):
         with tarfile.open(self.source) as source:
             source.extractall(self.room)
-        other = self.room / "include"
-        other.mkdir()
-        (self.room / "lib").mkdir()
-        header = (BUILT / "include/lodvarn.h").read_text()
-        (other / "lodvarn.h").write_text(re.sub(r"(_VERSION_MINOR) \d+", r"\1 77", header))
         for environment, wanted in [
             ({"LODVARN_LIB": "/nowhere"}, "/nowhere(.|\\n)*- Run `clients/build install PREFIX`"),
             ({"PKG_CONFIG_LIBDIR": "/nowhere"}, "pkg-config: "),
-            ({"LODVARN_LIB": str(self.room / "lib")}, "is of version 0.77.0, and this package of"),
         ]:
             with self.subTest(environment=environment):
                 done = run(self.maker, "setup.py", "build_ext", cwd=self.room / NAME, env=environment)
                 self.assertRegex(done.stderr, "is built on the library for C, which is not there(.|\\n)*" + wanted)
         done = run(self.maker, "setup.py", "build_ext", cwd=self.room / NAME, env={"LODVARN_LIB": str(BUILT / "lib")})
         self.assertEqual(done.returncode, 0, done.stderr)
+
+    def test_a_later_library_of_the_same_name_is_taken(self):
+        archives, headers = self.room / "other/lib", self.room / "other/include"
+        archives.mkdir(parents=True)
+        headers.mkdir()
+        (archives / "liblodvarn.a").touch()
+        for own, its, is_taken in [
+            ("0.1.0", "0.1.0", True), ("0.1.0", "0.1.200", True), ("0.1.9", "0.1.10", True), ("0.1.1", "0.1.0", False),
+            ("0.1.10", "0.1.9", False), ("0.1.0", "0.2.0", False), ("0.2.0", "0.1.9", False), ("0.1.0", "1.1.0", False),
+        ]:
+            text = (BUILT / "include/lodvarn.h").read_text()
+            for name, number in zip(("MAJOR", "MINOR", "PATCH"), its.split(".")):
+                text = re.sub(rf"(LODVARN_VERSION_{name}) \d+", rf"\1 {number}", text)
+            (headers / "lodvarn.h").write_text(text)
+            with self.subTest(own=own, its=its), patch.dict(os.environ, LODVARN_LIB=str(archives)):
+                if is_taken:
+                    self.assertEqual(extension.found(own), (archives / "liblodvarn.a", headers))
+                else:
+                    why = f"is of version {its}. This package takes {own},"
+                    self.assertRaisesRegex(SystemExit, why, extension.found, own)
+
+    def test_pkg_config_is_asked_for_the_least_version(self):
+        with patch.dict(os.environ, PKG_CONFIG_PATH=str(self.room / "apart/lib/pkgconfig")):
+            self.assertTrue((extension.told("libdir", lodvarn.__version__) / "liblodvarn.a").is_file())
+            self.assertRaisesRegex(SystemExit, "lodvarn >= 77", extension.told, "libdir", "77.0.0")
 
     def test_the_lock_of_the_interpreter_is_asked_for(self):
         words = ["gcc", "-std=c99", "-Wall", "-Wextra", "-Werror", "-Wno-unused-function", "-fsyntax-only"]

@@ -119,8 +119,10 @@ def _fitted(call: Any, *given: Any) -> Any:
 def _seen(call: Any, answer: int) -> int:
     """Returns the answer of a call. Raises a LodvarnError if it is an error."""
     if answer < 0:
-        error = _ERRORS[answer]
-        raise error(f"{call.__name__.partition('_')[2]}: {error.__doc__}")
+        error = _ERRORS.get(answer, LodvarnError)
+        # A later library may have more errors.
+        why = error.__doc__ if answer in _ERRORS else str(ffi.string(lib.lodvarn_answer_name(answer)), "ascii")
+        raise error(f"{call.__name__.partition('_')[2]}: {why}")
     return answer
 
 

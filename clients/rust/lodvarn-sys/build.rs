@@ -1,7 +1,7 @@
-//! Finds the library, sees that it is of the version of this crate, and links its archive. That is the one in the folder
-//! that LODVARN_LIB names, if the environment has that; else the one that clients/build made in this checkout; both have
-//! their headers in the folder include beside them. Else it is the installed one of this version, which pkg-config tells.
-//! If the environment has DOCS_RS nothing is linked, and so only documentation can be made.
+//! Finds the library, sees that this crate takes its version, and links its archive. That is the one in the folder that
+//! LODVARN_LIB names, if the environment has that; else the one that clients/build made in this checkout; both have
+//! their headers in the folder include beside them. Else it is the installed one, which pkg-config tells. If the
+//! environment has DOCS_RS nothing is linked, and so only documentation can be made.
 use std::path::{Path, PathBuf};
 use std::process::ExitCode;
 use std::{env, fs};
@@ -28,10 +28,10 @@ impl Library {
         Ok(Library { archive, header })
     }
 
-    /// The installed one, of this version.
+    /// The installed one, of this version or a later one.
     fn installed() -> Result<Library, String> {
         let mut config = pkg_config::Config::new();
-        config.exactly_version(VERSION).cargo_metadata(false);
+        config.atleast_version(VERSION).cargo_metadata(false);
         let told = config.probe("lodvarn").map_err(|why| why.to_string())?;
         let first = |folders: &[PathBuf]| folders.first().cloned().unwrap_or_default();
         Library::of(&first(&told.link_paths), &first(&told.include_paths))
@@ -60,6 +60,14 @@ impl Library {
     }
 }
 
+/// Whether the crate takes a library of that version: its own, or a later one whose shared file has the same name, so
+/// that the first two numbers are the same.
+fn takes(version: &str) -> bool {
+    let numbers = |of: &str| of.split('.').map(|it| it.parse::<u32>().ok()).collect();
+    let (own, its): (Vec<_>, Vec<_>) = (numbers(VERSION), numbers(version));
+    own[..2] == its[..2] && own <= its
+}
+
 /// Finds the library, and says how it is linked. The error is why it can't be.
 fn link() -> Result<(), String> {
     let of = |name| env::var(name).unwrap_or_default();
@@ -73,9 +81,9 @@ fn link() -> Result<(), String> {
     let library = Library::found(Path::new(&of("CARGO_MANIFEST_DIR")))
         .map_err(|why| format!("The library of Lodvarn {VERSION} is not found.\n{why}\n{HELP}"))?;
     let (version, header) = (library.version()?, library.header.display());
-    if version != VERSION {
+    if !takes(&version) {
         return Err(format!(
-            "{header} is of version {version}, and this crate of {VERSION}."
+            "{header} is of version {version}. This crate takes {VERSION}, or a later one with the same first two numbers."
         ));
     }
     let folder_of = |file: &Path| file.with_file_name("").display().to_string();

@@ -41,8 +41,10 @@ mod tests {
     use std::ptr::{null, null_mut};
 
     #[test]
-    fn the_library_is_of_the_version_of_the_crate() {
-        assert_eq!(unsafe { lodvarn_version() }, LODVARN_VERSION_NUMBER);
+    fn the_library_is_of_the_version_of_the_crate_or_a_later_one() {
+        let number = unsafe { lodvarn_version() };
+        assert_eq!(number >> 8, LODVARN_VERSION_NUMBER >> 8);
+        assert!(number >= LODVARN_VERSION_NUMBER);
         let (major, minor) = (LODVARN_VERSION_MAJOR, LODVARN_VERSION_MINOR);
         let version = format!("{major}.{minor}.{LODVARN_VERSION_PATCH}");
         assert_eq!(version, env!("CARGO_PKG_VERSION"));

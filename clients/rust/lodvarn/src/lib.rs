@@ -59,7 +59,8 @@ use ffi::lodvarn;
 use lodvarn_sys as ffi;
 use std::fmt;
 
-/// The version of this crate, and of the library that it links: with another one it is not built.
+/// The version of this crate. It links a library of this version, or of a later one with the same first two numbers:
+/// with another one it is not built.
 pub const VERSION: &str = env!("CARGO_PKG_VERSION");
 
 /// A text with its cursor, a ring of killed texts, and the record of its changes. [`Session::builder`] opens one,

@@ -425,6 +425,8 @@ pub enum Fault {
     Damaged,
     /// The processor lacks some of x86-64-v2, for which the library is built.
     WrongProcessor,
+    /// An error that a later version of the library has, by its number in C.
+    Other(i32),
 }
 
 impl Fault {
@@ -444,7 +446,7 @@ impl Fault {
             ffi::LODVARN_CLOSED | ffi::LODVARN_NOT_UTF8 | ffi::LODVARN_TOO_SMALL => {
                 unreachable!("the types rule out {}", calls::answer_name(answer))
             }
-            _ => unreachable!("the library returned {answer}"),
+            _ => Fault::Other(answer),
         }
     }
 }
@@ -462,8 +464,20 @@ impl fmt::Display for Fault {
             Fault::UnknownFormat => "the bytes are not of a known version",
             Fault::Damaged => "the saved bytes are damaged",
             Fault::WrongProcessor => "the processor lacks some of x86-64-v2",
+            Fault::Other(answer) => calls::answer_name(*answer),
         })
     }
 }
 
 impl Error for Fault {}
+
+#[cfg(test)]
+mod tests {
+    use super::*;
+
+    #[test]
+    fn an_error_of_a_later_library_is_a_fault() {
+        assert_eq!(Fault::of(-99), Fault::Other(-99));
+        assert_eq!(Fault::Other(-99).to_string(), "unknown");
+    }
+}
