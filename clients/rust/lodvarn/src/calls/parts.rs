@@ -75,7 +75,7 @@ pub struct Known<'k> {
 impl<'k> Known<'k> {
     /// No one hears.
     #[inline]
-    pub(crate) const fn nobody() -> Self {
+    pub(crate) fn nobody() -> Self {
         Known {
             record: null_mut(),
             killring: null_mut(),
@@ -86,7 +86,7 @@ impl<'k> Known<'k> {
 
     /// One that the library does not know.
     #[inline]
-    pub(crate) const fn other() -> Self {
+    pub(crate) fn other() -> Self {
         Known {
             is_other: true,
             ..Known::nobody()
