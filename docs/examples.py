@@ -42,8 +42,8 @@ from sources import take_offline  # noqa: E402
 PAGES = ["README.md", "docs/GUIDE.md", "docs/FORMAT.md", "docs/RULES.md", "docs/DECISIONS.md"]
 PAGES += ["clients/python/README.md", "clients/rust/lodvarn/README.md"]
 PAGES += sorted(str(page.relative_to(TOP)) for page in TOP.glob("examples/*/README.md"))
-# Blocks in these languages are not pieces of code: outputs, pictures, and commands that take long.
-PLAIN = {"", "text", "sh"}
+# Blocks in these languages are not pieces of code: outputs, pictures, settings, and commands that take long.
+PLAIN = {"", "text", "sh", "toml"}
 # How long an example may take, in seconds. An interpreter that shares a busy machine takes minutes.
 PATIENCE = 900
 WARNINGS = ["-Wall", "-Wextra", "-Werror"]
