@@ -15,9 +15,10 @@ from cffi import FFI
 HERE = Path(__file__).resolve().parent
 SOURCE = HERE / "session.c"
 HELP = """Do one of these:
+- Install the library of a release, as the package liblodvarn-dev for Debian.
 - Run `clients/build` in the checkout of Lodvarn that this package is of.
 - Run `clients/build install PREFIX` in a checkout, and add PREFIX/lib/pkgconfig to PKG_CONFIG_PATH, as a whole path.
-- Set LODVARN_LIB to the whole path of the folder that has liblodvarn.a, beside the folder include of lodvarn.h."""
+- Set LODVARN_LIB to the whole path of the folder that has liblodvarn.a, as lib of the archive of a release."""
 # A function of C: what it returns, its name, and what it takes; and then an end, or its body.
 FUNCTION = re.compile(
     r"^(?:static\s+)?(?:inline\s+)?(\w[\w\s]*[\s*])(\w+)\(([^()]*)\)\s*(?:;|\{(?:[^\n]*\}|.*?^\})$)", re.M | re.S

@@ -1,6 +1,6 @@
 """Makes the wheel of the package, which holds one extension module, and the source distribution.
 
-    python3 setup.py build_ext --inplace     the extension module in its folder, to use the package from a checkout
+    python3 setup.py build_ext --inplace     the extension module in its folder, for PYTHONPATH
 """
 
 import re

@@ -1,4 +1,5 @@
-//! The record of the editor's changes, over that of the crate `lodvarn`.
+//! The record of the editor's changes, over that of the crate `lodvarn`. It tells that no cursors: so an undo leaves the
+//! cursor where the text changed, as this editor wants it.
 use crate::keymap::RepeatCount;
 use crate::line_buffer::{count, ChangeListener, DeleteListener, Direction, LineBuffer};
 

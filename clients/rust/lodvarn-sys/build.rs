@@ -8,9 +8,10 @@ use std::{env, fs};
 
 const VERSION: &str = env!("CARGO_PKG_VERSION");
 const HELP: &str = "Do one of these:
+- Install the library of a release, as the package liblodvarn-dev for Debian.
 - Run `clients/build` in the checkout of Lodvarn that this crate is of.
 - Run `clients/build install PREFIX` in a checkout, and add PREFIX/lib/pkgconfig to PKG_CONFIG_PATH, as a whole path.
-- Set LODVARN_LIB to the whole path of the folder that has liblodvarn.a, beside the folder include of lodvarn.h.";
+- Set LODVARN_LIB to the whole path of the folder that has liblodvarn.a, as lib of the archive of a release.";
 
 /// Where the archive and the header are.
 struct Library {
