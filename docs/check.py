@@ -14,7 +14,8 @@
 - Each word of a script (specs/Grammar.antt): one row in docs/RULES.md, and no other rows.
 - Each function, clause and definition in the column of contracts of docs/PROMISES.md: in the crates, as it is spelled.
 - Each default that a page tells: the limit and the size of the ring as LODVARN_OPTIONS has them.
-- Each page: no line of more than WIDTH characters, apart from code, tables and pictures.
+- Each page: no line of more than WIDTH characters, apart from code, tables and pictures. README.md and all pages
+  together: no more lines than MOST says.
 
 Its last line is 'N passed, M failed'.
 """
@@ -40,6 +41,7 @@ CALL = re.compile(r"\b(?:lodvarn_[a-z0-9_]*[a-z0-9]|LODVARN_[A-Z0-9_]*[A-Z0-9])\
 VARIABLES = {"LODVARN_LIB"}
 CRATE = re.compile(r"\brl_[a-z_]+\b")
 WIDTH = 120
+MOST = {"README.md": 140, "all pages": 3600}
 
 
 # --- tables ---
@@ -357,6 +359,14 @@ def see_page(count, page, header, crates):
     count.see(page, [f"too wide: {line[:60]}.." for line in wide])
 
 
+def see_lengths(count):
+    """Looks how many lines README.md has, and all pages together."""
+    lengths = {page: len(page.read_text().splitlines()) for page in PAGES}
+    readme = TOP / "README.md"
+    for what, lines in zip(MOST, (lengths[readme], sum(lengths.values()))):
+        count.see(readme, [f"{what}: {lines} lines"] if lines > MOST[what] else [])
+
+
 def main():
     words = argparse.ArgumentParser(description=__doc__.splitlines()[0])
     words.add_argument("--bodies", action="store_true", help="only print the table of the edits that must fail")
@@ -376,6 +386,7 @@ def main():
     crates |= set(CRATE.findall((TOP / "clients/handles.c").read_text()))
     for page in PAGES:
         see_page(count, page, header, crates)
+    see_lengths(count)
     print(f"{count.passed} passed, {count.failed} failed")
     return 1 if count.failed else 0
 
