@@ -1,5 +1,5 @@
 //! The text of an insertion in a record.
-ghost use Rattle.std.specs.Prelude.{◌≡◌, ◌+◌, ◌<◌, ◌++◌, ◌==◌, encode_utf8, length, if◌then◌else◌, IfErr, IfOk, OnOk};
+ghost use Rattle.std.specs.Prelude.{◌≡◌, ◌+◌, ◌<◌, ◌++◌, ◌==◌, encode_utf8, false, length, true, if◌then◌else◌, IfErr, IfOk, OnOk};
 ghost use Rattle.std.specs.Str.{IsUtf8};
 ghost use Rattle.std.specs.String.{string_bytes};
 ghost use Rattle.rl_base.specs.declared.listeners.Refusal.TheVariants.{NoMemory};
@@ -23,9 +23,8 @@ impl Inserted {
         ensures { inserted_bytes result ≡ encode_utf8 c }
     {
         let mut text = ArrayString::new();
-        match text.try_push(c) {
-            Ok(()) => {}
-            Err(_) => unreachable!(),
+        if !push_few(&mut text, c) {
+            unreachable!();
         }
         Inserted::Few(text)
     }
@@ -93,13 +92,27 @@ impl Inserted {
         match self {
             Inserted::Many(text) => text.push(c)?,
             Inserted::Few(text) => {
-                if text.try_push(c).is_err() {
+                if !push_few(text, c) {
                     *self = Inserted::Many(outgrown(alloc, text.as_str(), c)?);
                 }
             }
         }
         Ok(())
     }
+}
+
+// Puts a character at the end of a short text, if there is room. Answers whether there is. An ASCII one has a branch of its
+// own, in which the compiler knows that it copies one byte: so it makes no call.
+#[inline(always)]
+fn push_few(text: &mut ArrayString<16>, c: char) -> bool
+    ensures pushed { result ≡ true → text.new.bytes ≡ text.old.bytes ++ encode_utf8 c }
+    ensures full { result ≡ false → (text.new ≡ text.old) × (12 < length text.old.bytes) }
+{
+    let mut bytes = [0; 4];
+    if c.is_ascii() {
+        return text.try_push_str(c.encode_utf8(&mut bytes)).is_ok();
+    }
+    text.try_push_str(c.encode_utf8(&mut bytes)).is_ok()
 }
 
 // A text and a character after it, on the heap, with room for more.
