@@ -1,11 +1,12 @@
 -- What a command did, by what is replied to the outcome of its call.
-use Rattle.rl_session.proofs.Common.{Outcome, ToldOutcome, Bool, true, false, ◌≡◌, subst, sym, Result, Ok, Err, ℕ, Any, Option, IfOk, IfErr, OnOk, OnErr, Start, Refusal, Movement, NeedsRoom, room_by_step, Told, is_by_characters, kill_plan, Undone, steps_back, texts_back, last_of, Became, Does, lent_plan, KeepsRing, WatchHears, pair_step, pair_refused, Pair, replied, State, Kill, Undo, Yank, YankPop, Reply, Record, replay_entries, IsSome, IsMatched, ap, with_changes}
+use Rattle.rl_session.proofs.Common.{Outcome, ToldOutcome, Bool, true, false, ◌≡◌, subst, sym, Result, Ok, Err, ℕ, Any, Option, IfOk, IfErr, OnOk, OnErr, Start, Refusal, Movement, NeedsRoom, room_by_step, Told, is_by_characters, kill_plan, Redone, Undone, steps_ahead, steps_back, texts_back, last_of, redo_of, Became, Does, lent_plan, KeepsRing, WatchHears, pair_step, pair_refused, Pair, replied, State, Kill, Redo, Undo, Yank, YankPop, Reply, Record, replay_entries, IsSome, IsMatched, ap, with_changes}
 use Rattle.rl_base.specs.KillRing.{yank, yank_pop, yank_size}
 use Rattle.rl_base.specs.declared.listeners.Refusal.TheVariants as why
 use Rattle.rl_session.specs.Commands.{StandsYanked, allowed, lent, popped, popped_plan}
 use Rattle.rl_session.specs.declared.session.Reply.TheVariants as says
 use Rattle.rl_session.proofs.Sessions.PairLemmas.{Halted-pair}
 use Rattle.rl_session.proofs.Common.{arith}
+use Rattle.rl_line.specs.Undo.{texts_ahead}
 use Rattle.rl_line.specs.Units.{kept_undone, waits}
 use Rattle.rl_session.specs.declared.session.Command.TheVariants.{KeepUndone}
 
@@ -46,6 +47,15 @@ pub Undo-replied : (n : ℕ) {inside old : State} (new : State) (outcome : Resul
     → OnErr outcome (new.pair.watch ≡ inside.pair.watch) → Became (allowed old (Undo n) reply) old new
 Undo-replied n {inside} new (Ok a) v e k d t h same = carried (λ s r. Became (allowed s (Undo n) r) s new) v e (d, k, t)
 Undo-replied n {inside} new (Err w) v e k d t h same = carried (λ s r. Became (allowed s (Undo n) r) s new) v e (h.3, same_state inside new k h.1 h.2 same)
+
+-- and those of a redo
+pub Redo-replied : {inside old : State} (new : State) (outcome : Result Bool Refusal) {reply : Reply} → inside ≡ old → reply ≡ replied says.Answer outcome → KeepsRing inside new
+    → IfOk outcome (λ a. Redone inside.pair.changes new.pair.changes inside.line new.line a)
+    → OnOk outcome (WatchHears (steps_ahead inside.line.cursor (redo_of inside.pair.changes.pending)) inside new)
+    → IfErr outcome (λ w. (w ≡ why.NoMemory) × (new.pair.changes ≡ inside.pair.changes) × (new.line ≡ inside.line) × Any (NeedsRoom inside.line.text) (texts_ahead (redo_of inside.pair.changes.pending) inside.line.text))
+    → OnErr outcome (new.pair.watch ≡ inside.pair.watch) → Became (allowed old Redo reply) old new
+Redo-replied {inside} new (Ok a) v e k d t h same = carried (λ s r. Became (allowed s Redo r) s new) v e (d, k, t)
+Redo-replied {inside} new (Err w) v e k d t h same = carried (λ s r. Became (allowed s Redo r) s new) v e (h.3, same_state inside new k h.1 h.2 same)
 
 -- what is kept, and where memory is out for it nothing
 pub Keep-replied : {inside old : State} (kept : Record) (outcome : Result Bool Refusal) {reply : Reply} → inside ≡ old → reply ≡ replied says.Answer outcome

@@ -6,7 +6,6 @@ use Rattle.rl_base.specs.declared.listeners.Refusal.TheVariants as why
 use Rattle.rl_line.proofs.Records.JoinLemmas.{record_step-Start, record_step-Stop}
 use Rattle.rl_line.proofs.Plans.PlanLemmas.{first_step}
 use Rattle.rl_line.proofs.Records.ForgettingLemmas.{Walks-forgotten}
-use Rattle.rl_line.proofs.Records.MoveLemmas.{redo-fits}
 use Rattle.rl_line.proofs.Lines.LineReadLemmas.{range-before, range-some}
 use Rattle.rl_session.proofs.Sessions.IdleLemmas.{NoneStarts, NoneStarts-insert, NoneStarts-yank, NoneStarts-removal, NoneStarts-kill, IsIdle, idle-step, idle-Told, ring-Done, ring-Halted}
 use Rattle.rl_session.proofs.Sessions.PairLemmas.{Halted-own, Done-changes, Halted-changes, keeps_changes}
@@ -111,9 +110,10 @@ pub Walks-undo : (X : Type 0) (n : ℕ) (r now : Record) (old new : Line) (resul
 Walks-undo X n r now old new (Ok a) d h = Walks-Undone n r now old new a d
 Walks-undo X n r now old new (Err w) d h = Walks-same r now old new (h.1, h.2)
 
--- in a form that the search uses: a redo that was done
-pub redone-walks : (r now : Record) (old new : Line) (a : Bool) → Redone r now old new a → Walks r old.text → Redone r now old new a × Walks now new.text
-redone-walks r now old new a d w = (d, Walks-Redone r now old new a d w)
+pub Walks-redo : (X : Type 0) (r now : Record) (old new : Line) (result : Result Bool Refusal) → IfOk result (λ a. Redone r now old new a)
+    → IfErr result (λ w. (w ≡ why.NoMemory) × (now ≡ r) × (new ≡ old) × X) → Walks r old.text → Walks now new.text
+Walks-redo X r now old new (Ok a) d h = Walks-Redone r now old new a d
+Walks-redo X r now old new (Err w) d h = Walks-same r now old new (h.1, h.2)
 
 -- all entries lead to the text
 pub replays-all : (len : ℕ) (r : Record) (line : Line) → IsCharBoundary line.text line.cursor → length r.recorded ≤ len → Walks r line.text → replays_to len r line.text ≡ true
@@ -134,7 +134,7 @@ follows_unwind r line f = grind (arith, value_of, line_back-unwind)
 pub follows_replay : (r : Record) (line : Line) → Follows line r → IsSome (replay_entries r.pending line.text)
 follows_replay r line f = grind (arith, value_of, line_ahead-replay)
 
-pub ruleset resting = (Walks-kept, abandoned-walks, Walks-forgotten, killing-within, Walks-begun, Walks-closed, Walks-reopened, Walks-truncated, replays-all, redone-walks, redo-fits, Walks-ahead)
+pub ruleset resting = (Walks-kept, abandoned-walks, Walks-forgotten, killing-within, Walks-begun, Walks-closed, Walks-reopened, Walks-truncated, replays-all)
 
 pub ruleset places = (range-before, range-some)
 

@@ -277,10 +277,12 @@ impl Session {
     }
 
     /// Redoes what was undone last. Answers whether there was a change. `NoMemory` leaves text and record as they were.
+    /// Inlined too.
+    #[inline(always)]
     pub fn redo(&mut self) -> Reply
         ensures { Step self.old Command.Redo result self.new }
     {
-        anew!(self, self.do_redo())
+        anew!(self, self.redo_held())
     }
 
     /// Truncates the record to the given number of entries, and drops what was undone. `NotReplaying` and `NoMemory` leave the

@@ -133,16 +133,23 @@ impl Session {
         self.pair.changes.undo_telling(&mut self.line, n, watch)
     }
 
-    #[tactic(auto, using(crate::proofs::Sessions::SessionLemmas::resting))]
-    pub(super) fn do_redo(&mut self) -> Reply
+    // The same of a redo.
+    #[inline(always)]
+    pub(super) fn redo_held(&mut self) -> Reply
         ensures { Does self.old Command.Redo result self.new }
     {
-        self.stands();
         if self.options.holds && !self.pair.changes.redo_fits(&self.line) {
             return Reply::Refused(Fault::TooLong);
         }
+        answered(self.do_redo())
+    }
+
+    fn do_redo(&mut self) -> Result<bool, Refusal>
+        ensures { Became (allowed self.old Command.Redo (replied Reply.Answer result)) self.old self.new }
+    {
+        self.stands();
         let watch = &mut self.pair.watch;
-        answered(self.pair.changes.redo_telling(&mut self.line, watch))
+        self.pair.changes.redo_telling(&mut self.line, watch)
     }
 
     #[tactic(auto, using(crate::proofs::Sessions::SessionLemmas::resting))]
