@@ -17,6 +17,7 @@ pub mod Change
 pub mod Entries
 pub mod Units
 pub mod Forgetting
+pub mod Trying
 pub mod Undo
 pub mod Walk
 pub mod SavedRecord

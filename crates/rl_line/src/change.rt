@@ -16,7 +16,7 @@ ghost use Rattle.rl_line.specs.Change.{Outgrows, TakesIn, text_after, text_back,
 mod joining;
 
 use crate::inserted::Inserted;
-use crate::patched::{Patched, is_boundary_with, stands_at};
+use crate::patched::{Patched, leads_by};
 use crate::roomy_line::RoomyLine;
 use rl_base::places::{is_alphanumeric, is_word_cluster};
 use rl_base::{ChangeListener, Gathered, Refusal};
@@ -315,30 +315,13 @@ impl Change {
 
     /// Whether a text can go over the change, so that the cursor, if it was told, stands between two characters then. It looks
     /// only where the change and the cursor are.
+    #[tactic(auto, using(crate::proofs::Records::ChangeLemmas::over_one))]
     pub(crate) fn leads(&self, text: &str, way: Way) -> bool
         ensures { result ≡ is_some (text_after true (inverse (entry_to_undo way self.now)) text.now) }
     {
         let (going, coming) = self.texts(way);
-        if !self.fits(text, way) {
-            return false;
-        }
-        let Some(at) = self.place() else {
-            return true;
-        };
-        match self.cursor_over(way) {
-            Some(cursor) => is_boundary_with(text, at, at + going.len(), coming, cursor),
-            None => true,
-        }
-    }
-
-    // Whether a text can go over the change.
-    #[tactic(auto, using(crate::proofs::Records::ChangeLemmas::over_one))]
-    fn fits(&self, text: &str, way: Way) -> bool
-        requires { IsUtf8 (old_text (entry_to_undo way self.now)) }
-        ensures { result ≡ is_some (apply (event_of (inverse (entry_to_undo way self.now))) text.now) }
-    {
         match self.place() {
-            Some(at) => stands_at(text, at, self.texts(way).0),
+            Some(at) => leads_by(text, at, going, coming, self.cursor_over(way)),
             None => true,
         }
     }

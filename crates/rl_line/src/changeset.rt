@@ -17,6 +17,7 @@ ghost use Rattle.rl_line.specs.Units.{BothMatched, IsMatched, adds_end, begun, e
 mod foretelling;
 mod questions;
 mod saved;
+mod trying;
 
 use crate::change::{Change, Freshness, Way, count_over, keeps_to, retraces, text_over};
 use crate::entries::{self, Entries};
@@ -245,7 +246,8 @@ impl Changeset {
     /// unit is a change, a closed group, or the begin of an open one. Answers whether there was a change.
     /// The cursor goes back to where it was before the last change that is undone, or, if the record was not
     /// told that, to the place of that change, past what it puts back.
-    /// `can_undo_last` tells whether these units can be taken back from the line's text, and `can_undo` whether all can.
+    /// `can_undo_last` tells whether these units can be taken back from the line's text, and `can_undo` whether all can;
+    /// `try_undo` asks that itself.
     /// It finds all room first, so refused it changes nothing.
     pub fn undo(&mut self, line: &mut LineBuffer, n: RepeatCount) -> Result<bool, Refusal>
         requires { IsSome (line_back (last_of n self.old.recorded) line.old) }
@@ -308,8 +310,8 @@ impl Changeset {
     /// Redoes what was undone: the next change, or the next group, or all that is left if its group was
     /// never closed. Answers whether there was a change. The cursor goes to where it went with the last change that
     /// is redone, or, if the record was not told that, to the place of that change, past what it puts in.
-    /// `can_redo_next` tells whether these changes fit the line, and `can_redo` whether all that were undone do. It finds
-    /// all room first, so refused it changes nothing.
+    /// `can_redo_next` tells whether these changes fit the line, and `can_redo` whether all that were undone do; `try_redo`
+    /// asks that itself. It finds all room first, so refused it changes nothing.
     pub fn redo(&mut self, line: &mut LineBuffer) -> Result<bool, Refusal>
         requires { IsSome (line_ahead (redo_of self.old.pending) line.old) }
         ensures done { IfOk result (λ answer. Redone self.old self.new line.old line.new answer) }

@@ -1,5 +1,5 @@
 //! The line: its text, its cursor, and the few steps through which every change of its text goes.
-ghost use Rattle.std.specs.Prelude.{◌≡◌, List, [], ◌∷◌, ◌+◌, ◌^◌, ◌<◌, ◌≤◌, ◌↔◌, true, false, length, max, encode_utf8, IsTrue, IsSome, Some, IfOk, IfErr, OnOk, OnErr};
+ghost use Rattle.std.specs.Prelude.{◌≡◌, List, [], ◌∷◌, ◌+◌, ◌^◌, ◌<◌, ◌≤◌, ◌↔◌, true, false, length, max, encode_utf8, IsTrue, IsSome, None, Some, IfOk, IfErr, OnOk, OnErr};
 ghost use Rattle.std.specs.Str.{IsCharBoundary, IsUtf8};
 ghost use Rattle.std.specs.String.{string_bytes};
 ghost use Rattle.std.specs.List.{insert_slice, remove_range, replace_range};
@@ -26,6 +26,7 @@ mod rows;
 mod transpositions;
 
 use crate::change::{Change, Way, find_room_over, go_over, nth_on, tell_over, tell_swap};
+use crate::patched::leads_by;
 use crate::roomy_line::RoomyLine;
 pub use deletions::{can_delete_by, is_by_characters, kill_agrees_with_copy};
 use rl_base::{ChangeListener, DeleteListener, Direction, Refusal};
@@ -322,6 +323,33 @@ impl LineBuffer {
         self.line.swap_in(at, to, coming, after);
         tell_swap(at, going, coming, before, after, listener);
         Ok(())
+    }
+
+    // Goes over one change alone if the line can, and else leaves the line. Answers whether it can. The change is taken apart
+    // once, for the question and for the way.
+    #[inline(always)]
+    pub(crate) fn try_over_one(&mut self, change: &Change, way: Way) -> Result<bool, Refusal>
+        requires { is_change (entry_of change.now) ≡ true }
+        ensures ok { IfOk result (λ fits. fits ≡ true → line_back (entry_to_undo way change.now ∷ []) self.old ≡ Some self.new) }
+        ensures no { IfOk result (λ fits. fits ≡ false → (line_back (entry_to_undo way change.now ∷ []) self.old ≡ None) × (self.new ≡ self.old)) }
+        ensures err { IfErr result (LineOutOfRoom self.old self.new (texts_back (entry_to_undo way change.now ∷ []) self.old.text)) }
+    {
+        // So the proof knows that the cursor stands between two characters.
+        let _cursor = self.pos();
+        let text = self.line.as_str();
+        let Some(at) = change.place() else {
+            unreachable!();
+        };
+        let (going, coming) = change.texts(way);
+        let told = change.cursor_over(way);
+        if !leads_by(text, at, going, coming, told) {
+            return Ok(false);
+        }
+        let to = at + going.len();
+        self.line.find_room_instead(at, to, coming)?;
+        let after = told.unwrap_or(at + coming.len());
+        self.line.swap_in(at, to, coming, after);
+        Ok(true)
     }
 
     // Goes over the changes: going back, the last first; going ahead, the first first. It finds the room for the

@@ -1,6 +1,7 @@
 //! A text that changes in one part, without a copy of what stands around it.
-ghost use Rattle.std.specs.Prelude.{◌≡◌, ◌<◌, ◌≤◌, ◌+◌, length, true, IfErr, IfOk, OnOk};
+ghost use Rattle.std.specs.Prelude.{◌≡◌, ◌<◌, ◌≤◌, ◌+◌, ◌&&◌, length, true, IfErr, IfOk, OnOk};
 ghost use Rattle.std.specs.List.{replace_range};
+ghost use Rattle.std.specs.Option.{option_map_or};
 ghost use Rattle.std.specs.Str.{IsCharBoundary};
 ghost use Rattle.std.specs.String.{string_bytes};
 ghost use Rattle.rl_base.specs.Text.{is_boundary, stands_at};
@@ -162,6 +163,7 @@ fn widen_up(
 }
 
 /// Whether a character begins at the place `at`, or the text ends there, once the text has `part` from `from` to `to`.
+#[inline(always)]
 pub(crate) fn is_boundary_with(text: &str, from: usize, to: usize, part: &str, at: usize) -> bool
     requires { IsRange text.now from to }
     ensures { result ≡ is_boundary (replace_range text.now from to part.now) at }
@@ -179,7 +181,8 @@ pub(crate) fn is_boundary_with(text: &str, from: usize, to: usize, part: &str, a
     }
 }
 
-/// Whether a part stands in a text at a byte place.
+/// Whether a part stands in a text at a byte place. Nothing is compared with an empty one: a comparison is a call.
+#[inline(always)]
 #[tactic(auto, using(crate::proofs::Records::ChangeLemmas::stood))]
 pub(crate) fn stands_at(text: &str, at: usize, part: &str) -> bool
     ensures { result ≡ stands_at text.now at part.now }
@@ -190,8 +193,33 @@ pub(crate) fn stands_at(text: &str, at: usize, part: &str) -> bool
     if !text.is_char_boundary(at) {
         return false;
     }
+    if part.is_empty() {
+        return true;
+    }
     if !text.is_char_boundary(end) {
         return false;
     }
     &text[at..end] == part
+}
+
+/// Whether a part stands in a text at a byte place, and the cursor, if it was told one, stands between two characters once
+/// another part stands there instead.
+#[inline(always)]
+pub(crate) fn leads_by(
+    text: &str,
+    at: usize,
+    going: &str,
+    coming: &str,
+    told: Option<usize>,
+) -> bool
+    ensures { result ≡ (stands_at text.now at going.now
+        && option_map_or (is_boundary (replace_range text.now at (at + length going.now) coming.now)) told true) }
+{
+    if !stands_at(text, at, going) {
+        return false;
+    }
+    match told {
+        Some(cursor) => is_boundary_with(text, at, at + going.len(), coming, cursor),
+        None => true,
+    }
 }

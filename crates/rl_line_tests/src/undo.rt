@@ -92,6 +92,8 @@ pub(crate) enum Call {
     Replays(usize),
     Undo(RepeatCount),
     Redo,
+    TryUndo(RepeatCount),
+    TryRedo,
 }
 
 // What a record is told by itself, while the line stays as it is.
@@ -144,13 +146,23 @@ fn reached(answer: Result<Option<bool>, Refusal>) -> Result<usize, Refusal> {
     }
 }
 
+// 2 for what was tried and does not fit the line, and else what `truth` says.
+fn tried(answer: Result<Option<bool>, Refusal>) -> Result<usize, Refusal> {
+    match answer {
+        Ok(Some(done)) => Ok(usize::from(done)),
+        Ok(None) => Ok(2),
+        Err(refusal) => Err(refusal),
+    }
+}
+
 // Deletes a character ahead: 1 where there is one, and else 0.
 fn delete_ahead(line: &mut LineBuffer, record: &mut Changeset) -> Result<usize, Refusal> {
     let gone = line.delete(1, record)?;
     Ok(usize::from(gone.is_some()))
 }
 
-// Makes the call. It answers the mark of a begin, or the limit; otherwise 1 for true, and 0 for what is not true.
+// Makes the call. It answers the mark of a begin, or the limit; otherwise 1 for true, and 0 for what is not true. What is
+// tried and does not fit answers 2.
 pub(crate) fn make(
     rt: &impl Abort,
     line: &mut LineBuffer,
@@ -199,6 +211,8 @@ pub(crate) fn make(
         Call::Replays(len) => truth(record.replays_to(len, line)),
         Call::Undo(n) => truth(undo(rt, line, record, n)),
         Call::Redo => truth(redo(rt, line, record)),
+        Call::TryUndo(n) => tried(record.try_undo(line, n)),
+        Call::TryRedo => tried(record.try_redo(line)),
     }
 }
 
@@ -542,4 +556,29 @@ fn the_limit_stays_raised(rt: HostRuntime) -> Result<(), Fail> {
         (Call::Insert('e', 1), 1, "abce", 4, 1, 0),
     ];
     takes(&rt, &mut line, rt.alloc(), STEPS)
+}
+
+#[test]
+fn what_does_not_fit_is_left(rt: HostRuntime) -> Result<(), Fail> {
+    const STEPS: &[Step] = &[
+        (Call::TryUndo(1), 0, "ab", 2, 0, 0),
+        (Call::TryRedo, 0, "ab", 2, 0, 0),
+        (Call::Insert('-', 1), 1, "ab-", 3, 1, 0),
+        (Call::Back(2), 1, "a", 1, 2, 0),
+        // two changes, and one again
+        (Call::TryUndo(2), 1, "ab", 2, 0, 0),
+        (Call::TryRedo, 1, "ab-", 3, 1, 0),
+        // one change that does not fit, either way
+        (Call::UnheardBack(1), 1, "ab", 2, 1, 0),
+        (Call::TryUndo(1), 2, "ab", 2, 1, 0),
+        (Call::TryRedo, 2, "ab", 2, 1, 0),
+        (Call::UnheardInsert('-', 1), 1, "ab-", 3, 1, 0),
+        (Call::TryRedo, 1, "a", 1, 2, 0),
+        (Call::TryUndo(1), 1, "ab-", 3, 1, 0),
+        (Call::TryRedo, 1, "a", 1, 2, 0),
+        // and two that do not
+        (Call::UnheardBack(1), 1, "", 0, 2, 0),
+        (Call::TryUndo(2), 2, "", 0, 2, 0),
+    ];
+    goes(&rt, rt.alloc(), "ab", STEPS)
 }

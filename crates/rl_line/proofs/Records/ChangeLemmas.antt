@@ -2,7 +2,9 @@
 use Rattle.rl_line.proofs.Common.{common_steps, ◌≡◌, ℕ, ◌+◌, ◌<◌, ◌≤◌, Bool, true, false, List, [], ◌∷◌, ◌++◌, length, take, get_or, map, reverse, slice_range, Option, Some, None, refl, sym, ap, subst, ◌∙◌, arith, length-reverse, is_utf8-from_IsUtf8, ◌&&◌, IfOk, IsSome, Result, Ok, Err, cond, is_some, option_and_then, replace_range, option_map_or, IsCharBoundary, IsUtf8, bytes_eq, is_utf8, is_boundary, Change, Way, Back, Ahead, Entry, Begin, End, Changed, entry_of, event_of, inverse, new_text, old_text, unwind, cursor_told, place_after, cursor_stands, Refusal, same_Some, entry_to_undo, order, place, text_after, text_back}
 use Rattle.rl_base.specs.Event.{apply}
 use Rattle.rl_base.specs.Text.{fits_at, stands_at}
-use Rattle.rl_base.proofs.Texts.TextLemmas.{is_boundary-means, is_boundary-true, stands_at-means}
+use Rattle.rl_base.proofs.Texts.TextLemmas.{is_boundary-means, is_boundary-true, stands_at-means, stands_at-true}
+use Rattle.std.proofs.lemmas.List.Edits.{between_none}
+use Rattle.std.proofs.lemmas.Str.{IsUtf8-nil}
 use Rattle.rl_base.proofs.Texts.EventLemmas.{Replaces-from_IsSome}
 use Rattle.rl_line.proofs.Records.LastLemmas.{map-reverse}
 use Rattle.rl_line.proofs.Records.RecordLemmas.{then_both, then_some}
@@ -89,6 +91,13 @@ stands_at-is text i s u b e = rw (is_utf8-from_IsUtf8 s u, is_boundary-true text
 pub stands_at-not : (text : List ℕ) (i : ℕ) (s : List ℕ) → (IsCharBoundary text i → IsCharBoundary text (i + length s) → ⊥) → false ≡ stands_at text i s
 stands_at-not text i s h = grind (arith, stands_at-means)
 
+-- an empty text stands at each place between two characters
+pub stands_at-nothing : (text : List ℕ) (i : ℕ) (s : List ℕ) → length s ≡ 0 → IsCharBoundary text i → true ≡ stands_at text i s
+stands_at-nothing text i [] none at =
+    let here : i + 0 ≡ i = omega arith in
+    sym (stands_at-true text i [] IsUtf8-nil at (subst (IsCharBoundary text) (sym here) at) (ap (slice_range text i) here ∙ between_none text i))
+stands_at-nothing text i (x ∷ s) none at = cc
+
 -- ---- the order in which changes are gone over
 pub length-order : (way : Way) (xs : List Change) → length (order way xs) ≡ length xs
 length-order Back xs = refl
@@ -165,12 +174,34 @@ cursor_stands-told false e text cursor b asked told test = cc
 cursor_stands-told true e text cursor b asked told test = test ∙ ap (λ o. option_map_or (is_boundary text) o true) (sym told)
 
 -- ---- a text that goes over one entry, where the cursor is asked for
-pub leads-told : (e : Entry) (text now : List ℕ) (cursor : ℕ) → apply (event_of e) text ≡ Some now → cursor_told e ≡ Some cursor
-    → is_some (text_after true e text) ≡ is_boundary now cursor
-leads-told e text now cursor h told = grind arith
+-- what stands at a place, and the test of the cursor, by the parts of an entry
+pub leads-by : (e : Entry) (text : List ℕ) (at : ℕ) (going coming : List ℕ) (told : Option ℕ) → place e ≡ Some at → IsUtf8 (old_text e) → going ≡ new_text e → coming ≡ old_text e
+    → told ≡ cursor_told (inverse e)
+    → (stands_at text at going && option_map_or (is_boundary (replace_range text at (at + length going) coming)) told true) ≡ is_some (text_after true (inverse e) text)
+leads-by e text at going coming told p u goes comes tells =
+    ap (λ g. stands_at text at g && option_map_or (is_boundary (replace_range text at (at + length g) coming)) told true) goes
+    ∙ ap (λ c. stands_at text at (new_text e) && option_map_or (is_boundary (replace_range text at (at + length (new_text e)) c)) told true) comes
+    ∙ ap (λ o. stands_at text at (new_text e) && option_map_or (is_boundary (replace_range text at (at + length (new_text e)) (old_text e))) o true) tells
+    ∙ by (stands_at text at (new_text e)) refl
+  where
+    left : (o : Option (List ℕ)) → is_some o ≡ false → is_some (option_and_then (λ now. cond (cursor_stands true (inverse e) now) (Some now) None) o) ≡ false
+    left None h = refl
+    left (Some t) h = cc
+
+    by : (b : Bool) → stands_at text at (new_text e) ≡ b
+        → (b && option_map_or (is_boundary (replace_range text at (at + length (new_text e)) (old_text e))) (cursor_told (inverse e)) true) ≡ is_some (text_after true (inverse e) text)
+    by true h =
+        let d = StandsNew-from_IsSome e text at p (fits-is e text at p u ∙ h) in
+        sym (ap (λ o. is_some (option_and_then (λ now. cond (cursor_stands true (inverse e) now) (Some now) None) o)) d.makes ∙ tested (cursor_stands true (inverse e) _) _)
+    by false h = sym (left (apply (event_of (inverse e)) text) (fits-is e text at p u ∙ h))
+
+-- a line that can't go over an entry has no next one
+pub none-reached : {A : Type 0} (o : Option A) → is_some o ≡ false → o ≡ None
+none-reached None h = refl
+none-reached (Some x) h = cc
 
 pub ruleset over_one = (cursor_stands-told, fits-is, mark-leaves, patch-makes, place-entry_to_undo)
 
-pub ruleset stood = (stands_at-is, stands_at-not)
+pub ruleset stood = (stands_at-is, stands_at-not, stands_at-nothing)
 
 pub ruleset patches = (length-replaced, patched-stands, patched-swap, stands_at-not, is_boundary-means, is_boundary-true, stands_at-means)
