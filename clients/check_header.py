@@ -1,14 +1,13 @@
 #!/usr/bin/env python3
 """Compares what the headers of include declare with crates/rl_ffi and clients/handles.c, and with the names that the
-clients for Python and Rust give to the numbers. What these call is declared by the headers themselves, through cffi and
-bindgen.
+client for Python gives to the numbers. What it calls is declared by the headers themselves, through cffi.
 
     python3 clients/check_header.py
 
 - Calls: each is an export of the crate or a function of handles.c, with the same arguments in the same order, and the
   same result. The calls that handles.c declares for itself are exports too. There are no others.
 - Structs: each has the same fields in the same order as that of the crate.
-- Numbers: each is that of the crate, or of OF_HANDLES. Those of the enums that calls take all differ. A client uses
+- Numbers: each is that of the crate, or of OF_HANDLES. Those of the enums that calls take all differ. The client uses
   each, and the name that it gives it is the header's.
 
 What only one side has fails, whichever it is. The last line is 'N passed, M failed', where each name counts one for each
@@ -171,13 +170,10 @@ def numbers_of_crate(source):
     return found
 
 
-def named_by(client, given):
-    """The numbers of the header that a client uses, each by the name that it gives it, or by the header's."""
-    found = {name: name for name in re.findall(given + r"([A-Z][A-Z0-9_]*)\b", client)}
-    own = re.findall(rf"^ +(\w+) = {given}([A-Z0-9_]+),?$", client, re.M)
-    own += [(name, number) for number, name in re.findall(rf"^ +{given}([A-Z0-9_]+) => \w+::(\w+),$", client, re.M)]
-    for name, number in own:
-        name = name if name.isupper() else snake(name)
+def named_by(client):
+    """The numbers of the header that the client uses, each by the name that it gives it, or by the header's."""
+    found = {name: name for name in re.findall(r"lib\.LODVARN_([A-Z][A-Z0-9_]*)\b", client)}
+    for name, number in re.findall(r"^ +(\w+) = lib\.LODVARN_([A-Z0-9_]+)$", client, re.M):
         if not number.endswith(name):
             found[number] = name
     return found
@@ -199,22 +195,19 @@ def main():
     declares, defines = calls_of(headers, ";"), calls_of(handles, " {")
     structs = {in_crate(name): declared(body, ";") for body, name in STRUCT.findall(headers)}
     numbers, taken = numbers_of(headers)
-    clients = {
-        "Python": named_by(read("clients/python/lodvarn/*.py"), r"lib\.LODVARN_"),
-        "Rust": named_by(read("clients/rust/lodvarn/src/**/*.rs"), r"(?:ffi::)?LODVARN_"),
-    }
-    # No client needs to tell these apart.
-    named = {name: name for name in numbers if name not in ("NOTHING", "DONE", "DONE_AT_END", "TOO_SMALL")}
+    # The client need not tell these apart: in Python no str is refused for what it encodes to, and the header's functions
+    # make the movements, whose names end with _.
+    alike = ("NOTHING", "DONE", "DONE_AT_END", "TOO_SMALL", "NOT_UTF8")
+    named = {name: name for name in numbers if name not in alike and not name.endswith("_")}
+    used = named_by(read("clients/python/lodvarn/*.py"))
     sums = [
         see("clients/handles.c", {name: declares.get(name) for name in defines}, defines),
         see("the crate", {k: v for k, v in declares.items() if k not in defines} | calls_of(handles, ";"), exports_of(crate)),
         see("a struct of the crate", structs, structs_of_crate(crate)),
         see("a number of the crate", kinds_of(numbers), OF_HANDLES | numbers_of_crate(read("crates/rl_ffi/src/numbers.rt", "crates/rl_ffi/src/answers.rt"))),
         see("the enums that calls take", {"values": len(taken)}, {"values": len(set(taken))}),
+        see("Python", named, {name: own for name, own in used.items() if name in named}),
     ]
-    # In Python the header's functions make the movements, and no str is refused for what it encodes to.
-    needed = {"Python": {k: v for k, v in named.items() if not k.endswith("_") and k != "NOT_UTF8"}, "Rust": named}
-    sums += [see(client, needed[client], {k: v for k, v in used.items() if k in named}) for client, used in clients.items()]
     passed, failed = (sum(counts) for counts in zip(*sums))
     print(f"{passed} passed, {failed} failed")
     return 1 if failed or not passed else 0

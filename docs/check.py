@@ -28,16 +28,16 @@ from functools import cache, partial
 from pathlib import Path
 
 TOP = Path(__file__).resolve().parent.parent
-GLOBS = ["*.md", "docs/*.md", "clients/*/README.md", "clients/rust/*/README.md", "examples/*/README.md"]
+GLOBS = ["*.md", "docs/*.md", "clients/*/README.md", "rust/*/README.md", "examples/*/README.md"]
 PAGES = sorted(page for glob in GLOBS for page in TOP.glob(glob))
-FOLDERS = ("crates", "docs", "clients", "examples", "faults", "include", "packaging", ".ci")
+FOLDERS = ("crates", "docs", "clients", "examples", "faults", "include", "packaging", "rust", ".ci")
 # A folder that the build makes; a checkout does not have it.
 BUILT = "out"
 FENCED = re.compile(r"^( *)(```+|~~~+).*?^\1\2", re.M | re.S)
 LINK = re.compile(r"!?\[[^\]]*\]\(<?([^)\s>]+)>?[^)]*\)")
 SPAN = re.compile(r"(`+)(.+?)\1", re.S)
 CALL = re.compile(r"\b(?:lodvarn_[a-z0-9_]*[a-z0-9]|LODVARN_[A-Z0-9_]*[A-Z0-9])\b(?!_)")
-# What the clients for Python and Rust read of the environment.
+# What the client for Python reads of the environment.
 VARIABLES = {"LODVARN_LIB"}
 CRATE = re.compile(r"\brl_[a-z_]+\b")
 WIDTH = 120
@@ -228,12 +228,12 @@ def told_by(pattern, page):
 LANGUAGES = {
     "C": ("include/*.h", r"^(?:\w[\w ]*[ *]lodvarn_|    \w[\w ]*[ *])(\w+)[(;]"),
     "Python": ("clients/python/lodvarn/*.py", r"^ *(?:def|class) (\w+)"),
-    "Rust": ("clients/rust/lodvarn/src/**/*.rs", r"\bpub (?:fn|struct) (\w+)"),
+    "Rust": ("rust/lodvarn/src/**/*.rs", r"\bpub (?:fn|struct) (\w+)"),
 }
 # A page, the head of a column, and its language.
 CALL_TABLES = [("README.md", language, language) for language in LANGUAGES]
 CALL_TABLES += [("clients/python/README.md", "Calls of a `Session`", "Python")]
-CALL_TABLES += [("clients/rust/lodvarn/README.md", "Calls of a `Session`", "Rust")]
+CALL_TABLES += [("rust/lodvarn/README.md", "Calls of a `Session`", "Rust")]
 
 
 @cache

@@ -10,7 +10,7 @@ Before each fenced block of code stands a comment that says what it is:
     <!-- run: c -->         a program in C, built by gcc and pkg-config over the library in FOLDER (clients/out), and
                             run in a folder of its own
     <!-- run: python -->    a program in Python, with the folder clients/python to import from, whose module is built
-    <!-- run: rust -->      a program in Rust, in a package that depends on clients/rust/lodvarn
+    <!-- run: rust -->      a program in Rust, in a package that depends on rust/lodvarn
     <!-- run: script -->    lines for the program at PATH (crates/rl_script/out/rl_script)
     <!-- run: sh -->        commands for bash, run in a copy of the repository that has the library, the program and the
                             module for Python
@@ -36,11 +36,8 @@ from dataclasses import dataclass
 from pathlib import Path
 
 TOP = Path(__file__).resolve().parent.parent
-sys.path.insert(0, str(TOP / "clients/rustyline"))
-from sources import take_offline  # noqa: E402
-
 PAGES = ["README.md", "docs/GUIDE.md", "docs/FORMAT.md", "docs/RULES.md", "docs/DECISIONS.md"]
-PAGES += ["clients/python/README.md", "clients/rust/lodvarn/README.md"]
+PAGES += ["clients/python/README.md", "rust/lodvarn/README.md"]
 PAGES += sorted(str(page.relative_to(TOP)) for page in TOP.glob("examples/*/README.md"))
 # Blocks in these languages are not pieces of code: outputs, pictures, settings, and commands that take long.
 PLAIN = {"", "text", "sh", "toml"}
@@ -48,7 +45,7 @@ PLAIN = {"", "text", "sh", "toml"}
 PATIENCE = 900
 WARNINGS = ["-Wall", "-Wextra", "-Werror"]
 PACKAGE = """[package]
-name = "example"
+name = "{name}"
 version = "0.0.0"
 edition = "2021"
 
@@ -206,8 +203,8 @@ def run_rust(text, place):
     folder = place.folder()
     (folder / "src").mkdir()
     (folder / "src/main.rs").write_text(text)
-    (folder / "Cargo.toml").write_text(PACKAGE.format(path=TOP / "clients/rust/lodvarn"))
-    environment = {**os.environ, "LODVARN_LIB": str(place.out / "lib"), "CARGO_TARGET_DIR": str(folder / "target")}
+    (folder / "Cargo.toml").write_text(PACKAGE.format(name=folder.name, path=TOP / "rust/lodvarn"))
+    environment = {**os.environ, "CARGO_TARGET_DIR": str(place.room / "target")}
     return output(["cargo", "run", "--quiet", "--offline"], env=environment, cwd=folder)
 
 
@@ -386,8 +383,6 @@ def main():
     given = parser.parse_args()
     with tempfile.TemporaryDirectory(prefix="lodvarn-") as room:
         place = Place(given.out.resolve(), given.script.resolve(), Path(room))
-        if given.only in (None, "rust", "sh"):
-            take_offline(place.room)
         faults = (judge_self if given.check else judge_pages)(given.only, place)
     wrong = list(filter(None, faults))
     for fault in wrong:

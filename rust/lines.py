@@ -1,0 +1,75 @@
+#!/usr/bin/env python3
+"""Prints random lines of a script over all words of docs/RULES.md, one in twelve of which is broken.
+
+    python3 rust/lines.py SEED COUNT
+"""
+
+import random
+import re
+import sys
+from pathlib import Path
+
+sys.path.insert(0, str(Path(__file__).resolve().parent.parent / "faults"))
+from drive import FORMS, MOVEMENTS  # noqa: E402
+
+CHARS = r"a b c Z 7 _ . / é ß δ 漢 ǆ ŉ İ ﬃ \s \s \n \n \t \r \\ \u{301} \u{200d} \u{fe0f} \u{0} \u{10FFFF} \u{3000} \u{1f469}"
+CHARS = [*CHARS.split(), *r"\u{1f680} \u{1f1e9} \u{1f1ea} \u{1100} \u{1161} \u{11a8} \u{5d0} \u{903} \u{00a0} \u{1F3FF}".split()]
+TEXTS = ["word", "one two", r"a\nb", r"\s\sx", "foo_bar", "ÉTÉ", r"\u{1f44b}\u{1f3ff}", "x" * 70, r"\r\n", r"\n\n"]
+COUNTS = [0, 1, 1, 1, 1, 1, 2, 2, 2, 3, 5, 17, "007"]
+BEYOND = ["4294967296", "18446744073709551615", "18446744073709551616", "99999999999999999999"]
+# What begins a session anew, or empties it, comes less often.
+RARE = {"text": 0.5, "limit": 0.1, "ring": 0.1, "mode": 0.1, "update": 0.2, "killbuf": 0.2, "discbuf": 0.2, "trunc": 0.3}
+WEIGHTS = [RARE.get(form.split()[0], 1) * (4 if form.startswith(("ins", "paste", "str", "rep")) else 1) for form in FORMS]
+# What does something only after another line stands after that one half of the time.
+AFTER = {"yank": "yankpop", "yankpop": "yankpop", "undo": "redo", "redo": "redo", "endone": "reopen", "end": "reopen"}
+
+
+def text(chance):
+    """A text as a script writes it."""
+    return "".join(chance.choice(TEXTS if chance.random() < 0.4 else CHARS) for _ in range(chance.randint(0, 4)))
+
+
+def number(chance, usual, beyond):
+    """One of the usual numbers, or seldom one about as great as there are."""
+    return chance.choice(beyond if chance.random() < 0.02 else usual)
+
+
+def filled(chance, form):
+    """A form with its arguments: each capital letter replaced, and one name of several."""
+    made = {
+        **dict.fromkeys("ABIQ", lambda chance: number(chance, [int(chance.expovariate(0.12))], BEYOND)),
+        "C": lambda chance: chance.choice(CHARS),
+        "D": lambda chance: chance.choice("fb"),
+        "K": lambda chance: chance.choice([0, 1, 2, 4, 33, 255, 256]),
+        # Without a limit a text would be copied until it had megabytes.
+        "L": lambda chance: number(chance, [0, 1, 3, 20, 100, 100, 300, 300, 4096, 4096], BEYOND[2 * form.startswith("limit") :]),
+        "M": lambda chance: filled(chance, chance.choice(MOVEMENTS)),
+        "N": lambda chance: number(chance, COUNTS, [65535, 65536]),
+        "P": lambda chance: chance.choice(["start", "before", "after"]),
+        "S": lambda chance: chance.choice(["big", "emacs", "vi"]),
+        "T": text,
+        "X": lambda chance: chance.choice("ftFT"),
+    }
+    return " ".join(str(made[it](chance)) if it in made else chance.choice(it.split("/")) for it in form.split(" "))
+
+
+def broken(chance, line):
+    """A line with one fault in its bytes; now and then it still means something."""
+    at = chance.randint(0, len(line))
+    faults = [b" ", b"\xff", b"\xc3", b"\xed\xa0\x80", b"\\", rb"\u{D800}", rb"\u{1234567}", b"+", b"\r", b"\0", b"-1", b"x" * 5000]
+    return chance.choice([line[:at] + chance.choice(faults) + line[at:], line[:at], line[at:], re.sub(b" ", b"  ", line, count=1)])
+
+
+def main():
+    """Prints the lines."""
+    chance = random.Random(int(sys.argv[1]))
+    form = ""
+    for _ in range(int(sys.argv[2])):
+        after = AFTER.get(form.split(" ")[0])
+        form = after if after and chance.random() < 0.5 else chance.choices(FORMS, WEIGHTS)[0]
+        line = filled(chance, form).encode()
+        sys.stdout.buffer.write((broken(chance, line) if chance.random() < 1 / 12 else line) + b"\n")
+
+
+if __name__ == "__main__":
+    main()

@@ -1,0 +1,199 @@
+//! Lodvarn for Rust: a line of text with its cursor, its undo and its kill ring.
+//!
+//! ```
+//! use lodvarn::{Fault, Movement, Session, Word};
+//!
+//! fn main() -> Result<(), Fault> {
+//!     let mut session = Session::builder().text("one two").open()?;
+//!     session.kill(Movement::BackwardWord(1, Word::Emacs))?;
+//!     session.yank(2)?;
+//!     session.undo(1)?;
+//!     assert_eq!((session.text(), session.pos()), ("one ", 4));
+//!     Ok(())
+//! }
+//! ```
+//!
+//! A place is a byte offset in the text, and a character boundary, as an index of a `str` is. A count is of grapheme
+//! clusters, words, lines or repetitions, and 0 does nothing. Lines, rows and columns are numbered from 0. A text that a
+//! session returns is borrowed from it. Each call names the faults that it returns, and [`Fault`] says what they leave.
+//! `docs/RULES.md` of the repository says exactly what each call does.
+//!
+//! A [`Session`] keeps a line, its record and its ring in step. An editor that was written for rustyline 19.0.0's own
+//! types, or that brings them together in its own way, finds them under their names in [`line_buffer`], [`undo`],
+//! [`kill_ring`], [`keymap`] and [`layout`].
+//!
+//! The core beneath is made from Rattle, a Rust with contracts, in which it is proved. The feature `std`, which is on by
+//! default, adds `run_script`, and `std::error::Error` for the errors; all else needs `alloc` alone.
+#![cfg_attr(not(feature = "std"), no_std)]
+#![deny(missing_docs, unsafe_code, unsafe_op_in_unsafe_fn)]
+#![warn(clippy::missing_errors_doc, clippy::must_use_candidate)]
+
+extern crate alloc;
+
+pub mod keymap;
+pub mod kill_ring;
+pub mod layout;
+pub mod line_buffer;
+pub mod undo;
+
+mod builder;
+mod changes;
+mod edits;
+mod listeners;
+mod reads;
+mod record;
+mod ring;
+mod saved;
+mod texts;
+mod words;
+
+// The core, which the build script makes from the proved sources. Its modules say of themselves which have `unsafe` blocks:
+// those of the core are proved, and those of the stand-in for Rattle's standard library have each its reason.
+mod proved {
+    include!(concat!(env!("OUT_DIR"), "/proved/mod.rs"));
+}
+
+pub use builder::SessionBuilder;
+pub use changes::{Report, Splice, Untold};
+pub use listeners::{ChangeListener, DeleteListener, NoListener, Pair};
+pub use record::Group;
+#[cfg(feature = "std")]
+pub use texts::run_script;
+pub use texts::{clusters, first_cluster, last_cluster, width};
+pub use words::{
+    At, Case, CharSearch, Cluster, Direction, Fault, Inserted, Mode, Movement, Options, Position,
+    ReportKind, Screen, Side, Word,
+};
+
+use alloc::{string::String, vec::Vec};
+use core::fmt;
+use core::sync::atomic::AtomicBool;
+use proved::rl_base;
+use proved::rl_session::{Reply, Session as Core};
+
+/// The version of this crate.
+pub const VERSION: &str = env!("CARGO_PKG_VERSION");
+
+/// A text with its cursor, a ring of killed texts, and the record of its changes. [`Session::builder`] opens one,
+/// and [`Session::from_bytes`] one that was saved.
+///
+/// A text that it lends is valid until the next call that may change something.
+///
+/// ```compile_fail
+/// let mut session = lodvarn::Session::builder().text("one").open().unwrap();
+/// let text = session.text();
+/// session.backspace(1).unwrap();
+/// assert_eq!(text, "on");
+/// ```
+pub struct Session {
+    core: Core,
+    // Whether it has a queue of reports that have texts, which the core does not return.
+    keeps_texts: bool,
+    // Whether a read has looked for lines. The next command makes the table by which later reads look them up.
+    reads_lines: AtomicBool,
+}
+
+impl fmt::Debug for Session {
+    fn fmt(&self, f: &mut fmt::Formatter<'_>) -> fmt::Result {
+        let mut fields = f.debug_struct("Session");
+        fields.field("text", &self.text()).field("pos", &self.pos());
+        fields.finish()
+    }
+}
+
+impl Session {
+    /// What a session is opened with: the defaults of [`SessionBuilder`], which its methods replace.
+    pub fn builder<'t>() -> SessionBuilder<'t> {
+        SessionBuilder::default()
+    }
+
+    /// Does a command, and then drops what is beyond the bounds of the record and the ring. That it makes the table of
+    /// lines can't be refused: without memory for it there is none.
+    #[inline]
+    fn ask(&mut self, command: impl FnOnce(&mut Core) -> Reply) -> Reply {
+        let reply = command(&mut self.core);
+        self.core.forget();
+        if *self.reads_lines.get_mut() {
+            self.core.index_lines();
+        }
+        reply
+    }
+
+    /// Does an edit, before which it keeps the undone changes if the options say so.
+    #[inline]
+    fn edit(&mut self, command: impl FnOnce(&mut Core) -> Reply) -> Result<Reply, Fault> {
+        match self.core.keep_if_asked() {
+            Reply::Refused(fault) => Err(fault.into()),
+            _ => Ok(self.ask(command)),
+        }
+    }
+
+    /// Does an edit that takes a count, by which 0 does nothing.
+    #[inline]
+    fn edit_times(
+        &mut self,
+        n: u16,
+        command: impl FnOnce(&mut Core, u16) -> Reply,
+    ) -> Result<bool, Fault> {
+        if n == 0 {
+            return Ok(false);
+        }
+        found(self.edit(|core| command(core, n))?)
+    }
+
+    /// Does an edit by a movement, by which a count of 0 does nothing.
+    #[inline]
+    fn edit_by(
+        &mut self,
+        movement: Movement,
+        command: impl FnOnce(&mut Core, &rl_base::Movement) -> Reply,
+    ) -> Result<bool, Fault> {
+        match movement.to_core() {
+            Some(movement) => found(self.edit(|core| command(core, &movement))?),
+            None => Ok(false),
+        }
+    }
+}
+
+/// Whether there was something to do.
+#[inline]
+fn found(reply: Reply) -> Result<bool, Fault> {
+    match reply {
+        Reply::Answer(is_done) => Ok(is_done),
+        Reply::Text(text) => Ok(text.is_some()),
+        Reply::Inserted(at_end) => Ok(at_end.is_some()),
+        Reply::Done | Reply::Mark(_) | Reply::At(_, _) => Ok(true),
+        Reply::Refused(fault) => Err(fault.into()),
+    }
+}
+
+#[inline]
+fn done(reply: Reply) -> Result<(), Fault> {
+    found(reply).map(drop)
+}
+
+/// What became of an insertion, and what is returned if nothing was inserted.
+#[inline]
+fn inserted(reply: Reply, without: Result<Inserted, Fault>) -> Result<Inserted, Fault> {
+    match reply {
+        Reply::Inserted(Some(at_end)) => Ok(Inserted::of(at_end)),
+        Reply::Inserted(None) => without,
+        reply => found(reply).map(Inserted::of),
+    }
+}
+
+/// A copy of a text.
+fn owned(text: &str) -> Result<String, Fault> {
+    let mut copy = String::new();
+    copy.try_reserve_exact(text.len())
+        .map_err(|_| Fault::NoMemory)?;
+    copy.push_str(text);
+    Ok(copy)
+}
+
+/// An empty list that takes so many without more memory.
+fn empty_for<T>(len: usize) -> Result<Vec<T>, Fault> {
+    let mut out = Vec::new();
+    out.try_reserve_exact(len).map_err(|_| Fault::NoMemory)?;
+    Ok(out)
+}

@@ -1,0 +1,436 @@
+//! The types that calls take and return, and what they are in the core.
+use crate::proved::rl_base::{
+    self, GraphemeClusterMode, LoadFault, Refusal, SaveFault, Unit, WatchFault, WordAction,
+};
+use crate::proved::rl_line::MAX_LINE;
+use crate::proved::rl_session;
+use core::fmt;
+use core::num::NonZeroU16;
+
+/// How columns are counted.
+#[derive(Clone, Copy, Debug, Default, PartialEq, Eq, Hash)]
+pub enum Mode {
+    /// The width of the whole text, an emoji sequence as one emoji.
+    #[default]
+    Unicode,
+    /// The sum of the widths of its characters.
+    WcWidth,
+    /// The sum of the widths of the parts between zero-width joiners.
+    NoZwj,
+}
+
+/// What belongs to a word.
+#[derive(Clone, Copy, Debug, PartialEq, Eq, Hash)]
+pub enum Word {
+    /// Everything but blanks.
+    Big,
+    /// Letters and digits.
+    Emacs,
+    /// Letters, digits and `_`. A run of other characters except blanks is a word too.
+    Vi,
+}
+
+/// Where a motion forward by words stops.
+#[derive(Clone, Copy, Debug, PartialEq, Eq, Hash)]
+pub enum At {
+    /// At the start of a word.
+    Start,
+    /// At the last cluster of a word; after an Emacs word.
+    BeforeEnd,
+    /// After a word.
+    AfterEnd,
+}
+
+/// The letter case that a word gets.
+#[derive(Clone, Copy, Debug, PartialEq, Eq, Hash)]
+pub enum Case {
+    /// The first character in upper case, the others in lower case.
+    Capitalize,
+    /// All in lower case.
+    Lowercase,
+    /// All in upper case.
+    Uppercase,
+}
+
+/// Where a search for a character goes.
+#[derive(Clone, Copy, Debug, PartialEq, Eq, Hash)]
+pub enum CharSearch {
+    /// Forward, to the character; a deletion takes it too.
+    Forward(char),
+    /// Forward, to the one before the character; a deletion leaves the character.
+    ForwardBefore(char),
+    /// Back, to the character; a deletion takes it too.
+    Backward(char),
+    /// Back, to the place after the character; a deletion leaves it.
+    BackwardAfter(char),
+}
+
+impl CharSearch {
+    pub(crate) fn to_core(self) -> rl_base::CharSearch {
+        use rl_base::CharSearch as Core;
+        match self {
+            CharSearch::Forward(c) => Core::Forward(c),
+            CharSearch::ForwardBefore(c) => Core::ForwardBefore(c),
+            CharSearch::Backward(c) => Core::Backward(c),
+            CharSearch::BackwardAfter(c) => Core::BackwardAfter(c),
+        }
+    }
+}
+
+/// Where a motion goes, and what a kill, a copy or an indent covers.
+#[derive(Clone, Copy, Debug, PartialEq, Eq, Hash)]
+#[non_exhaustive]
+pub enum Movement {
+    /// The cursor's line. No motion.
+    WholeLine,
+    /// To the start of the cursor's line.
+    BeginningOfLine,
+    /// To the end of the cursor's line.
+    EndOfLine,
+    /// Back to the start of the n-th word.
+    BackwardWord(u16, Word),
+    /// Forward to the n-th word, as `At` says.
+    ForwardWord(u16, At, Word),
+    /// To the n-th hit of a search for a character, or to the farthest if there are fewer.
+    ViCharSearch(u16, CharSearch),
+    /// From the first start of a big word after the start of the text to the cursor. No motion, and a kill takes
+    /// nothing.
+    ViFirstPrint,
+    /// n grapheme clusters back.
+    BackwardChar(u16),
+    /// n grapheme clusters forward.
+    ForwardChar(u16),
+    /// n lines up. A kill and a copy take the cursor's line too.
+    LineUp(u16),
+    /// n lines down. A kill and a copy take the cursor's line too.
+    LineDown(u16),
+    /// The whole text. No motion.
+    WholeBuffer,
+    /// To the start of the text.
+    BeginningOfBuffer,
+    /// To the end of the text.
+    EndOfBuffer,
+    /// To the first character of the cursor's line that is no blank, or to the end of the line if there is none: on
+    /// either side of the cursor. A kill takes the text between.
+    FirstNonBlank,
+    /// n whole lines with their newlines, at least one: the cursor's line and those above it. No motion.
+    WholeLinesUp(u16),
+    /// n whole lines with their newlines, at least one: the cursor's line and those below it. No motion.
+    WholeLinesDown(u16),
+}
+
+impl Movement {
+    /// The core's movement, or `None` by a count of 0, by which no call does anything.
+    #[inline]
+    pub(crate) fn to_core(self) -> Option<rl_base::Movement> {
+        use rl_base::Movement as Core;
+        Some(match self {
+            Movement::BackwardWord(0, _)
+            | Movement::ForwardWord(0, _, _)
+            | Movement::ViCharSearch(0, _)
+            | Movement::BackwardChar(0)
+            | Movement::ForwardChar(0)
+            | Movement::LineUp(0)
+            | Movement::LineDown(0)
+            | Movement::WholeLinesUp(0)
+            | Movement::WholeLinesDown(0) => return None,
+            Movement::WholeLine => Core::WholeLine,
+            Movement::BeginningOfLine => Core::BeginningOfLine,
+            Movement::EndOfLine => Core::EndOfLine,
+            Movement::BackwardWord(n, word) => Core::BackwardWord(n, word.to_core()),
+            Movement::ForwardWord(n, at, word) => {
+                Core::ForwardWord(n, at.to_core(), word.to_core())
+            }
+            Movement::ViCharSearch(n, search) => Core::ViCharSearch(n, search.to_core()),
+            Movement::ViFirstPrint => Core::ViFirstPrint,
+            Movement::BackwardChar(n) => Core::BackwardChar(n),
+            Movement::ForwardChar(n) => Core::ForwardChar(n),
+            Movement::LineUp(n) => Core::LineUp(n),
+            Movement::LineDown(n) => Core::LineDown(n),
+            Movement::WholeBuffer => Core::WholeBuffer,
+            Movement::BeginningOfBuffer => Core::BeginningOfBuffer,
+            Movement::EndOfBuffer => Core::EndOfBuffer,
+            Movement::FirstNonBlank => Core::FirstNonBlank,
+            Movement::WholeLinesUp(n) => Core::WholeLinesUp(n),
+            Movement::WholeLinesDown(n) => Core::WholeLinesDown(n),
+        })
+    }
+}
+
+/// What kind of change a report is of.
+#[derive(Clone, Copy, Debug, PartialEq, Eq, Hash)]
+#[non_exhaustive]
+pub enum ReportKind {
+    /// A character was inserted.
+    CharInserted,
+    /// A text was inserted.
+    TextInserted,
+    /// A text was removed, from the cursor on; also wherever the cursor was, as by `set_text`, `yank_pop`,
+    /// `delete_range` and `kill_range`.
+    DeletedForward,
+    /// A text was removed, up to the cursor; by `kill_range` also wherever the cursor was.
+    DeletedBackward,
+    /// A text was replaced by another one; so is each change of an undo and of a redo.
+    Replaced,
+    /// The deletions up to the next report of the kind `KillStopped` are a kill. This one is of no change.
+    KillStarted,
+    /// The kill has ended. This one is of no change.
+    KillStopped,
+    /// All that waited and all later changes as one change, without its texts: the inserted text stands in the present
+    /// text.
+    Folded,
+}
+
+/// On which side of the cursor a text is removed. A `kill_range` chooses it, wherever the cursor is.
+#[derive(Clone, Copy, Debug, Default, PartialEq, Eq, Hash)]
+pub enum Direction {
+    /// Text from the cursor on, or, as by `set_text`, the whole text. The ring puts it after the text of the kill before.
+    #[default]
+    Forward,
+    /// Up to the cursor. The ring puts it before the text of the kill before.
+    Backward,
+}
+
+/// The side of a place on which it stays when it moves by a change.
+#[derive(Clone, Copy, Debug, PartialEq, Eq, Hash)]
+pub enum Side {
+    /// With the text before it: what is inserted at the place goes after it.
+    Before,
+    /// With the text after it: what is inserted at the place goes before it.
+    After,
+}
+
+// The core has each of these enums, with the same variants. Some go one way alone.
+macro_rules! mirrors {
+    ($($name:ident of $core:ty: $($variant:ident),*;)*) => {$(
+        #[allow(dead_code)]
+        impl $name {
+            #[inline]
+            pub(crate) fn to_core(self) -> $core {
+                match self {
+                    $($name::$variant => <$core>::$variant,)*
+                }
+            }
+
+            #[inline]
+            pub(crate) fn of_core(it: $core) -> Self {
+                match it {
+                    $(<$core>::$variant => $name::$variant,)*
+                }
+            }
+        }
+    )*};
+}
+
+mirrors! {
+    Mode of GraphemeClusterMode: Unicode, WcWidth, NoZwj;
+    Word of rl_base::Word: Big, Emacs, Vi;
+    At of rl_base::At: Start, BeforeEnd, AfterEnd;
+    Case of WordAction: Capitalize, Lowercase, Uppercase;
+    Direction of rl_base::Direction: Forward, Backward;
+    Side of rl_base::Side: Before, After;
+    ReportKind of rl_base::ReportKind: CharInserted, TextInserted, DeletedForward, DeletedBackward, Replaced,
+        KillStarted, KillStopped, Folded;
+}
+
+/// What may be chosen of a session. Begin with those of a session, or with [`Options::default`], and change what should
+/// differ.
+#[derive(Clone, Copy, Debug, PartialEq, Eq, Hash)]
+#[non_exhaustive]
+pub struct Options {
+    /// How columns are counted. At first [`Mode::Unicode`].
+    pub mode: Mode,
+    /// The column where the text begins, after a prompt, which [`Movement::LineUp`] and [`Movement::LineDown`] count if
+    /// they come to the first line or leave it. At first 0.
+    pub prompt: u16,
+    /// How many bytes the text may have, `None` for any number; as many as it has if that is more. At first 4096. It
+    /// rises if a call that asks for no limit makes the text longer, as [`replace`](crate::Session::replace) and
+    /// [`undo`](crate::Session::undo).
+    pub limit: Option<usize>,
+    /// How many texts the kill ring keeps. It can't be changed once a session is open. At first 60.
+    pub ring_size: usize,
+    /// How many entries the record may have: changes, and the marks where groups begin and end. At first `None`, for any
+    /// number, as [`max_bytes`](Options::max_bytes).
+    pub max_entries: Option<usize>,
+    /// How many bytes of text these may have, of removed and of inserted texts.
+    pub max_bytes: Option<usize>,
+    /// How many bytes the texts of the kill ring may have together. At first `None`.
+    pub max_ring_bytes: Option<usize>,
+    /// Whether no command makes the text longer than the limit: what would is refused with [`Fault::NoRoom`].
+    pub limit_holds: bool,
+    /// Whether each edit, and each begin and end of a group, first does what
+    /// [`keep_undone`](crate::Session::keep_undone) does, so that it drops no undone change.
+    pub keeps_undone: bool,
+}
+
+impl Default for Options {
+    fn default() -> Self {
+        Options {
+            mode: Mode::Unicode,
+            prompt: 0,
+            limit: Some(MAX_LINE),
+            ring_size: 60,
+            max_entries: None,
+            max_bytes: None,
+            max_ring_bytes: None,
+            limit_holds: false,
+            keeps_undone: false,
+        }
+    }
+}
+
+/// A line and a column of it, numbered from 0. On a screen a line is a row.
+#[derive(Clone, Copy, Debug, Default, PartialEq, Eq, PartialOrd, Ord, Hash)]
+pub struct Position {
+    /// The number of the line.
+    pub line: usize,
+    /// The number of the column.
+    pub column: usize,
+}
+
+/// A grapheme cluster of a text.
+#[derive(Clone, Copy, Debug, PartialEq, Eq, Hash)]
+pub struct Cluster {
+    /// The place where it begins, in bytes.
+    pub from: usize,
+    /// The place where it ends.
+    pub to: usize,
+    /// How many columns it takes.
+    pub columns: usize,
+}
+
+/// A screen, on which a text begins in row 0. Begin with [`Screen::new`], and change what should differ.
+#[derive(Clone, Copy, Debug, PartialEq, Eq, Hash)]
+#[non_exhaustive]
+pub struct Screen {
+    /// How many columns it has.
+    pub columns: NonZeroU16,
+    /// The column where the text begins, after a prompt. At first 0.
+    pub prompt: u16,
+    /// The distance of tab stops. At first 0: a tab is as wide as [`width`](crate::width) returns.
+    pub tab: u16,
+    /// How columns are counted. At first [`Mode::Unicode`].
+    pub mode: Mode,
+    /// The column where each line after the first begins, after another prompt. At first 0.
+    pub continuation: u16,
+    /// The columns of a control character, as 2 for `^A`. At first 0: as many as [`width`](crate::width) returns.
+    pub controls: u16,
+}
+
+impl Screen {
+    /// A screen of so many columns.
+    #[must_use]
+    pub fn new(columns: NonZeroU16) -> Screen {
+        Screen {
+            columns,
+            prompt: 0,
+            tab: 0,
+            mode: Mode::Unicode,
+            continuation: 0,
+            controls: 0,
+        }
+    }
+
+    pub(crate) fn to_core(self) -> rl_base::Screen {
+        rl_base::Screen {
+            mode: self.mode.to_core(),
+            columns: Unit::from(self.columns),
+            prompt: self.prompt,
+            continuation: self.continuation,
+            tab: self.tab,
+            controls: self.controls,
+        }
+    }
+}
+
+/// What became of a text that was to be inserted.
+#[derive(Clone, Copy, Debug, PartialEq, Eq, Hash)]
+pub enum Inserted {
+    /// It went to the end of the text.
+    AtEnd,
+    /// It went to another place.
+    Within,
+    /// There was nothing to insert.
+    Nothing,
+}
+
+impl Inserted {
+    /// What became of an inserted text, by whether that was at the end.
+    #[inline]
+    pub(crate) fn of(at_end: bool) -> Inserted {
+        if at_end {
+            Inserted::AtEnd
+        } else {
+            Inserted::Within
+        }
+    }
+}
+
+/// Why a call was refused. Text, cursor, record and limit are as they were. But an edit of several steps that runs out of
+/// memory stops after the steps that it made, and with [`Options::keeps_undone`] the undone changes may be kept.
+#[derive(Clone, Copy, Debug, PartialEq, Eq, Hash)]
+#[non_exhaustive]
+pub enum Fault {
+    /// Out of memory.
+    NoMemory,
+    /// A place is past the text's end or inside a character, or two places are out of order.
+    BadPlace,
+    /// The text before the cursor is not the one that was yanked last.
+    BadYankSize,
+    /// The entries to keep do not lead to the present text, or the changes of a [`Changeset`](crate::undo::Changeset)
+    /// do not fit the text of the line.
+    NotReplaying,
+    /// The text would get longer than the limit, or one to be saved has 4 GiB or more.
+    NoRoom,
+    /// The call takes no such number, or no such movement.
+    NoSuchNumber,
+    /// The session keeps reports already.
+    IsWatched,
+    /// The bytes do not begin as this version saves a session.
+    UnknownFormat,
+    /// The saved bytes are not those of a session.
+    Damaged,
+}
+
+impl fmt::Display for Fault {
+    fn fmt(&self, f: &mut fmt::Formatter<'_>) -> fmt::Result {
+        f.write_str(match self {
+            Fault::NoMemory => "out of memory",
+            Fault::BadPlace => "no such place in the text",
+            Fault::BadYankSize => "the text before the cursor was not just yanked",
+            Fault::NotReplaying => "the kept entries do not reproduce the text",
+            Fault::NoRoom => "no room for the text",
+            Fault::NoSuchNumber => "no number that the call takes",
+            Fault::IsWatched => "reports are kept already",
+            Fault::UnknownFormat => "the bytes are not of a known version",
+            Fault::Damaged => "the saved bytes are damaged",
+        })
+    }
+}
+
+#[cfg(feature = "std")]
+impl std::error::Error for Fault {}
+
+macro_rules! faults {
+    ($($core:ty: $($from:ident => $to:ident),*;)*) => {$(
+        #[doc(hidden)]
+        impl From<$core> for Fault {
+            #[inline]
+            fn from(fault: $core) -> Fault {
+                match fault {
+                    $(<$core>::$from => Fault::$to,)*
+                }
+            }
+        }
+    )*};
+}
+
+// No listener of the crate refuses.
+faults! {
+    rl_session::Fault: NoMemory => NoMemory, BadPlace => BadPlace, BadYankSize => BadYankSize,
+        NotReplaying => NotReplaying, TooLong => NoRoom;
+    Refusal: NoMemory => NoMemory, Listener => NoMemory;
+    WatchFault: NoMemory => NoMemory, NoRoom => NoSuchNumber, IsWatched => IsWatched;
+    SaveFault: NoMemory => NoMemory, TooLong => NoRoom;
+    LoadFault: NoMemory => NoMemory, Unknown => UnknownFormat, Damaged => Damaged;
+}

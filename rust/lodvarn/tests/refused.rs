@@ -1,0 +1,84 @@
+//! What is left of sessions where memory is refused: each request of a call in turn.
+#![deny(unsafe_op_in_unsafe_fn)]
+
+use lodvarn::{run_script, Case, Direction, Fault, Mode, Movement, Screen, Session, Word};
+use refusing::refuse;
+
+#[allow(dead_code)]
+mod refusing;
+
+fn session() -> Session {
+    let text = "one two three ".repeat(20);
+    let session = Session::builder().text(&text).no_limit();
+    let mut session = session.keeps_undone(true).open().expect("a session opens");
+    session.keep(&"kept ".repeat(30)).expect("it is kept");
+    let word = Movement::BackwardWord(1, Word::Emacs);
+    assert_eq!(session.kill(word), Ok(true));
+    assert_eq!(session.insert('-', 1).and(session.undo(1)), Ok(true));
+    session
+}
+
+#[test]
+fn sessions_say_that_memory_is_refused() {
+    let text = &*"four ".repeat(400);
+    type Call<'t> = (&'t str, Box<dyn Fn(&mut Session) -> Result<(), Fault> + 't>);
+    macro_rules! calls {
+        ($($call:ident($($given:expr),*),)*) => {
+            vec![$((stringify!($call), Box::new(|s: &mut Session| s.$call($($given),*).map(drop)) as _)),*]
+        };
+    }
+    let calls: Vec<Call> = calls![
+        restart(text),
+        insert('漢', 900),
+        paste(text, 3),
+        set_text(0, text),
+        insert_at(3, text),
+        replace(0..3, text),
+        delete_range(0..9),
+        delete(1),
+        backspace(1),
+        delete_by(Movement::BeginningOfLine),
+        kill(Movement::BeginningOfLine),
+        kill_range(0..9, Direction::Forward),
+        keep(text),
+        copy(Movement::WholeBuffer),
+        covers(0, Movement::WholeBuffer),
+        yank(9),
+        transpose_words(1),
+        change_case(Case::Uppercase),
+        indent(Movement::WholeLine, 200),
+        begin_group(),
+        end_group(),
+        undo(1),
+        watch(9, 999),
+        group(),
+        to_bytes(),
+    ];
+    let left = |s: &mut Session| {
+        assert!(s.text().is_char_boundary(s.pos()));
+        // What was undone waits, or is kept beside the kill.
+        assert!(s.can_redo() || s.entries() >= 3);
+    };
+    let counted = calls
+        .into_iter()
+        .map(|(what, call)| refuse(what, session, call, left));
+    let counted: Vec<_> = counted.collect();
+    assert!(counted.iter().sum::<usize>() > 40, "{counted:?}");
+}
+
+#[test]
+fn what_needs_no_session_says_that_memory_is_refused() {
+    let open = |(): &mut ()| Session::builder().text("one").open();
+    assert!(refuse("open", || (), open, |()| {}) > 0);
+    let bytes = session().to_bytes().expect("a session is saved");
+    let load = |(): &mut ()| Session::from_bytes(&bytes);
+    assert!(refuse("from_bytes", || (), load, |()| {}) > 3);
+    // No line of it needs memory, which would be refused by a line of what is printed.
+    let script = "where\n".repeat(99);
+    let run = |(): &mut ()| run_script(script.as_bytes());
+    assert!(refuse("run_script", || (), run, |()| {}) > 2);
+    let clusters = |(): &mut ()| lodvarn::clusters(Mode::Unicode, "one");
+    assert_eq!(refuse("clusters", || (), clusters, |()| {}), 1);
+    let screen = Screen::new(9.try_into().expect("9 is not 0"));
+    assert_eq!(refuse("rows", || (), |_| screen.rows("one"), |()| {}), 1);
+}
