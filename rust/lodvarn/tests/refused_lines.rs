@@ -1,4 +1,6 @@
 //! What is left of lines, records and rings where memory is refused: each request of a call in turn.
+#![deny(unsafe_op_in_unsafe_fn)]
+
 use lodvarn::keymap::{Movement, Word};
 use lodvarn::kill_ring::{KillRing, Mode};
 use lodvarn::line_buffer::{Direction, LineBuffer, NoListener, Pair, WordAction};
