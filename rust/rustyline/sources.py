@@ -1,14 +1,10 @@
 """The sources of rustyline, built in a folder for a run: the editor 9.1.2 of Debian's package, and as a crate of its
 own the core of 19.0.0, whose files may be beside the repository, or that of 9.1.2. None of them is kept in the
 repository.
-
-    python3 rust/rustyline/sources.py FOLDER    makes cargo take Debian's sources alone for what is built in FOLDER,
-                                                   or anywhere if FOLDER/.cargo is the CARGO_HOME of the environment
 """
 
 import re
 import subprocess
-import sys
 from pathlib import Path
 
 HERE = Path(__file__).resolve().parent
@@ -55,11 +51,11 @@ class NotThere(Exception):
     """What is needed and is not there."""
 
 
-def package_folder(crate="rustyline"):
-    """The folder of a crate's sources, in the folder of all of Debian's sources."""
-    package = f"librust-{crate}-dev"
+def package_folder():
+    """The folder of the editor's sources, in the folder of all of Debian's sources."""
+    package = "librust-rustyline-dev"
     ran = subprocess.run(["dpkg", "-L", package], capture_output=True, text=True)
-    found = re.findall(rf"^(/.*/{crate}-[\d.]+)/Cargo\.toml$", ran.stdout, re.M)
+    found = re.findall(r"^(/.*/rustyline-[\d.]+)/Cargo\.toml$", ran.stdout, re.M)
     if len(found) != 1:
         raise NotThere(f"{package} is not installed. What else is needed beside it, .ci/run names.")
     return Path(found[0])
@@ -68,7 +64,7 @@ def package_folder(crate="rustyline"):
 def take_offline(folder):
     """Makes cargo take Debian's sources alone for what is built in a folder."""
     (folder / ".cargo").mkdir()
-    sources = package_folder("pkg-config").parent
+    sources = package_folder().parent
     (folder / ".cargo/config.toml").write_text(REPLACED.format(sources=sources))
 
 
@@ -131,7 +127,3 @@ def make_older(folder, name):
     files = {module: (source / f"{module}.rs").read_text() for module in (*PARTS, "keymap")}
     texts = {module: text.partition("#[cfg(test)]\nmod test")[0] for module, text in files.items()}
     write_crate(folder, name, "2018", {**texts, "keymap": types_of(files["keymap"])})
-
-
-if __name__ == "__main__":
-    take_offline(Path(sys.argv[1]))

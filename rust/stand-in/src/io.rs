@@ -23,7 +23,24 @@ impl Write for Vec<u8> {
     }
 }
 
-/// Kit `io::writer`: standard output. It keeps nothing back but a line without an end.
-pub fn writer(_: &HostRuntime) -> std::io::Stdout {
-    std::io::stdout()
+/// Kit `io::writer`: standard output.
+pub fn writer(_: &HostRuntime) -> Writer {
+    Writer(std::io::stdout())
+}
+
+/// Kit `Writer`: a write is made whole, or it fails. Nothing is kept back, as Rust's own `write` does with bytes that the
+/// system did not take.
+pub struct Writer(std::io::Stdout);
+
+impl Write for Writer {
+    fn write(&mut self, bytes: &[u8]) -> Result<usize> {
+        let mut out = self.0.lock();
+        out.write_all(bytes)?;
+        out.flush()?;
+        Ok(bytes.len())
+    }
+
+    fn flush(&mut self) -> Result<()> {
+        self.0.flush()
+    }
 }

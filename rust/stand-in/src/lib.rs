@@ -2,6 +2,7 @@
 //! allocator, and may be refused. The kit is Rattle's: `Kit name` says whose contract an item keeps.
 
 #![cfg_attr(not(feature = "std"), no_std)]
+#![deny(unsafe_op_in_unsafe_fn)]
 
 pub mod alloc;
 pub mod boxed;
