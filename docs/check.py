@@ -41,7 +41,7 @@ CALL = re.compile(r"\b(?:lodvarn_[a-z0-9_]*[a-z0-9]|LODVARN_[A-Z0-9_]*[A-Z0-9])\
 VARIABLES = {"LODVARN_LIB"}
 CRATE = re.compile(r"\brl_[a-z_]+\b")
 WIDTH = 120
-MOST = {"README.md": 140, "all pages": 3690}
+MOST = {"README.md": 140, "all pages": 3700}
 
 
 # --- tables ---
