@@ -1,7 +1,6 @@
 //! Each call beside Rust's own, and with each of its requests for memory refused.
 // On Windows a thread-local takes memory itself, so an allocator can't count by one.
 #![cfg(not(windows))]
-#![deny(unsafe_op_in_unsafe_fn)]
 
 use stand_in::alloc::{AllocError, Global};
 use stand_in::collections::VecDeque;
