@@ -120,7 +120,7 @@ fn layout() -> Layout {
     Layout::new(GraphemeClusterMode::Unicode)
 }
 
-/// A text with its cursor, and who hears of its changes. What takes neither a count nor a listener is that of the line
+/// A text with its cursor, and the listeners of its changes. What takes neither a count nor a listener is that of the line
 /// beneath.
 pub struct LineBuffer {
     pub(crate) inner: line::LineBuffer,

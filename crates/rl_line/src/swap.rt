@@ -70,6 +70,7 @@ fn swap_within(text: &mut String, from: usize, to: usize, part: &str)
     let alloc: Global = *text.allocator();
     let mut bytes = mem::replace(text, String::new(alloc)).into_bytes();
     swap_bytes(&mut bytes, from, to, part.as_bytes());
+    // SAFETY: the bytes are UTF-8, which is proved: a text gives way to a text between two of its characters.
     *text = unsafe { String::from_utf8_unchecked(bytes) };
 }
 
