@@ -7,8 +7,9 @@ The editor is rustyline 9.1.2 as Debian packs its sources: terminal, key maps, h
 core, which is its line, its record and its ring, is taken out, and three files here stand in its place, over the crate
 lodvarn beside this folder, or the one in FOLDER, or the core of rustyline 19.0.0 under that name (--original), which
 shows what these files do by themselves. It is built without a network, in a folder that is gone afterwards. Then its
-own tests run, and in a terminal what is typed, killed, yanked, undone and searched must show on the screen. Its last
-line is 'N passed, M failed'.
+own tests run, also those of the core that was taken out: where they read or set a private field, they are rewritten
+for that run to make a public call. And in a terminal what is typed, killed, yanked, undone and searched must show on
+the screen. Its last line is 'N passed, M failed'.
 """
 
 import os
@@ -25,8 +26,39 @@ sys.path.insert(0, str(HERE.parents[1] / "clients"))
 from terminal import await_that, editing, keys  # noqa: E402
 
 LODVARN = HERE.parent / "lodvarn"
-# How many tests the editor has beside those in the three files that are taken out, those in its docs too.
-TESTS = 124
+# How many tests the editor has, those in its docs too; how many of them are in the three files that are taken out, and
+# where those begin there.
+TESTS, CORE_TESTS = 175, 51
+TESTS_BEGIN = "#[cfg(test)]\nmod test"
+# How the core's tests come to make public calls: the pattern of what is private in them, and what stands for it. The
+# first drops the lines that assert what no public call tells.
+TO_PUBLIC = [
+    (r"(?m)^ *assert_eq!\([\w:()]+, \w+\.(?:redos\.len\(\)|index|last_action)\);\n", ""),
+    (r"\bAction, ", ""),
+    (r"\bs\.buf = String::from\((.+)\);", r"s.update(\1, 0);"),
+    (r"\bs\.pos = (\w+);", r"s.set_pos(\1);"),
+    (r"\bs\.buf\b", "s.as_str()"),
+    (r"\bs\.pos\b", "s.pos()"),
+    (r"\blet s = ", "let mut s = "),
+    (r"\bs\.prev_pos\(1\)", "s.move_backward(1).then(|| s.pos())"),
+    (r"\bcs\.(?:undos\.)?(len|insert|insert_str|delete|replace)\(", r"cs.0.\1("),
+    (r"\bcs\.redo\(&mut buf\)", "cs.0.redo(&mut buf.inner)"),
+    (r"\bkill_ring\.slots\.", "kill_ring."),
+    # In these tests the current text is in the last slot.
+    (r"\bkill_ring\.slots\[(\d)\]", r"kill_ring.text_back(kill_ring.len() - 1 - \1).unwrap()"),
+]
+# What those tests call, and the core of rustyline 19.0.0 does not have.
+TO_ORIGINAL = {
+    "undo": "impl Changeset { pub fn len(&self) -> usize { self.undos.len() } }",
+    "kill_ring": """impl KillRing {
+        pub fn len(&self) -> usize { self.slots.len() }
+        pub fn is_empty(&self) -> bool { self.slots.is_empty() }
+        pub fn text_back(&self, back: usize) -> Option<&str> {
+            let len = self.slots.len();
+            (back < len).then(|| self.slots[(self.index + len - back) % len].as_str())
+        }
+    }""",
+}
 # The tests that must fail, since docs/DIFFERENCES.md says so: by the name of each, what it says.
 DIFFERENT = {
     "test::vi_cmd::e": "a count of words is the n-th place of the list; rustyline drops a cluster after each hit",
@@ -65,13 +97,29 @@ STEPS = [
 ]
 
 
+def make_original(folder):
+    """Makes the core of rustyline 19.0.0, with the calls that tests need, as the crate lodvarn."""
+    make_newest(folder, "lodvarn")
+    for module, calls in TO_ORIGINAL.items():
+        with (folder / f"src/{module}.rs").open("a") as source:
+            source.write(calls)
+
+
+def take_place(taken_out, here):
+    """Writes a file here over one of the core, and after it the tests of that one, by public calls."""
+    tests = taken_out.read_text().partition(TESTS_BEGIN)[2]
+    for private, public in TO_PUBLIC:
+        tests = re.sub(private, public, tests)
+    taken_out.write_text(f"{here.read_text()}\n{TESTS_BEGIN}{tests}")
+
+
 def make_editor(folder, lodvarn):
     """Makes the editor's sources in a folder, with the files here for its core."""
     editor = folder / "editor"
     shutil.copytree(package_folder(), editor)
     (editor / ".cargo-checksum.json").unlink()
     for part in PARTS:
-        shutil.copy(HERE / f"{part}.rs", editor / "src")
+        take_place(editor / f"src/{part}.rs", HERE / f"{part}.rs")
     shutil.copy(HERE / "repl.rs", editor / "examples")
     with (editor / "Cargo.toml").open("a") as manifest:
         manifest.write(f'\n[dependencies.lodvarn]\npath = "{lodvarn}"\n\n[workspace]\n')
@@ -98,11 +146,13 @@ def run_tests(editor):
     failing = set(listed[1].split()) if listed else set()
     wrong = failing ^ DIFFERENT.keys()
     good = sum(map(int, passed)) - len(wrong - failing) + len(failing - wrong)
-    bad = len(wrong) + (good + len(wrong) < TESTS)
+    # What a test itself prints may stand right before or after this.
+    of_core = len(re.findall(rf"test (?:{'|'.join(PARTS)})::tests?::\w+ \.\.\. ", said))
+    bad = len(wrong) + (good + len(wrong) < TESTS or of_core != CORE_TESTS)
     if bad:
         print(re.sub(r"^test result:.*\n", "", said, flags=re.M))
         print(f"FAILED: {good} of {TESTS} tests went as they should; these did not: {sorted(wrong)}")
-    print(f"the editor's own tests: {good} went as they should")
+    print(f"the editor's own tests: {good} went as they should; {of_core} of {CORE_TESTS} of its core ran")
     return good, bad
 
 
@@ -138,7 +188,7 @@ def main():
         try:
             if words == ["--original"]:
                 lodvarn = folder / "lodvarn"
-                make_newest(lodvarn, "lodvarn")
+                make_original(lodvarn)
             editor = make_editor(folder, lodvarn)
         except NotThere as missing:
             print(f"{missing}\n0 passed, 1 failed")
