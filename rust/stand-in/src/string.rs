@@ -121,9 +121,12 @@ impl String {
     /// Kit `String::push_str`: puts `part` at the end.
     #[inline]
     pub fn push_str(&mut self, part: &str) -> Result<(), AllocError> {
-        // A byte alone is a character, and takes no call of `memcpy`.
+        // A byte alone is a character, and takes no call where there is room.
         if let [byte] = part.as_bytes() {
-            return self.push(char::from(*byte));
+            if self.0.len() < self.0.capacity() {
+                self.0.push(char::from(*byte));
+                return Ok(());
+            }
         }
         self.reserve(part.len())?;
         self.0.push_str(part);
