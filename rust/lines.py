@@ -12,14 +12,16 @@ from pathlib import Path
 sys.path.insert(0, str(Path(__file__).resolve().parent.parent / "faults"))
 from drive import FORMS, MOVEMENTS  # noqa: E402
 
-CHARS = r"a b c Z 7 _ . / é ß δ 漢 ǆ ŉ İ ﬃ \s \s \n \n \t \r \\ \u{301} \u{200d} \u{fe0f} \u{0} \u{10FFFF} \u{3000} \u{1f469}"
-CHARS = [*CHARS.split(), *r"\u{1f680} \u{1f1e9} \u{1f1ea} \u{1100} \u{1161} \u{11a8} \u{5d0} \u{903} \u{00a0} \u{1F3FF}".split()]
+CHARS = r"""a b c Z 7 _ . / é ß δ 漢 ǆ ŉ İ ﬃ \s \s \n \n \t \r \\ \u{301} \u{200d} \u{fe0f} \u{0} \u{10FFFF} \u{3000}
+    \u{1f469} \u{1f680} \u{1f1e9} \u{1f1ea} \u{1100} \u{1161} \u{11a8} \u{5d0} \u{903} \u{00a0} \u{1F3FF}""".split()
 TEXTS = ["word", "one two", r"a\nb", r"\s\sx", "foo_bar", "ÉTÉ", r"\u{1f44b}\u{1f3ff}", "x" * 70, r"\r\n", r"\n\n"]
 COUNTS = [0, 1, 1, 1, 1, 1, 2, 2, 2, 3, 5, 17, "007"]
+LENGTHS = [0, 1, 3, 20, 100, 100, 300, 300, 4096, 4096]
 BEYOND = ["4294967296", "18446744073709551615", "18446744073709551616", "99999999999999999999"]
-# What begins a session anew, or empties it, comes less often.
-RARE = {"text": 0.5, "limit": 0.1, "ring": 0.1, "mode": 0.1, "update": 0.2, "killbuf": 0.2, "discbuf": 0.2, "trunc": 0.3}
-WEIGHTS = [RARE.get(form.split()[0], 1) * (4 if form.startswith(("ins", "paste", "str", "rep")) else 1) for form in FORMS]
+# What begins a session anew, or empties it, comes less often, and what puts a text in more often.
+OFTEN = {"text": 0.5, "limit": 0.1, "ring": 0.1, "mode": 0.1, "update": 0.2, "killbuf": 0.2, "discbuf": 0.2}
+OFTEN |= dict.fromkeys(("ins", "paste", "str", "rep"), 4)
+WEIGHTS = [OFTEN.get(form.split()[0], 1) for form in FORMS]
 # What does something only after another line stands after that one half of the time.
 AFTER = {"yank": "yankpop", "yankpop": "yankpop", "undo": "redo", "redo": "redo", "endone": "reopen", "end": "reopen"}
 
@@ -42,7 +44,7 @@ def filled(chance, form):
         "D": lambda chance: chance.choice("fb"),
         "K": lambda chance: chance.choice([0, 1, 2, 4, 33, 255, 256]),
         # Without a limit a text would be copied until it had megabytes.
-        "L": lambda chance: number(chance, [0, 1, 3, 20, 100, 100, 300, 300, 4096, 4096], BEYOND[2 * form.startswith("limit") :]),
+        "L": lambda chance: number(chance, LENGTHS, BEYOND[2 * form.startswith("limit") :]),
         "M": lambda chance: filled(chance, chance.choice(MOVEMENTS)),
         "N": lambda chance: number(chance, COUNTS, [65535, 65536]),
         "P": lambda chance: chance.choice(["start", "before", "after"]),
@@ -56,8 +58,9 @@ def filled(chance, form):
 def broken(chance, line):
     """A line with one fault in its bytes; now and then it still means something."""
     at = chance.randint(0, len(line))
-    faults = [b" ", b"\xff", b"\xc3", b"\xed\xa0\x80", b"\\", rb"\u{D800}", rb"\u{1234567}", b"+", b"\r", b"\0", b"-1", b"x" * 5000]
-    return chance.choice([line[:at] + chance.choice(faults) + line[at:], line[:at], line[at:], re.sub(b" ", b"  ", line, count=1)])
+    faults = b" |\xff|\xc3|\xed\xa0\x80|\\|\\u{D800}|\\u{1234567}|+|\r|\0|-1".split(b"|") + [b"x" * 5000]
+    more = line[:at] + chance.choice(faults) + line[at:]
+    return chance.choice([more, line[:at], line[at:], re.sub(b" ", b"  ", line, count=1)])
 
 
 def main():
