@@ -7,13 +7,12 @@
 - Each row of the table of wrong bodies in docs/PROVING.md: its tests and files.
 - Each relative link: its file, and the heading of its #part.
 - Each path in backquotes that begins with a folder of the top: a file or a folder, or a pattern that matches one.
-- Each call and constant of C (lodvarn_.., LODVARN_..): in the headers of include, or a header, or a variable of the
-  environment. How many calls a page says that there are: those of a header, or of both.
-- Each call in the tables of calls of README.md and the clients' pages: in the headers, or in the client.
-- Each crate (rl_..): in crates.txt, or a call that clients/handles.c makes.
+- Each call and constant of C (lodvarn_.., LODVARN_..): in the header, or a variable of the environment.
+- Each call in the tables of calls of README.md, python and rust: in the header, or in the package or the crate.
+- Each crate (rl_..): in crates.txt, or an export that the handles of the library for C call.
 - Each word of a script (specs/Grammar.antt): one row in docs/RULES.md, and no other rows.
 - Each function, clause and definition in the column of contracts of docs/PROMISES.md: in the crates, as it is spelled.
-- Each default that a page tells: the limit and the size of the ring as LODVARN_OPTIONS has them.
+- The default size of the ring, where a page tells it: as LODVARN_OPTIONS has it.
 - Each page: no line of more than WIDTH characters, apart from code, tables and pictures. README.md and all pages
   together: no more lines than MOST says.
 
@@ -27,24 +26,26 @@ from collections import Counter
 from functools import cache, partial
 from pathlib import Path
 
+sys.dont_write_bytecode = True
 TOP = Path(__file__).resolve().parent.parent
-GLOBS = ["*.md", "docs/*.md", "clients/*/README.md", "rust/*/README.md", "examples/*/README.md"]
+sys.path.insert(0, str(TOP / "tests"))
+
+import header  # noqa: E402
+
+GLOBS = ["*.md", "docs/*.md", "python/README.md", "rust/*/README.md", "examples/README.md", "examples/*/README.md"]
 PAGES = sorted(page for glob in GLOBS for page in TOP.glob(glob))
-FOLDERS = ("crates", "docs", "clients", "examples", "faults", "include", "packaging", "rust", ".ci")
-# A folder that the build makes; a checkout does not have it.
-BUILT = "out"
+FOLDERS = ("crates", "docs", "examples", "include", "packaging", "python", "rust", "tests", ".ci")
 FENCED = re.compile(r"^( *)(```+|~~~+).*?^\1\2", re.M | re.S)
 LINK = re.compile(r"!?\[[^\]]*\]\(<?([^)\s>]+)>?[^)]*\)")
 SPAN = re.compile(r"(`+)(.+?)\1", re.S)
+# A call or a constant of C, and a crate.
 CALL = re.compile(r"\b(?:lodvarn_[a-z0-9_]*[a-z0-9]|LODVARN_[A-Z0-9_]*[A-Z0-9])\b(?!_)")
-# What the client for Python reads of the environment.
-VARIABLES = {"LODVARN_LIB"}
+# What the package for Python and the examples read of the environment.
+VARIABLES = {"LODVARN_LIB", "LODVARN_PREFIX"}
 CRATE = re.compile(r"\brl_[a-z_]+\b")
 WIDTH = 120
-MOST = {"README.md": 140, "all pages": 3700}
+MOST = {"README.md": 140, "all pages": 3590}
 
-
-# --- tables ---
 
 TABLE = re.compile(r"^\|(.*)\|\n\|[-|]+\|\n((?:\|.*\n)+)", re.M)
 
@@ -68,9 +69,6 @@ def see_column(count, page, head, faults_of):
     count.see(page, [] if cells else [f"no table has a column '{head}'"])
 
 
-# --- wrong bodies ---
-
-
 def bodies():
     """The rows of the edits that must fail: their crate, the file that their first line names, and what they do."""
     edits = TOP.glob("crates/*/must-fail/*.edit")
@@ -90,39 +88,22 @@ def faults_of_tests(cell):
     return [f"there is no {name}" for name in names if not has_name(name)] if names else ["nothing is named"]
 
 
-# --- links ---
-
-
 def prose_of(page):
     """The text of a page without its blocks of code."""
     return FENCED.sub("", page.read_text())
 
 
-def anchor_of(heading):
-    """The part of a link that leads to a heading."""
-    shown = LINK.sub(lambda found: found[0].partition("](")[0].lstrip("!["), heading)
-    return re.sub(r"[^\w\- ]", "", shown.strip().lower()).replace(" ", "-")
-
-
 def anchors_of(page):
-    """The parts of a page that a link may name. Where headings are alike, the later ones get a number."""
-    seen = Counter()
-    anchors = set()
-    for heading in re.findall(r"^#+ +(.+?) *#*$", prose_of(page), re.M):
-        anchor = anchor_of(heading)
-        anchors.add(f"{anchor}-{seen[anchor]}" if seen[anchor] else anchor)
-        seen[anchor] += 1
-    return anchors
-
-
-def is_relative(link):
-    """Whether a link names no host."""
-    return not re.match(r"[a-z][a-z0-9+.-]*:|//", link)
+    """The parts of a page that a link may name."""
+    shown = LINK.sub(lambda found: found[0].partition("](")[0].lstrip("!["), prose_of(page))
+    headings = re.findall(r"^#+ +(.+?) *#*$", shown, re.M)
+    return {re.sub(r"[^\w\- ]", "", it.strip().lower()).replace(" ", "-") for it in headings}
 
 
 def links_of(page):
-    """The relative links of a page, except those in code."""
-    return {link for link in LINK.findall(SPAN.sub("", prose_of(page))) if is_relative(link)}
+    """The relative links of a page, which name no host, except those in code."""
+    links = LINK.findall(SPAN.sub("", prose_of(page)))
+    return {link for link in links if not re.match(r"[a-z][a-z0-9+.-]*:|//", link)}
 
 
 def link_leads(page, link):
@@ -134,9 +115,6 @@ def link_leads(page, link):
     return not part or target.suffix == ".md" and part in anchors_of(target)
 
 
-# --- names in the text ---
-
-
 def paths_of(page):
     """The paths in backquotes that begin with a folder of the top."""
     words = (word.rstrip(".,;:") for _, span in SPAN.findall(prose_of(page)) for word in span.split())
@@ -146,26 +124,12 @@ def paths_of(page):
 
 
 def path_is_there(path):
-    """Whether a path is there. A folder that the build makes is skipped; NAME stands for any name."""
-    if BUILT in path.split("/"):
-        return True
+    """Whether a path is there, or in a folder out, which the build makes. NAME stands for any name."""
     braces = re.search(r"\{([^}]*)\}", path)
     if braces:
         return all(path_is_there(path.replace(braces[0], it, 1)) for it in braces[1].split(","))
-    return any(TOP.glob(re.sub(r"\bNAME\b", "*", path.rstrip("/"))))
+    return "out" in path.split("/") or any(TOP.glob(re.sub(r"\bNAME\b", "*", path.rstrip("/"))))
 
-
-def calls_of(page):
-    """The calls and constants of C that a page names, in code too."""
-    return set(CALL.findall(page.read_text()))
-
-
-def crates_of(page):
-    """The crates that a page names, in code too."""
-    return set(CRATE.findall(page.read_text()))
-
-
-# --- the words of a script ---
 
 GRAMMAR = "crates/rl_session/specs/Grammar.antt"
 # Each table of words in docs/RULES.md by its heading, with the definitions whose words it has.
@@ -198,23 +162,8 @@ def see_words(count, page):
             count.see(page, faults + ([] if rows[word] == 1 else [f"{heading}: {rows[word]} rows for {word}"]))
 
 
-# --- numbers ---
-
-# How pages tell the limit in bytes and how many texts the ring keeps, if nobody sets them, and how many calls C has.
-TOLD = {
-    "default limit": r"\ba limit of (\d+) bytes|\b(\d+) bytes if you (?:set|name) none|`limit_bytes` \((\d+) if",
-    "default ring": r"\ba ring of (\d+) (?:killed )?texts, and|\ba ring of (\d+)\n",
-    "number of calls": r"(?<![\d,])(\d+) calls\b",
-}
-DECLARED = re.compile(r"^(?!static)\w[\w ]*[ *]lodvarn_\w+\(", re.M)
-
-
-def numbers():
-    """The right numbers for each of TOLD, by the headers. Those of calls are of each header, and of both."""
-    headers = [it.read_text() for it in (TOP / "include").glob("*.h")]
-    options = re.search(r"{ sizeof\(lodvarn_options\), LODVARN_UNICODE, 0, (\d+), (\d+),", "".join(headers))
-    calls = [len(DECLARED.findall(it)) for it in headers]
-    return {options[1]}, {options[2]}, {str(it) for it in (*calls, sum(calls))}
+# How pages tell the options that hold if nobody sets them.
+TOLD = {"ring_size": r"\ba ring of (\d+) (?:killed )?texts, and|\ba ring of (\d+)\n"}
 
 
 def told_by(pattern, page):
@@ -222,23 +171,22 @@ def told_by(pattern, page):
     return {number for found in re.finditer(pattern, page.read_text()) for number in found.groups() if number}
 
 
-# --- the tables of calls ---
-
-# Where each language has what these tables name: in C, calls without their lodvarn_, and options.
+# Where Python and Rust have what these tables name. C has it in the header: calls without their lodvarn_, and options.
 LANGUAGES = {
-    "C": ("include/*.h", r"^(?:\w[\w ]*[ *]lodvarn_|    \w[\w ]*[ *])(\w+)[(;]"),
-    "Python": ("clients/python/lodvarn/*.py", r"^ *(?:def|class) (\w+)"),
+    "Python": ("python/lodvarn/*.py", r"^ *(?:def |class |(?=\w+: .* = _option))(\w+)"),
     "Rust": ("rust/lodvarn/src/**/*.rs", r"\bpub (?:fn|struct) (\w+)"),
 }
 # A page, the head of a column, and its language.
-CALL_TABLES = [("README.md", language, language) for language in LANGUAGES]
-CALL_TABLES += [("clients/python/README.md", "Calls of a `Session`", "Python")]
+CALL_TABLES = [("README.md", language, language) for language in ("C", *LANGUAGES)]
+CALL_TABLES += [("python/README.md", "Calls of a `Session`", "Python")]
 CALL_TABLES += [("rust/lodvarn/README.md", "Calls of a `Session`", "Rust")]
 
 
 @cache
 def named_in(language):
     """The names that a table of calls may have."""
+    if language == "C":
+        return {it.name.removeprefix("lodvarn_") for it in header.calls()} | {*header.defaults()}
     glob, pattern = LANGUAGES[language]
     return {name for file in TOP.glob(glob) for name in re.findall(pattern, file.read_text(), re.M)}
 
@@ -248,8 +196,6 @@ def faults_of_calls(language, cell):
     called = re.findall(r"(?:lodvarn_)?(\w+)(?:\([^`]*)?`", cell)
     return [f"{language} has no {it}" for it in called if not {it, f"__{it}__"} & named_in(language)]
 
-
-# --- the contracts of docs/PROMISES.md ---
 
 # Where a type, a trait or an impl begins, and where a function does.
 OWNER = re.compile(r"^(?:pub(?:\([a-z]+\))? )?(?:impl(?:<.*?>)? (?:.* for )?|trait |struct |enum )(\w+)")
@@ -324,9 +270,6 @@ def faults_of_contracts(contracts, cell):
     return [f"there is no {it}" for group in groups for it in faults_of_group(contracts, group)]
 
 
-# --- all of them ---
-
-
 class Count:
     """How many of the things that are named are there, and how many are not."""
 
@@ -346,15 +289,15 @@ class Count:
             self.see(page, [] if is_there(name) else [f"there is no {kind} {name}"])
 
 
-def see_page(count, page, header, crates):
+def see_page(count, page, calls, crates):
     """Looks for all that a page names."""
     count.see_all(page, "target of the link", links_of(page), lambda link: link_leads(page, link))
     count.see_all(page, "path", paths_of(page), path_is_there)
-    count.see_all(page, "call", calls_of(page), header.__contains__)
-    count.see_all(page, "crate", crates_of(page), crates.__contains__)
+    count.see_all(page, "call", set(CALL.findall(page.read_text())), calls.__contains__)
+    count.see_all(page, "crate", set(CRATE.findall(page.read_text())), crates.__contains__)
+    for option, pattern in TOLD.items():
+        count.see_all(page, option, told_by(pattern, page), header.defaults()[option].__eq__)
     prose = prose_of(page).splitlines()
-    for kind, right in zip(TOLD, numbers()):
-        count.see_all(page, kind, told_by(TOLD[kind], page), right.__contains__)
     wide = [line for line in prose if len(line) > WIDTH and not line.startswith(("|", "    ", "!["))]
     count.see(page, [f"too wide: {line[:60]}.." for line in wide])
 
@@ -379,13 +322,11 @@ def main():
     see_words(count, TOP / "docs/RULES.md")
     for page, head, language in CALL_TABLES:
         see_column(count, TOP / page, head, partial(faults_of_calls, language))
-    headers = list((TOP / "include").glob("*.h"))
-    names = {name for header in headers for name in (header.stem, *CALL.findall(header.read_text()))}
-    header = VARIABLES | names
+    calls = VARIABLES | header.names() | {header.HEADER.stem}
     crates = set(re.findall(r"^(\w+)", (TOP / "crates.txt").read_text(), re.M))
-    crates |= set(CRATE.findall((TOP / "clients/handles.c").read_text()))
+    crates |= set(CRATE.findall((TOP / "rust/lodvarn-c/src/handles.rs").read_text()))
     for page in PAGES:
-        see_page(count, page, header, crates)
+        see_page(count, page, calls, crates)
     see_lengths(count)
     print(f"{count.passed} passed, {count.failed} failed")
     return 1 if count.failed else 0

@@ -1,27 +1,24 @@
 #!/usr/bin/env python3
 """Runs the examples of the pages (PAGES) from their text, and compares what they print with the pages.
 
-    python3 docs/examples.py [--only KIND] [--out FOLDER] [--script PATH]
-    python3 docs/examples.py --check [..]
+    python3 docs/examples.py [--only KIND]
 
 Before each fenced block of code stands a comment that says what it is:
 
-    <!-- run: rattle -->    a program in Rattle, run by `rt try` in a copy of the crates, as an extra crate
-    <!-- run: c -->         a program in C, built by gcc and pkg-config over the library in FOLDER (clients/out), and
-                            run in a folder of its own
-    <!-- run: python -->    a program in Python, with the folder clients/python to import from, whose module is built
+    <!-- run: c -->         a program in C, built by gcc and pkg-config over the installed library
+    <!-- run: python -->    a program in Python, with the folder python to import from, whose module is built
     <!-- run: rust -->      a program in Rust, in a package that depends on rust/lodvarn
-    <!-- run: script -->    lines for the program at PATH (crates/rl_script/out/rl_script)
-    <!-- run: sh -->        commands for bash, run in a copy of the repository that has the library, the program and the
-                            module for Python
+    <!-- run: script -->    lines for the program lodvarn-script, which cargo builds
+    <!-- run: sh -->        commands for bash, run in a copy of the repository, where pkg-config finds the library
     <!-- prints -->         what the example before it must print, exactly. Instead, a line may stand right after the
                             example: It prints `..`. Only an example for bash may do without both
     <!-- shown -->          what is not run; a piece of code must stand whole in an example that is run
     <!-- from: FILE -->     a piece of that file, whose lines stand there in the same order
 
-A block without such a comment fails. KIND is one of these runs, or `shown` for all that is not run. With --check it
-checks that wrong pages fail, such as one whose example prints something else. One line says what is wrong with each
-block that fails, and the last one is 'N passed, M failed'.
+A block without such a comment fails. KIND is one of these runs, or `shown` for all that is not run. The library is the
+one in the folder that LODVARN_PREFIX names in the environment, or else one that packaging/install makes. With what is
+not run it checks that wrong pages fail, such as one whose example prints something else. One line says what is wrong
+with each block that fails, and the last one is 'N passed, M failed'.
 """
 
 import argparse
@@ -35,9 +32,14 @@ from concurrent.futures import ThreadPoolExecutor
 from dataclasses import dataclass
 from pathlib import Path
 
+sys.dont_write_bytecode = True
 TOP = Path(__file__).resolve().parent.parent
+sys.path.insert(0, str(TOP / "examples"))
+
+from programs import flags, installed  # noqa: E402
+
 PAGES = ["README.md", "docs/GUIDE.md", "docs/FORMAT.md", "docs/RULES.md", "docs/DECISIONS.md"]
-PAGES += ["clients/python/README.md", "rust/lodvarn/README.md"]
+PAGES += ["python/README.md", "rust/lodvarn/README.md", "examples/README.md"]
 PAGES += sorted(str(page.relative_to(TOP)) for page in TOP.glob("examples/*/README.md"))
 # Blocks in these languages are not pieces of code: outputs, pictures, settings, and commands that take long.
 PLAIN = {"", "text", "sh", "toml"}
@@ -76,11 +78,10 @@ class Block:
 
 @dataclass
 class Place:
-    """Where the library and the program lie, and a folder for what is built."""
+    """A folder for what is built, and where the library is installed, if it is needed."""
 
-    out: Path
-    script: Path
     room: Path
+    prefix: Path | None = None
 
     def folder(self):
         return Path(tempfile.mkdtemp(dir=self.room))
@@ -158,44 +159,16 @@ def output(words, given="", **how):
     return ran.stdout
 
 
-def copy_crates(folder):
-    """Copies the sources of the crates, and nothing that was built."""
-    for name in ["crates.txt", "HANDLES"]:
-        shutil.copy(TOP / name, folder)
-    for crate in (TOP / "crates").iterdir():
-        for part in ["src", "specs", "proofs"]:
-            if (crate / part).is_dir():
-                shutil.copytree(crate / part, folder / "crates" / crate.name / part)
-
-
-def run_rattle(text, place):
-    folder = place.folder()
-    copy_crates(folder)
-    known = set(re.findall(r"\w+", (TOP / "crates.txt").read_text())) - {"staticlib"}
-    named = [name for name in dict.fromkeys(re.findall(r"(\w+)::", text)) if name in known]
-    with open(folder / "crates.txt", "a", encoding="utf-8") as crates:
-        crates.write(f"example: {' '.join(named)}\n")
-    source = folder / "crates/example/src"
-    source.mkdir(parents=True)
-    (source / "main.rt").write_text(text)
-    said = output(["rt", "try"], cwd=folder / "crates/example")
-    shutil.rmtree(folder)
-    return said
-
-
 def run_c(text, place):
     folder = place.folder()
     (folder / "example.c").write_text(text)
-    environment = {**os.environ, "PKG_CONFIG_PATH": str(place.out / "lib/pkgconfig")}
-    flags = output(["pkg-config", "--cflags", "--libs", "lodvarn"], env=environment).split()
-    output(["gcc", *WARNINGS, "example.c", *flags, "-o", "example"], cwd=folder)
-    libraries = {**os.environ, "LD_LIBRARY_PATH": str(place.out / "lib")}
-    return output([str(folder / "example")], env=libraries, cwd=folder)
+    output(["gcc", *WARNINGS, "example.c", *flags(place.prefix), "-o", "example"], cwd=folder)
+    return output([str(folder / "example")], cwd=folder)
 
 
 def run_python(text, place):
-    environment = {**os.environ, "PYTHONPATH": str(TOP / "clients/python"), "PYTHONDONTWRITEBYTECODE": "1"}
-    python = output([str(TOP / "clients/interpreter")]).strip()
+    environment = {**os.environ, "PYTHONPATH": str(TOP / "python"), "PYTHONDONTWRITEBYTECODE": "1"}
+    python = output([str(TOP / "tests/python/interpreter")]).strip()
     return output([python, "-"], given=text, env=environment, cwd=place.folder())
 
 
@@ -209,24 +182,22 @@ def run_rust(text, place):
 
 
 def run_script(text, place):
-    return output([str(place.script)], given=text)
+    words = ["cargo", "run", "--quiet", "--release", "--offline", "--package", "lodvarn-script"]
+    return output(words, given=text, cwd=TOP / "rust")
 
 
 def run_sh(text, place):
     folder = place.folder() / "lodvarn"
     shutil.copytree(TOP, folder, ignore=shutil.ignore_patterns(".git", "out", "target", "__pycache__"))
-    for part in ["include", "lib"]:
-        if (place.out / part).is_dir():
-            shutil.copytree(place.out / part, folder / "clients/out" / part)
-    if place.script.is_file():
-        (folder / "crates/rl_script/out").mkdir()
-        shutil.copy(place.script, folder / "crates/rl_script/out/rl_script")
-    said = output(["bash", "-euo", "pipefail", "-c", text], cwd=folder)
+    libraries = f"{place.prefix}/lib"
+    environment = {**os.environ, "PKG_CONFIG_PATH": f"{libraries}/pkgconfig", "LD_LIBRARY_PATH": libraries}
+    environment.pop("CARGO_TARGET_DIR", None)
+    said = output(["bash", "-euo", "pipefail", "-c", text], env=environment, cwd=folder)
     shutil.rmtree(folder)
     return said
 
 
-RUNS = {"rattle": run_rattle, "c": run_c, "python": run_python, "rust": run_rust, "script": run_script, "sh": run_sh}
+RUNS = {"c": run_c, "python": run_python, "rust": run_rust, "script": run_script, "sh": run_sh}
 
 
 # Judgements.
@@ -293,81 +264,40 @@ def judge_pages(only, place):
 
 # The check of this program: pages, and what must be said of them, '' where nothing is wrong.
 
-RATTLE = """use rl_base::NoListener;
-use rl_line::LineBuffer;
-
-fn main(rt: HostRuntime) -> std::io::Result<()> {
-    let Ok(mut line) = LineBuffer::with_capacity(rt.alloc(), 9) else {
-        return Ok(());
-    };
-    let _ = line.insert('a', 1, &mut NoListener);
-    println!(rt; "{}", line.as_str())
-}
-"""
-C = """#include <lodvarn.h>
-#include <stdio.h>
-
-int main(void) {
-    size_t len = 0;
-    lodvarn_first_cluster("a", 1, &len);
-    printf("%zu\\n", len);
-}
-"""
-RUST = """fn main() {
-    println!("{}", lodvarn::first_cluster("a"));
-}
-"""
-
 
 def fenced(comment, text, language=""):
     return f"<!-- {comment} -->\n```{language}\n{text}```\n"
 
 
-def printing(kind, text, printed):
-    return fenced(f"run: {kind}", text) + "\nIt prints\n\n" + fenced("prints", printed, "text")
-
-
-ECHO = printing("sh", "echo a\n", "a\n")
-PRINT = printing("python", "a = 1\nb = 2\n\nif a:\n    print(a)\n", "1\n")
+ONE = fenced("run: python", "a = 1\nb = 2\n\nif a:\n    print(a)\n")
 CHECKS = [
-    ("rattle", printing("rattle", RATTLE, "b\n"), "it printed 'a\\n'"),
-    ("c", printing("c", C, "2\n"), "it printed '1\\n'"),
-    ("python", printing("python", "import lodvarn\nprint(lodvarn.width('a'))\n", "2\n"), "it printed '1\\n'"),
-    ("rust", printing("rust", RUST, "b\n"), "it printed 'a\\n'"),
-    ("script", printing("script", "text a\n", "ok 1 b\n"), "it printed 'ok 1 a\\n'"),
-    ("sh", ECHO, ""),
-    ("sh", printing("sh", "echo a\n", "b\n"), "it printed 'a\\n'"),
-    ("sh", printing("sh", "printf a\n", "a\n"), "it printed 'a'"),
-    ("sh", fenced("run: sh", "exit 3\n"), "status 3"),
-    ("sh", fenced("run: sh", "false | true\necho a\n"), "status 1"),
-    ("sh", fenced("run: sh", "head -c 9 README.md docs/examples.py\n"), ""),
-    ("python", PRINT, ""),
-    ("python", fenced("run: python", "print(1)\n") + "It prints `1`.\n", ""),
-    ("python", fenced("run: python", "print(1)\n") + "\nIt prints `2`.\n", "it printed '1\\n'"),
-    ("python", fenced("run: python", "print(1)\n") + "\nThen\n\nIt prints `1`.\n", "nothing after it says"),
-    ("perl", fenced("run: perl", "print 1\n"), "there is no kind 'perl'"),
-    ("shown", "```text\na\n```\n", "no comment"),
-    ("shown", "Some text.\n\n    indented\n", "no comment"),
-    ("shown", "- a list\n\n    - in a list\n", ""),
-    ("shown", fenced("run, later", "a\n"), "no such comment"),
-    ("shown", "<!-- shown -->\n```text\na\n", "a fence that does not end"),
-    ("shown", fenced("shown", "a\n", "text"), ""),
-    ("shown", fenced("prints", "a\n"), "no example stands right before"),
-    ("shown", PRINT + fenced("shown", "b = 2\nif a:\n", "python"), ""),
-    ("shown", PRINT + fenced("shown", "a = 1\nif a:\n", "python"), "stands in no example"),
-    ("shown", fenced("from: docs/examples.py", "import argparse\nimport sys\n", "python"), ""),
-    ("shown", fenced("from: docs/examples.py", "import sys\nimport argparse\n", "python"), "in this order"),
-    ("shown", fenced("from: docs/nowhere.py", "a\n", "python"), "in this order"),
+    (ONE + fenced("prints", "1\n"), ""),
+    (ONE + fenced("prints", "1\n1\n"), "it printed '1\\n'"),
+    (ONE + "It prints `1`.\n", ""),
+    (ONE + "\nIt prints `2`.\n", "it printed '1\\n'"),
+    (ONE + "\nThen\n\nIt prints `1`.\n", "nothing after it says"),
+    (fenced("run: python", "raise SystemExit(3)\n") + "It prints `1`.\n", "status 3"),
+    (fenced("run: perl", "print 1\n"), "there is no kind 'perl'"),
+    ("```text\na\n```\n", "no comment"),
+    ("Some text.\n\n    indented\n", "no comment"),
+    ("- a list\n\n    - in a list\n", ""),
+    (fenced("run, later", "a\n"), "no such comment"),
+    ("<!-- shown -->\n```text\na\n", "a fence that does not end"),
+    (fenced("shown", "a\n", "text"), ""),
+    (fenced("prints", "a\n"), "no example stands right before"),
+    (ONE + "It prints `1`.\n" + fenced("shown", "b = 2\nif a:\n", "python"), ""),
+    (ONE + "It prints `1`.\n" + fenced("shown", "a = 1\nif a:\n", "python"), "stands in no example"),
+    (fenced("from: docs/examples.py", "import argparse\nimport sys\n", "python"), ""),
+    (fenced("from: docs/examples.py", "import sys\nimport argparse\n", "python"), "in this order"),
+    (fenced("from: docs/nowhere.py", "a\n", "python"), "in this order"),
 ]
 
 
-def judge_self(only, place):
+def judge_self(place):
     """What is wrong with the judgements of the pages of CHECKS."""
     faults = []
-    for kind, page, wanted in CHECKS:
-        if only not in (None, kind):
-            continue
-        said = "; ".join(filter(None, judge(blocks_of("page", page), kind, place)))
+    for page, wanted in CHECKS:
+        said = "; ".join(filter(None, judge(blocks_of("page", page), None, place)))
         is_right = wanted in said if wanted else not said
         faults.append("" if is_right else f"{page!r}: wanted {wanted!r}, and it said {said!r}")
     return faults
@@ -375,20 +305,19 @@ def judge_self(only, place):
 
 def main():
     parser = argparse.ArgumentParser(description=__doc__, formatter_class=argparse.RawDescriptionHelpFormatter)
-    library, program = TOP / "clients/out", TOP / "crates/rl_script/out/rl_script"
     parser.add_argument("--only", metavar="KIND", choices=[*RUNS, "shown"], help="only the blocks of that kind")
-    parser.add_argument("--out", metavar="FOLDER", type=Path, default=library, help="where the library is")
-    parser.add_argument("--script", metavar="PATH", type=Path, default=program, help="the program rl_script")
-    parser.add_argument("--check", action="store_true", help="look whether wrong pages fail")
-    given = parser.parse_args()
+    only = parser.parse_args().only
     with tempfile.TemporaryDirectory(prefix="lodvarn-") as room:
-        place = Place(given.out.resolve(), given.script.resolve(), Path(room))
-        faults = (judge_self if given.check else judge_pages)(given.only, place)
+        place = Place(Path(room))
+        faults = judge_self(place) if only in (None, "shown") else []
+        if only in (None, "c", "sh"):
+            place.prefix = installed(place.room)
+        faults += judge_pages(only, place)
     wrong = list(filter(None, faults))
     for fault in wrong:
         print(fault)
     print(f"{len(faults) - len(wrong)} passed, {len(wrong)} failed")
-    return 1 if wrong or not faults else 0
+    return 1 if wrong else 0
 
 
 if __name__ == "__main__":

@@ -4,8 +4,7 @@
     python3 docs/picture.py            writes them
     python3 docs/picture.py --check    compares them with those that are there. Its last line is 'N passed, M failed'
 
-The programs must be built in clients/out, as clients/test does. Needs tmux. Fails if one does not show what its steps
-say.
+Programs are built as examples/test.py says. Needs tmux. Fails if one does not show what its steps say.
 """
 
 import os
@@ -18,11 +17,12 @@ from pathlib import Path
 
 sys.dont_write_bytecode = True
 TOP = Path(__file__).resolve().parent.parent
-sys.path.insert(0, str(TOP / "clients"))
+sys.path += [str(TOP / "tests"), str(TOP / "examples")]
 
+from programs import built  # noqa: E402
 from terminal import PROMPT_SHOWN, SCREEN_SHOWN, await_that, editing, keys  # noqa: E402
 
-OUT, PYTHON, ENTER = TOP / "clients/out", Path(sys.executable), keys("Enter")
+PYTHON, ENTER = sys.executable, keys("Enter")
 MODAL, CALCULATOR = TOP / "examples/modal/modal.py", TOP / "examples/calculator/calculator.py"
 # What a terminal tells of a program that shows nothing before it has read something.
 NOTHING_SHOWN = "0 0"
@@ -30,14 +30,14 @@ NOTHING_SHOWN = "0 0"
 # terminal, and the steps: what is typed, as texts and lists of keys by tmux's names, the last rows that are shown then,
 # and the column of the cursor.
 PICTURES = [
-    ("docs/lodvarn.svg", "A line editor", [OUT / "edit"], PROMPT_SHOWN, (60, 20), [
+    ("docs/lodvarn.svg", "A line editor", ["editor"], PROMPT_SHOWN, (60, 20), [
         (["hello wörld 日本"], ["> hello wörld 日本"], 18),
         ([keys("M-b M-b M-u")], ["> hello WÖRLD 日本"], 13),
         ([keys("C-e M-Enter"), "and a second row"], ["> hello WÖRLD 日本", "and a second row"], 16),
         ([ENTER, "one two"], ["=> hello WÖRLD 日本", "and a second row", "> one two"], 9),
         ([keys("M-t")], ["> two one"], 9),
     ]),
-    ("examples/prompt/picture.svg", "The prompt of a shell", [OUT / "prompt"], PROMPT_SHOWN, (60, 20), [
+    ("examples/prompt/picture.svg", "The prompt of a shell", ["prompt"], PROMPT_SHOWN, (60, 20), [
         (["echo one two", ENTER], ["$ echo one two", "one two", "$"], 2),
         (["ls e", keys("Tab Enter")], ["$ ls edit", "edit", "$"], 2),
         (["two", keys("C-r")], ["$ echo one two"], 14),
@@ -59,7 +59,7 @@ PICTURES = [
         (["5/", keys("C-y C-_"), "0"], ["> 5/0"], 5),
         ([ENTER], ["> 5/0", "error: division by zero", ">"], 2),
     ]),
-    ("examples/form_field/picture.svg", "A form field", [OUT / "rust/debug/form_field"], NOTHING_SHOWN, (60, 20), [
+    ("examples/form_field/picture.svg", "A form field", ["form_field"], NOTHING_SHOWN, (60, 20), [
         (["type one two", ENTER], ["[one two   ] 7"], 0),
         (["select-word-left", ENTER], ["[one two   ] 4 two"], 0),
         (["paste 日本語", ENTER], ["[ne 日本語 ] 9"], 0),
@@ -172,15 +172,16 @@ def picture_of(title, words, begun, size, steps):
 
 
 def main():
-    os.environ["PYTHONPATH"] = os.pathsep.join([str(TOP / "clients/python"), str(TOP / "examples")])
+    os.environ["PYTHONPATH"] = os.pathsep.join([str(TOP / "python"), str(TOP / "examples")])
     failed = 0
-    for name, *given in PICTURES:
-        picture, file = picture_of(*given), TOP / name
-        if sys.argv[1:] != ["--check"]:
-            file.write_text(picture, encoding="utf-8")
-        elif not file.is_file() or file.read_text(encoding="utf-8") != picture:
-            print(f"{name} is not what docs/picture.py makes")
-            failed += 1
+    with built("editor", "prompt", "form_field") as programs:
+        for name, title, (program, *given), *rest in PICTURES:
+            picture, file = picture_of(title, [programs.get(program, program), *given], *rest), TOP / name
+            if sys.argv[1:] != ["--check"]:
+                file.write_text(picture, encoding="utf-8")
+            elif not file.is_file() or file.read_text(encoding="utf-8") != picture:
+                print(f"{name} is not what docs/picture.py makes")
+                failed += 1
     print(f"{len(PICTURES) - failed} passed, {failed} failed")
     return 1 if failed else 0
 

@@ -3,7 +3,8 @@
 
     python3 examples/test.py [NAME..]    tests those of these folders, or all of them
 
-The prompt and the form field must be built in clients/out, as clients/test does. Its last line is 'N passed, M failed'.
+Those in C and in Rust are built, over the library in the folder that LODVARN_PREFIX names, if the environment has that;
+the module for Python must be. Its last line is 'N passed, M failed'.
 """
 
 import os
@@ -15,12 +16,12 @@ import sys
 from pathlib import Path
 
 HERE = Path(__file__).resolve().parent
-sys.path.insert(0, str(HERE.parent / "clients"))
+sys.path.insert(0, str(HERE.parent / "tests"))
 
+from programs import built  # noqa: E402
 from terminal import PATIENCE, PAUSED, SCREEN_SHOWN, await_that, editing, keys  # noqa: E402
 
 PYTHON = Path(sys.executable)
-PROMPT, FIELD = HERE.parent / "clients/out/prompt", HERE.parent / "clients/out/rust/debug/form_field"
 # What runs in the terminal, where ./edit is the program: m has the modes of before.
 COMMAND = "export m=$(stty -g); ./edit {}; echo ended $?; [ $m = $(stty -g) ] && echo as before; exec cat"
 FAMILY, DIGITS = "\U0001f468\u200d\U0001f469\u200d\U0001f467", "0123456789"
@@ -229,21 +230,21 @@ def run_case(terminal, what, given, rows, cursor, rings=False):
     return seen == wanted
 
 
-def run_prompt():
+def run_prompt(program):
     """The outcomes of the prompt."""
     for case in PROMPT_CASES:
-        with editing(PROMPT, command=COMMAND.format("")) as terminal:
+        with editing(program, command=COMMAND.format("")) as terminal:
             (terminal.path / "n/c").mkdir(parents=True)
             for name in NAMES:
                 (terminal.path / "n" / name).touch()
             yield run_case(terminal, *case)
-    yield run_gone()
+    yield run_gone(program)
 
 
-def run_gone():
+def run_gone(program):
     """Whether the prompt ends where its terminal is gone, though no signal tells it so."""
     master, slave = os.openpty()
-    prompt = subprocess.Popen([PROMPT], stdin=slave, stdout=slave)
+    prompt = subprocess.Popen([program], stdin=slave, stdout=slave)
     os.close(slave)
     select.select([master], [], [], PATIENCE)
     os.close(master)
@@ -254,7 +255,7 @@ def run_gone():
     return status == 0
 
 
-def run_modal():
+def run_modal(_):
     """The outcomes of the modal editor. What it shows in reverse is in its picture."""
     for what, text, *case in MODAL_CASES:
         command = COMMAND.format(shlex.join([str(HERE / "modal/modal.py"), text]))
@@ -262,7 +263,7 @@ def run_modal():
             yield run_case(terminal, what, *case)
 
 
-def run_calculator():
+def run_calculator(_):
     """The outcomes of the calculator, and whether it answers the lines of a pipe."""
     program = HERE / "calculator/calculator.py"
     for case in CALCULATOR_CASES:
@@ -274,12 +275,12 @@ def run_calculator():
     yield answers == ANSWERS.encode()
 
 
-def run_form_field():
+def run_form_field(program):
     """Whether the form field answers as it should, in each case."""
     for what, rows in FIELD_CASES:
         given = "".join(f"{key}\n" for key, _ in rows)
         wanted = "".join(f"{answer}\n" for _, answer in rows)
-        answers = subprocess.run([FIELD], input=given, stdout=subprocess.PIPE, text=True, timeout=PATIENCE).stdout
+        answers = subprocess.run([program], input=given, stdout=subprocess.PIPE, text=True, timeout=PATIENCE).stdout
         if answers != wanted:
             print(f"FAILED: {what}\n  wanted {wanted!r}\n  saw {answers!r}")
         yield answers == wanted
@@ -287,8 +288,10 @@ def run_form_field():
 
 def main():
     runs = {"prompt": run_prompt, "modal": run_modal, "calculator": run_calculator, "form_field": run_form_field}
-    os.environ["PYTHONPATH"] = os.pathsep.join([str(HERE.parent / "clients/python"), str(HERE)])
-    outcomes = [outcome for name in sys.argv[1:] or runs for outcome in runs[name]()]
+    names = sys.argv[1:] or [*runs]
+    os.environ["PYTHONPATH"] = os.pathsep.join([str(HERE.parent / "python"), str(HERE)])
+    with built(*{"prompt", "form_field"}.intersection(names)) as programs:
+        outcomes = [outcome for name in names for outcome in runs[name](programs.get(name))]
     print(f"{outcomes.count(True)} passed, {outcomes.count(False)} failed")
     return 0 if all(outcomes) else 1
 

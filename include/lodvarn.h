@@ -5,9 +5,8 @@
  *     lodvarn_insert(s, 'c', 1);
  *     lodvarn_close(&s);
  *
- * The library is built for Linux on x86-64, and for a processor with x86-64-v2 (SSE4.2). Each call that opens something
- * looks at the processor; the calls without a session do not, and may end the program by SIGILL on an older one. The
- * shared file is liblodvarn.so.0, and all calls bear the version LODVARN_0: docs/GUIDE.md says what that promises.
+ * On Linux the shared file is liblodvarn.so.0, and all calls bear the version LODVARN_0: docs/GUIDE.md says what that
+ * promises.
  *
  * Pointers
  * - No pointer is NULL, unless a comment allows it: a session in lodvarn_close, the options in lodvarn_open, and a text
@@ -37,22 +36,25 @@
  * from 1 on if it is done. So if (lodvarn_undo(s, 1) > 0) asks whether something was undone. The comment of each call
  * names its errors, without LODVARN_. NO_SUCH_NUMBER is one of every call that takes a count, a character, a movement
  * or an enum: a count above 65535, no character, or a number that is not in the enum. NOT_UTF8 is one of every call
- * that takes a text, and WRONG_PROCESSOR of every call that opens something. What an error leaves:
+ * that takes a text. What an error leaves:
  * - NO_MEMORY: an edit of several steps stops after the steps that it made, and the record has these. Every other call
- *   leaves text, cursor, record and limit as they were. The ring may have kept a text that a kill did not delete.
- * - BAD_PLACE, NOT_REPLAYING and NO_ROOM: text, cursor, record and limit as they were. The call still counts as a
- *   command, unless it is a read, lodvarn_kill_range, or lodvarn_yank_pop that is out of room: a kill after it begins a
- *   new text of the ring, and lodvarn_yank_pop after it finds nothing.
- * - Every other error: the whole session as it was.
- * But a call that is refused may have kept what was undone, if the option keeps_undone is set.
+ *   leaves text, cursor and record as they were. The ring may have kept a text that a kill did not delete.
+ * - BAD_PLACE, BAD_YANK_SIZE and NOT_REPLAYING: text, cursor and record as they were. The call still counts as a
+ *   command, unless it is a read or lodvarn_kill_range: a kill after it begins a new text of the ring, and
+ *   lodvarn_yank_pop after it finds nothing.
+ * - Every other error: the whole session as it was. But a call that returns one of the errors before may have kept what
+ *   was undone, if the option keeps_undone is set.
+ * No call makes the text longer than the limit, also not between its steps: it returns NO_ROOM and leaves the session
+ * as it was.
  * A call writes to an argument only if it returns 1 or more, or TOO_SMALL. lodvarn_script writes in any case.
  *
  * Memory
  * It comes from malloc and realloc, and lodvarn_close frees all that a session has. A call asks for some only if its
- * comment names NO_MEMORY. lodvarn_watch finds room for its whole queue. All else is found by the call that needs it: a
- * longer text, a newline, an entry of the record, a text of the ring, and copies that it frees again. The record grows
- * until lodvarn_truncate or lodvarn_restart, or up to the bound in the options; the ring up to ring_size texts, and up
- * to its bound in bytes.
+ * comment names NO_MEMORY; but a call that goes by lines or by rows, as lodvarn_count_lines, asks for 8 bytes a line to
+ * find lines sooner, and works without them if they are refused. lodvarn_watch finds room for its whole queue. All else
+ * is found by the call that needs it: a longer text, a newline, an entry of the record, a text of the ring, and copies
+ * that it frees again. The record grows until lodvarn_truncate or lodvarn_restart, or up to the bound in the options;
+ * the ring up to ring_size texts, and up to its bound in bytes.
  *
  * docs/RULES.md says exactly what each call does. */
 #ifndef LODVARN_H
@@ -101,8 +103,7 @@ enum lodvarn_answer {
     LODVARN_IS_WATCHED = -9,     /* the session keeps reports already */
     LODVARN_CLOSED = -10,        /* the session was lost in a call that a signal handler left */
     LODVARN_UNKNOWN_FORMAT = -11, /* the bytes do not begin as this version saves them */
-    LODVARN_DAMAGED = -12,       /* the saved bytes are not those of a session */
-    LODVARN_WRONG_PROCESSOR = -13 /* the processor lacks some of x86-64-v2, for which the library is built */
+    LODVARN_DAMAGED = -12        /* the saved bytes are not those of a session */
 };
 
 /* How columns are counted. The values of all enums that calls take differ. */
@@ -214,18 +215,17 @@ typedef struct lodvarn_options {
     size_t size;
     enum lodvarn_mode mode;
     uint16_t prompt;       /* the column where the text begins, after a prompt: for motions up and down */
-    size_t limit;          /* how many bytes the text may have; as many as it has if that is more */
-    size_t ring_size;      /* how many texts the kill ring keeps. It can't be changed once a session is open */
+    size_t limit;          /* how many bytes the text may have */
+    size_t ring_size;      /* how many texts the kill ring keeps */
     size_t max_entries;    /* how many entries the record may have, */
     size_t max_bytes;      /* and they how many bytes of text. See lodvarn_set_options */
     size_t max_ring_bytes; /* how many bytes the texts of the ring may have together */
-    bool limit_holds;      /* whether no call makes the text longer than the limit: see lodvarn_set_options */
     bool keeps_undone;     /* whether each edit keeps what was undone: see lodvarn_keep_undone */
 } lodvarn_options;
 
-#define LODVARN_OPTIONS                                                                                            \
-    { sizeof(lodvarn_options), LODVARN_UNICODE, 0, 4096, 60, LODVARN_NO_BOUND, LODVARN_NO_BOUND, LODVARN_NO_BOUND, \
-      false, false }
+#define LODVARN_OPTIONS                                                                                    \
+    { sizeof(lodvarn_options), LODVARN_UNICODE, 0, LODVARN_NO_LIMIT, 60, LODVARN_NO_BOUND, LODVARN_NO_BOUND, \
+      LODVARN_NO_BOUND, false }
 
 /* The kinds of movements. No program needs them: it calls the functions below. */
 enum lodvarn_movement_kind {
@@ -328,7 +328,8 @@ static inline lodvarn_movement lodvarn_to_text_end(void) { return lodvarn_moveme
 
 /* Opens a session on a text, with the cursor at its end, and sets *out to it, which is not read. If options is NULL it
  * has those of LODVARN_OPTIONS. No room is reserved for the limit, and the kill ring takes no memory before it keeps a
- * text. Errors: NOT_UTF8, NO_SUCH_NUMBER also if size is none that this version knows, NO_MEMORY; they leave *out. */
+ * text. Errors: NOT_UTF8, NO_ROOM, NO_SUCH_NUMBER also if size is none that this version knows, NO_MEMORY; they leave
+ * *out. */
 int lodvarn_open(lodvarn **out, const lodvarn_options *options, const char *text, size_t len);
 
 /* Opens a session of the bytes that lodvarn_save wrote, and sets *out to it, which is not read: text and cursor,
@@ -348,23 +349,19 @@ int lodvarn_save(lodvarn *s, char *out, size_t cap, size_t *len);
 void lodvarn_close(lodvarn **s);
 
 /* Begins anew with a text, with the cursor at its end, as an editor does with the next line. The record is empty then.
- * The kill ring keeps its texts; a kill begins a new one, and lodvarn_yank_pop finds nothing until a yank. The limit
- * rises if the text is longer, and the options stay. The reports tell that all the old text gave way to the new one.
- * Errors: NOT_UTF8, NO_ROOM if the limit holds, and NO_MEMORY only if the text needs more room; they leave the whole
- * session. */
+ * The kill ring keeps its texts; a kill begins a new one, and lodvarn_yank_pop finds nothing until a yank. The options
+ * stay. The reports tell that all the old text gave way to the new one. Errors: NOT_UTF8, NO_ROOM, and NO_MEMORY, which
+ * leaves the whole session too, only if the text needs more room. */
 int lodvarn_restart(lodvarn *s, const char *text, size_t len);
 
-/* Sets what may be chosen. A kill after it still goes on from the kill before it. The limit becomes the text's length
- * if that is greater. The bound of the record holds now and after each later command: as long as the record has more
- * than max_entries entries, or they more than max_bytes bytes of text, of what went and of what came, it forgets the
- * oldest change or closed group, which can't be undone then. A group that is open stays, with all after its begin, and
- * so does what was undone. Numbers of entries that were told before count what is gone. Likewise the ring drops its
- * oldest text as long as all have more than max_ring_bytes bytes together. If that was the current one, the newest is
- * current then, and a kill begins a new text. Where limit_holds is set, no command makes the text longer than limit,
- * nor does a step of one: what would returns NO_ROOM and changes nothing. Else lodvarn_insert_at, lodvarn_replace,
- * lodvarn_change_case, lodvarn_indent, lodvarn_transpose_words, lodvarn_abandon_group, lodvarn_undo, lodvarn_redo and
- * lodvarn_restart raise the limit. Errors: NO_SUCH_NUMBER, also if size is none that this version knows, or ring_size
- * is not the session's. */
+/* Sets what may be chosen. A kill after it still goes on from the kill before it. The bound of the record holds now and
+ * after each later command: as long as the record has more than max_entries entries, or they more than max_bytes bytes
+ * of text, removed and inserted, it forgets the oldest change or closed group, which can't be undone then. A
+ * group that is open stays, with all after its begin, and so does what was undone. Numbers of entries that were told
+ * before count what is gone. Likewise the ring drops its oldest text as long as it has more than ring_size texts, or
+ * they more than max_ring_bytes bytes together. If that was the current one, the newest is current then, and a kill
+ * begins a new text. Errors: NO_ROOM if the text is longer than limit, NO_SUCH_NUMBER also if size is none that this
+ * version knows. */
 int lodvarn_set_options(lodvarn *s, const lodvarn_options *options);
 
 /* Writes what is chosen to *options, whose size the caller has set. A read. Errors: NO_SUCH_NUMBER if size is none that
@@ -390,25 +387,22 @@ int lodvarn_paste(lodvarn *s, const char *text, size_t len, size_t n);
  * or an empty one. Errors: NO_ROOM, NO_MEMORY. */
 int lodvarn_yank(lodvarn *s, size_t n);
 
-/* Replaces the text that the last call yanked by the one before it in the ring. These are two changes: call
- * lodvarn_begin_group before the yank, and lodvarn_end_group after the last call of this, if one undo should take back
- * all. Returns NOTHING if lodvarn_last_was_yank is false. If the text before it is empty, what was yanked is deleted.
- * Errors: NO_ROOM, which leaves the whole session; NO_MEMORY; BAD_YANK_SIZE only right after lodvarn_load, if the bytes
- * were made to say that another text was yanked than stands before the cursor. */
+/* Replaces the text that the last call yanked by the one before it in the ring. One undo takes back this, the yank and
+ * the calls of this between them; but not a yank of n above 1, of which this replaces the last text, nor what was done
+ * before a lodvarn_set_saved. Returns NOTHING if lodvarn_last_was_yank is false. If the text before it is empty, what
+ * was yanked is deleted. Errors: NO_ROOM, NO_MEMORY, BAD_YANK_SIZE only right after lodvarn_load, if the bytes were
+ * made to say that another text was yanked than stands before the cursor. */
 int lodvarn_yank_pop(lodvarn *s);
 
-/* Replaces the whole text by another one, which is cut to the limit. The cursor goes to the place pos of the new text,
- * or to its end if it was cut before pos. These are two changes, see lodvarn_transpose_chars. Errors: BAD_PLACE if pos
- * is no boundary of the text that was passed, NO_MEMORY. */
+/* Replaces the whole text by another one. The cursor goes to the place pos of the new text. Errors: BAD_PLACE if pos is
+ * no boundary of the new text, NO_ROOM, NO_MEMORY. */
 int lodvarn_set_text(lodvarn *s, size_t pos, const char *text, size_t len);
 
-/* Inserts a text at a place. The limit rises if the text is longer then, or, where it holds, nothing goes in. The
- * cursor's place keeps its number. Errors: BAD_PLACE also if the cursor would come to stand inside a character,
- * NO_ROOM, NO_MEMORY. */
+/* Inserts a text at a place. The cursor's place keeps its number. Errors: BAD_PLACE also if the cursor would come to
+ * stand inside a character, NO_ROOM, NO_MEMORY. */
 int lodvarn_insert_at(lodvarn *s, size_t place, const char *text, size_t len);
 
-/* Replaces what stands in a range by a text. The limit rises if the text is longer then, or, where it holds, nothing
- * changes. The cursor goes after the text. Errors: BAD_PLACE, NO_ROOM, NO_MEMORY. */
+/* Replaces what stands in a range by a text. The cursor goes after the text. Errors: BAD_PLACE, NO_ROOM, NO_MEMORY. */
 int lodvarn_replace(lodvarn *s, lodvarn_range range, const char *text, size_t len);
 
 /* Deletes what stands in a range. The cursor goes to its start. Errors: BAD_PLACE, NO_MEMORY. */
@@ -427,19 +421,16 @@ int lodvarn_backspace(lodvarn *s, size_t n);
 int lodvarn_delete_by(lodvarn *s, lodvarn_movement movement);
 
 /* Exchanges the clusters before and after the cursor; at the end of the text, the last two. The cursor goes after both.
- * Returns NOTHING if there are not two. These are two changes: call it between lodvarn_begin_group and
- * lodvarn_end_group if one undo should take back both. Errors: NO_MEMORY. */
+ * Returns NOTHING if there are not two. Errors: NO_MEMORY. */
 int lodvarn_transpose_chars(lodvarn *s);
 
 /* Exchanges the word that ends n-th after the cursor with the word n words before it. The cursor goes after both.
- * Returns NOTHING if there are not two; the cursor may have moved then. These are four changes, see
- * lodvarn_transpose_chars. Errors: NO_ROOM if between them the text has no room for the first word in the place of the
- * second, NO_MEMORY. */
+ * Returns NOTHING if there are not two; the cursor may have moved then. Errors: NO_ROOM if on the way the text has no
+ * room for the first word in the place of the second, NO_MEMORY. */
 int lodvarn_transpose_words(lodvarn *s, size_t n);
 
 /* Changes the letter case of the rest of the word at the cursor, or of the next word. The cursor goes after the word.
- * Returns NOTHING if there is none. These are two changes, see lodvarn_transpose_chars. Errors: NO_ROOM,
- * NO_MEMORY. */
+ * Returns NOTHING if there is none. Errors: NO_ROOM, NO_MEMORY. */
 int lodvarn_change_case(lodvarn *s, enum lodvarn_case to);
 
 /* Deletes what a movement covers. The ring keeps it, except by lodvarn_chars_back and lodvarn_chars_forward.
@@ -469,7 +460,7 @@ int lodvarn_clear_ring(lodvarn *s);
 int lodvarn_copy(lodvarn *s, lodvarn_movement movement, char *out, size_t cap, size_t *len);
 
 /* Inserts amount spaces at the start of each line that a movement covers, or deletes up to amount bytes of blanks
- * there. Each line is a change or more, see lodvarn_transpose_chars. Errors: NO_ROOM, NO_MEMORY. */
+ * there. Errors: NO_ROOM, NO_MEMORY. */
 int lodvarn_indent(lodvarn *s, lodvarn_movement movement, uint8_t amount, enum lodvarn_indentation indentation);
 
 /* Parts what comes from what was done: the next change joins no other, so that it is undone alone, the next kill begins
@@ -491,9 +482,9 @@ int lodvarn_begin_group(lodvarn *s);
 int lodvarn_end_group(lodvarn *s);
 int lodvarn_end_all_groups(lodvarn *s);
 
-/* Takes the group up again that was closed last, if nothing was recorded after it: it is open, and what comes is a part
- * of it, until it is closed once more. What was undone is forgotten then. Returns NOTHING if there is no such group, or
- * if keeps_undone is set and there is a change to redo; the record stays then. */
+/* Takes the group up again that was closed last, also that of an edit, if nothing was recorded after it: it is open,
+ * and what comes is a part of it, until it is closed once more. What was undone is forgotten then. Returns NOTHING if
+ * there is no such group, or if keeps_undone is set and there is a change to redo; the record stays then. */
 int lodvarn_reopen_group(lodvarn *s);
 
 /* Takes back the innermost group that is open, with those that were closed in it, and forgets it, as for a completion
@@ -502,28 +493,31 @@ int lodvarn_reopen_group(lodvarn *s);
  * is open, and text and record stay. Errors: NO_ROOM as for an undo, NO_MEMORY. */
 int lodvarn_abandon_group(lodvarn *s);
 
-/* Undoes the last n changes and groups, all if there are fewer. The cursor goes to where it was before them. An edit is
- * a change of its own, or several, as its comment says. But it joins the last change, and is undone with it, if it is
+/* Undoes the last n changes and groups, all if there are fewer; while a group is open, at most what was done in the
+ * innermost one, which stays open. The cursor goes to where it was before them. An edit of several changes makes them a
+ * group: lodvarn_set_text, lodvarn_yank_pop, lodvarn_transpose_chars, lodvarn_transpose_words, lodvarn_change_case and
+ * lodvarn_indent do, also if they were refused after some. If no memory is left for the marks of such a group, each of
+ * the changes is undone alone. Any other edit is one change. It joins the last one, and is undone with it, if it is
  * - one letter or digit by lodvarn_insert with n = 1, and the last change an insertion that ends at its place;
  * - the deletion or kill of one letter or digit, and the last change a deletion at that place, to either side;
  * - a text by lodvarn_replace, and the last change one whose new text ends at its place.
  * Motions between them do not matter; nothing joins over where a group begins or ends, or right after lodvarn_part,
- * lodvarn_set_saved, or lodvarn_keep_undone if it kept something. Returns NOTHING if there was no change. Errors:
- * NO_ROOM if a text on the way back is longer than a limit that holds, NO_MEMORY. */
+ * lodvarn_set_saved, or lodvarn_keep_undone if it kept something. Returns NOTHING if there was no change; if a group is
+ * open, the whole session stays then. Errors: NO_ROOM if a text on the way back is longer than the limit, NO_MEMORY. */
 int lodvarn_undo(lodvarn *s, size_t n);
 
 /* Redoes what was undone last, one change or group. Returns NOTHING if there is none. Errors: NO_ROOM as for an
  * undo, NO_MEMORY. */
 int lodvarn_redo(lodvarn *s);
 
-/* Keeps what was undone, which the next edit or group would forget: it is recorded again as it was, but that its open
- * groups are closed, and then the inverse of each of its changes and groups, the last first. Text and cursor stay, and
- * nothing can be redone. So an undo of n goes to where n redos would have gone, as many undos more come back, and those
- * after them go on to what was recorded before. A bound counts all of these, and so does lodvarn_is_saved: only undos
- * come back to the save. The next change joins none of these, and the ring stays: so it may come before each edit, also
- * between kills, and before lodvarn_yank_pop. If the option keeps_undone is set, each edit, and each begin and end of a
- * group, does this first, also if it then finds nothing to do; but lodvarn_abandon_group, lodvarn_truncate and
- * lodvarn_restart still forget. Returns NOTHING if nothing was undone, and the record stays. Errors: NO_MEMORY. */
+/* Keeps what was undone, which the next edit or group would forget: it is recorded again as it was, and then the
+ * inverse of each of its changes and groups, the last first. Text and cursor stay, and nothing can be redone. So an
+ * undo of n goes to where n redos would have gone, as many undos more come back, and those after them go on to what was
+ * recorded before. A bound counts all of these, and so does lodvarn_is_saved: only undos come back to the save. The
+ * next change joins none of these, and the ring stays: so it may come before each edit, also between kills, and before
+ * lodvarn_yank_pop. If the option keeps_undone is set, each edit, and each begin and end of a group, does this first,
+ * also if it then finds nothing to do; but lodvarn_abandon_group, lodvarn_truncate and lodvarn_restart still forget.
+ * Returns NOTHING if nothing was undone, and the record stays. Errors: NO_MEMORY. */
 int lodvarn_keep_undone(lodvarn *s);
 
 /* Keeps the first entries of the record, as many as the argument says, and forgets the others and what was undone. The
@@ -634,8 +628,7 @@ int lodvarn_row_below(lodvarn *s, const lodvarn_screen *screen, size_t n, size_t
 size_t lodvarn_entries(lodvarn *s);
 size_t lodvarn_level(lodvarn *s);
 
-/* Returns whether lodvarn_undo with n = 1, or lodvarn_redo, would find a change. An undo would find none in an empty
- * record, nor right after lodvarn_begin_group. */
+/* Returns whether lodvarn_undo with n = 1, or lodvarn_redo, would find a change. */
 bool lodvarn_can_undo(lodvarn *s);
 bool lodvarn_can_redo(lodvarn *s);
 

@@ -1,10 +1,8 @@
 #!/usr/bin/env python3
-"""Prints the manual page of a header: its head, and each group of calls, each call with its comment.
+"""Prints the manual page of include/lodvarn.h: its head, and each group of calls, each call with its comment.
 
-    packaging/man.py HEADER VERSION    the date of the page is SOURCE_DATE_EPOCH of the environment
-
-A comment with no code of its own begins a group: its first sentence is the title. What only the preprocessor needs, and
-names that end with an underscore, are left out.
+The date of the page is SOURCE_DATE_EPOCH of the environment. What only the preprocessor needs, and names that end with
+an underscore, are left out.
 """
 
 import os
@@ -13,8 +11,10 @@ import sys
 import time
 from pathlib import Path
 
-COMMENT = re.compile(r"^/\*(.*?)\*/\n", re.M | re.S)
-# A part of one: an item of a list, lines of an example, a title, or the lines of a paragraph.
+sys.path.insert(0, str(Path(__file__).resolve().parent.parent / "tests"))
+import header  # noqa: E402
+
+# A part of a comment: an item of a list, lines of an example, a title, or the lines of a paragraph.
 PART = re.compile(r"^- .*(?:\n  .*)*|^(?:    .*\n?)+|^[A-Z][a-z]+$|(?:^(?!- | ).+\n?)+", re.M)
 NAMED = re.compile(r"\blodvarn_\w+")
 PLUMBING = re.compile(r'^(?:#(?:if|end|inc)|extern "C"|\}$|#define \w+_H$).*\n?', re.M)
@@ -58,22 +58,14 @@ def shown(code):
     return "\n\n".join(it for it in parts if it).split("\n")
 
 
-def blocks_of(header):
-    """The comments of a header, as plain text, each with the code after it."""
-    _, *parts = COMMENT.split(header)
-    plain = (re.sub(r"^ \*(?: |$)", "", it, flags=re.M).strip() for it in parts[::2])
-    return list(zip(plain, parts[1::2]))
-
-
-def page_of(header, name, version, date):
-    """The lines of the page."""
-    (head, _), *blocks = blocks_of(header)
+def main():
+    (head, _), *blocks = header.blocks()
     title, _, rest = head.partition(".")
-    told = " ".join(title.partition(": ")[2].split())
+    date = time.strftime("%Y-%m-%d", time.gmtime(int(os.environ["SOURCE_DATE_EPOCH"])))
     page = [
-        f'.TH {name.upper()} 3 {date} "Lodvarn {version}" "Library Functions Manual"',
-        ".nh", ".ad l", ".ss 12 0", ".SH NAME", rf"{name} \- {told}",
-        ".SH SYNOPSIS", rf"\fB#include <{name}.h>\fR", ".PP",
+        f'.TH LODVARN 3 {date} "Lodvarn {header.version()}" "Library Functions Manual"',
+        ".nh", ".ad l", ".ss 12 0", ".SH NAME", rf"lodvarn \- {title.partition(': ')[2]}",
+        ".SH SYNOPSIS", r"\fB#include <lodvarn.h>\fR", ".PP",
         r"\fBgcc\fR \fIFILE\fR\fB.c $(pkg\-config \-\-cflags \-\-libs lodvarn)\fR",
         ".SH DESCRIPTION", *text_of(rest.strip("\n")), ".SH TYPES",
     ]
@@ -83,13 +75,7 @@ def page_of(header, name, version, date):
             page += [f".SH {group.upper()}", *text_of(rest.strip())]
         elif shown(code) != [""]:
             page += [*code_of(shown(code), "B"), ".RS 4", *text_of(comment)[1:], ".RE"]
-    return page
-
-
-def main():
-    header, version = Path(sys.argv[1]), sys.argv[2]
-    date = time.strftime("%Y-%m-%d", time.gmtime(int(os.environ["SOURCE_DATE_EPOCH"])))
-    print("\n".join(page_of(header.read_text(), header.stem, version, date)))
+    print("\n".join(page))
 
 
 if __name__ == "__main__":

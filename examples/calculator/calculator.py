@@ -1,4 +1,4 @@
-"""A calculator's prompt in a terminal: PYTHONPATH=clients/python:examples python3 examples/calculator/calculator.py
+"""A calculator's prompt in a terminal: PYTHONPATH=python:examples python3 examples/calculator/calculator.py
 
 The keys are those of Emacs. Each line that is entered is evaluated, up to C-d on an empty one. Without a terminal it
 evaluates the lines of its input.

@@ -1,4 +1,4 @@
-"""A small vi in a terminal: PYTHONPATH=clients/python:examples python3 examples/modal/modal.py [TEXT]
+"""A small vi in a terminal: PYTHONPATH=python:examples python3 examples/modal/modal.py [TEXT]
 
 h j k l 0 ^ $ w b move, f goes to a character. i and a type, up to ESC. x kills a character, d what a motion covers in
 the line. v selects by motions; then d kills, y keeps. p puts what came last. m and a letter set a mark, ` and it go
@@ -25,7 +25,7 @@ class Vi:
     """A text that ends with a newline, as those of vi do, and what the keys do with it."""
 
     def __init__(self, text: str, terminal: RawTerminal) -> None:
-        self.session = Session(text, limit_bytes=None)
+        self.session = Session(text)
         self.session.pos = 0
         self.session.on_change = self.move_marks
         self.keys = terminal.keys(self.draw)

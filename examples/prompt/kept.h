@@ -44,20 +44,13 @@ static inline bool kept_write(const char *path, mode_t mode, const char *bytes, 
     return close(file) == 0 && is_written && rename(beside, path) == 0;
 }
 
-/* Loads the session of a file, and gives it the options but for the size of its ring. Returns NULL if the file has none,
- * or one whose text is longer than the limit. */
+/* Loads the session of a file, and gives it the options. Returns NULL if the file has none, or one whose text is longer
+ * than the limit. */
 static inline lodvarn *kept_load(const char *path, lodvarn_options options) {
-    lodvarn_options own = LODVARN_OPTIONS;
-    lodvarn_view text = {"", 0};
     lodvarn *s = NULL;
     size_t len;
     char *bytes = kept_read(path, &len);
-    if (bytes && lodvarn_load(&s, bytes, len) > 0) {
-        lodvarn_get_options(s, &own);
-        options.ring_size = own.ring_size;
-        lodvarn_text(s, &text);
-        if (text.len > options.limit || lodvarn_set_options(s, &options) < 0) lodvarn_close(&s);
-    }
+    if (bytes && lodvarn_load(&s, bytes, len) > 0 && lodvarn_set_options(s, &options) < 0) lodvarn_close(&s);
     free(bytes);
     return s;
 }

@@ -14,7 +14,7 @@
 #include <unistd.h>
 
 enum {
-    LIMIT = 4096, /* bytes of a line, as LODVARN_OPTIONS has it */
+    LIMIT = 4096, /* bytes that a line may have */
     LINES = 32,   /* lines that are kept */
     AHEAD = 8     /* columns from the cursor to the right edge, in a row that slides */
 };
@@ -252,7 +252,7 @@ static void enter_raw(void) {
 
 int main(int argc, char **argv) {
     lodvarn_options options = LODVARN_OPTIONS;
-    options.limit_holds = true;  /* a name would raise the limit */
+    options.limit = LIMIT;
     options.keeps_undone = true; /* no edit loses what was undone: undos come to it */
     if (argc > 1) path = argv[1];
     if (path) s = kept_load(path, options);

@@ -180,11 +180,18 @@ left_with texts back r =
     if nat_lt back (length texts) then record r { slots = reverse texts; index = length texts - 1 - back; newest = length texts - 1 }
     else record r { slots = reverse texts; index = length texts - 1; newest = length texts - 1; last = Other }
 
+-- the ring with its newest texts alone, so many of them or all
+abbrev pub with_newest : ℕ → Ring → Ring
+with_newest kept r = left_with (take kept (newest_first r)) (behind r.newest r.index (length r.slots)) r
+
+-- the ring with room for so many texts: the oldest beyond that are gone
+abbrev pub resized : ℕ → Ring → Ring
+resized size r = if size == r.size then r else record (with_newest size r) { size = size }
+
 -- the ring once its oldest texts went that do not fit
 abbrev pub cut_to : ℕ → Ring → Ring
 cut_to bytes r =
-    if length (fitting bytes (newest_first r)) == length r.slots then r
-    else left_with (fitting bytes (newest_first r)) (behind r.newest r.index (length r.slots)) r
+    if length (fitting bytes (newest_first r)) == length r.slots then r else with_newest (length (fitting bytes (newest_first r))) r
 
 -- the same by a bound, of which the greatest `usize` is none
 abbrev pub within_bytes : ℕ → Ring → Ring

@@ -1,5 +1,5 @@
 -- Reports in order, with their texts one after another in one text.
-use Rattle.std.specs.Prelude.{◌≡◌, ℕ, ◌+◌, ◌<◌, ◌≤◌, ◌==◌, ◌⊎◌, List, [], ◌∷◌, String, length, take, drop, if◌then◌else◌}
+use Rattle.std.specs.Prelude.{◌≡◌, ℕ, ◌+◌, ◌<◌, ◌≤◌, ◌==◌, List, [], ◌∷◌, String, length, take, drop, if◌then◌else◌}
 use Rattle.std.specs.Str.{IsUtf8}
 use Rattle.rl_base.specs.declared.reports.Report.{Report}
 use Rattle.std.specs.String.{string_bytes, string_capacity}
@@ -25,10 +25,6 @@ pub record KeepsRoom (old new : Notes) : Type 0 where
 abbrev pub Lacks : List ℕ → Notes → Type 0
 Lacks texts n =
     (0 < length (kept n.text_room texts)) × (n.bytes < text_bytes n.waiting + text_bytes n.waiting + length (kept n.text_room texts))
-
--- to put other reports after those that wait, and leave room for so many more, takes memory
-abbrev pub AppendTakesMemory : Notes → ℕ → Notes → Type 0
-AppendTakesMemory later more n = (0 < length later.waiting) ⊎ (n.places < length n.waiting + more)
 
 -- texts were not kept after others: memory is out for them, and the others are as they were
 abbrev pub NotKept : {Z : Type 0} → ℕ → List ℕ → String Z → String Z → Refusal → Type 0

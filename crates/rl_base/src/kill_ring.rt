@@ -4,7 +4,7 @@ ghost use Rattle.std.specs.String.{string_bytes};
 ghost use Rattle.std.specs.Borrow.{sem};
 ghost use Rattle.rl_base.specs.declared.listeners.Refusal.TheVariants.{NoMemory};
 ghost use Rattle.rl_base.specs.Gathered.{IsPackedAt, texts};
-ghost use Rattle.rl_base.specs.KillRing.{Enlarges, IsRing, PutTakesMemory, Ring, back_from, behind, cleared, cut_to, fitting, index_before, join_at, joined, killed, new_index, new_ring, newest_first, next_index, put_at, reset, ruled, text_back, within_bytes, yank, yank_pop, yank_popped, yank_size, yanked};
+ghost use Rattle.rl_base.specs.KillRing.{Enlarges, IsRing, PutTakesMemory, Ring, back_from, behind, cleared, cut_to, fitting, index_before, join_at, joined, killed, new_index, new_ring, newest_first, next_index, put_at, reset, resized, ruled, text_back, with_newest, within_bytes, yank, yank_pop, yank_popped, yank_size, yanked};
 ghost use Rattle.rl_base.specs.RingLends.{EndsAs};
 ghost use Rattle.rl_base.specs.declared.kill_ring.Mode.{Mode};
 ghost use Rattle.rl_base.specs.declared.kill_ring.NewKill.{NewKill};
@@ -96,6 +96,19 @@ impl KillRing {
         self.rule = rule;
     }
 
+    /// Sets how many texts it keeps at most. Beyond that the oldest go, and the current text stays the current one. If
+    /// it went, or there was none, the newest is current, nothing was done last, and the next kill begins a new text.
+    /// Setting the size that it has changes nothing. It takes no memory.
+    pub fn set_size(&mut self, size: usize)
+        ensures { self.new ≡ resized size self.old }
+    {
+        if size == self.size {
+            return;
+        }
+        self.leave(size);
+        self.size = size;
+    }
+
     /// Puts a killed text into the ring (GNU readline: kill-line and its like). Right after another kill it is joined
     /// to that kill's text, at the side that `dir` says. Else it goes right after the current text, or after the newest
     /// if `set_new_kill` chose so, replaces one that stands there, and becomes the current one. Refused only if memory is
@@ -162,8 +175,7 @@ impl KillRing {
         }
     }
 
-    // Drops the oldest texts, if some do not fit. What stays stands from the first slot on then, the oldest first, so that new
-    // texts go after it while there is room.
+    // Drops the oldest texts, if some do not fit.
     #[inline(never)]
     fn forget_oldest(&mut self, bytes: usize)
         ensures { self.new ≡ cut_to bytes self.old }
@@ -172,10 +184,19 @@ impl KillRing {
         if kept == self.slots.len() {
             return;
         }
+        self.leave(kept);
+    }
+
+    // Keeps so many texts from the newest back, or all. They stand from the first slot on then, the oldest first, so
+    // that new texts go after them while there is room.
+    fn leave(&mut self, kept: usize)
+        ensures { self.new ≡ with_newest kept self.old }
+    {
         let back = behind(self.newest, self.index, self.slots.len());
         keep_newest(&mut self.slots, self.newest, kept);
-        self.newest = kept.saturating_sub(1);
-        if back < kept {
+        let left = self.slots.len();
+        self.newest = left.saturating_sub(1);
+        if back < left {
             self.index = self.newest - back;
             return;
         }
@@ -215,6 +236,13 @@ impl KillRing {
         ensures { result ≡ self.now.size }
     {
         self.size
+    }
+
+    /// Where a new kill puts its text.
+    pub fn new_kill(&self) -> NewKill
+        ensures { result ≡ self.now.rule }
+    {
+        self.rule
     }
 
     /// How many texts it holds.
@@ -353,15 +381,15 @@ fn fitting_len(bytes: usize, newest: usize, slots: &[Gathered]) -> usize
     kept
 }
 
-// Keeps so many slots from the newest back, the newest last.
+// Keeps so many slots from the newest back, or all, the newest last.
+#[tactic(auto, using(crate::proofs::Ring::BoundLemmas::kept_newest))]
 fn keep_newest(slots: &mut Vec<Gathered>, newest: usize, kept: usize)
-    requires newest { newest < length slots.old.items }
-    requires kept { kept ≤ length slots.old.items }
+    requires { newest < max 1 (length slots.old.items) }
     ensures { texts slots.new.items ≡ reverse (take kept (back_from newest (texts slots.old.items))) }
 {
-    slots.rotate_left(newest + 1);
-    let gone = slots.len() - kept;
-    slots.drain(..gone);
+    let all = slots.len();
+    slots.rotate_left((newest + 1).min(all));
+    slots.drain(..all.saturating_sub(kept));
 }
 
 // Puts a text over the slot at an index, or after all slots.
@@ -426,10 +454,10 @@ fn text_at(slots: &[Gathered], index: usize) -> Option<&String>
     }
 }
 
-/// Whatever is done with a new ring but `forget`, and if no kill is refused, it holds the latest groups of consecutive
-/// kills since it was cleared, as many as it has room for. If new kills go after the current text, that is so until the
-/// first `yank_pop`; if they go after the newest, always. A yank gives the newest, right after a kill and as long as there
-/// was no `yank_pop`. Consecutive kills are one group: their texts, joined.
+/// Whatever is done with a new ring but `forget` and `set_size`, and if no kill is refused, it holds the latest groups
+/// of consecutive kills since it was cleared, as many as it has room for. If new kills go after the current text, that
+/// is so until the first `yank_pop`; if they go after the newest, always. A yank gives the newest, right after a kill
+/// and as long as there was no `yank_pop`. Consecutive kills are one group: their texts, joined.
 #[tactic(auto, using(crate::proofs::Ring::KillGroupLemmas::grouping))]
 pub fn ring_holds_groups()
     ensures last { (size : ℕ) (rule : NewKill) (doings : List Doing) → 0 < size → (rule ≡ AfterCurrent → NoPops doings)

@@ -1,11 +1,11 @@
 //! Reports in order, with their texts one after another in one text.
-ghost use Rattle.std.specs.Prelude.{◌≡◌, ◌+◌, ◌-◌, ◌^◌, ◌<◌, ◌≤◌, ◌⊎◌, ◌++◌, ◌∷◌, [], None, IfErr, IfOk, OnOk, drop, encode_utf8, length, option_map, take};
+ghost use Rattle.std.specs.Prelude.{◌≡◌, ◌+◌, ◌-◌, ◌^◌, ◌<◌, ◌≤◌, ◌⊎◌, ◌++◌, ◌∷◌, [], None, IfErr, IfOk, OnOk, drop, encode_utf8, is_some, length, option_map};
 ghost use Rattle.std.specs.Str.{IsCharBoundary};
 ghost use Rattle.std.specs.String.{string_bytes, string_capacity};
 ghost use Rattle.std.specs.VecDeque.{deque_len, deque_capacity};
 ghost use Rattle.rl_base.specs.declared.listeners.Refusal.TheVariants.{NoMemory};
 ghost use Rattle.rl_base.specs.declared.reports.ReportKind.TheVariants.{CharInserted};
-ghost use Rattle.rl_base.specs.Notes.{AppendTakesMemory, KeepsRoom, Lacks, NotKept, bytes_kept};
+ghost use Rattle.rl_base.specs.Notes.{KeepsRoom, Lacks, NotKept, bytes_kept};
 ghost use Rattle.rl_base.specs.Reports.{Whole, joined, kept, noted, oldest, on_last, reports_of, text_bytes, texts_of, told_cursors, told_note};
 
 use crate::listeners::Refusal;
@@ -17,7 +17,7 @@ use std::marker::Model;
 /// Reports that wait, the oldest first, each with its texts: what went, and right after it what came. What is forgotten costs
 /// no more than what was put in.
 #[derive(Drop)]
-pub struct Notes {
+pub(crate) struct Notes {
     // How many bytes of texts may wait; 0 if none are kept.
     text_room: usize,
     waiting: VecDeque<Report>,
@@ -47,22 +47,9 @@ impl Model for Notes {
 }
 
 impl Notes {
-    /// Nothing waits. All texts will be kept. It takes no memory.
-    pub fn new(alloc: Global) -> Self
-        ensures all { result.text_room ≡ 2 ^ 64 - 1 }
-        ensures nothing { result.waiting ≡ [] }
-    {
-        Notes {
-            text_room: usize::MAX,
-            waiting: VecDeque::new(alloc),
-            texts: String::new(alloc),
-            spent: 0,
-        }
-    }
-
     /// Nothing waits, and there is memory for so many reports and, with forgotten ones before them, for so many bytes of texts.
     /// Refused only if memory is out, and never if it needs none.
-    pub fn with_room(alloc: Global, room: usize, text_room: usize) -> Result<Self, Refusal>
+    pub(crate) fn with_room(alloc: Global, room: usize, text_room: usize) -> Result<Self, Refusal>
         ensures ok { IfOk result (λ n. (n.text_room ≡ text_room) × (n.waiting ≡ []) × (room ≤ n.places) × (text_room + text_room ≤ n.bytes)) }
         ensures err { IfErr result (λ r. (r ≡ NoMemory) × ((0 < room) ⊎ (0 < text_room))) }
     {
@@ -82,7 +69,7 @@ impl Notes {
     /// How many reports wait.
     #[inline(always)]
     #[tactic(auto, using(crate::proofs::Queue::QueueLemmas::counted))]
-    pub fn len(&self) -> usize
+    pub(crate) fn len(&self) -> usize
         ensures { result ≡ length self.now.waiting }
     {
         self.waiting.len()
@@ -90,7 +77,7 @@ impl Notes {
 
     /// How many bytes of texts may wait; 0 if none are kept.
     #[inline(always)]
-    pub fn text_room(&self) -> usize
+    pub(crate) fn text_room(&self) -> usize
         ensures { result ≡ self.now.text_room }
     {
         self.text_room
@@ -99,14 +86,14 @@ impl Notes {
     /// How many bytes of texts wait.
     #[inline(always)]
     #[tactic(auto, using(crate::proofs::Queue::QueueLemmas::counted))]
-    pub fn text_len(&self) -> usize
+    pub(crate) fn text_len(&self) -> usize
         ensures { result ≡ text_bytes self.now.waiting }
     {
         self.texts.len() - self.spent
     }
 
     /// The oldest report that waits, None if none does.
-    pub fn oldest(&self) -> Option<Report>
+    pub(crate) fn oldest(&self) -> Option<Report>
         ensures { result ≡ option_map (λ n. n.report) (oldest (Whole self.now.waiting)) }
     {
         self.waiting.front().copied()
@@ -114,7 +101,7 @@ impl Notes {
 
     /// Its texts: what went, and right after it what came. Empty if none are kept, and if none waits.
     #[tactic(auto, using(crate::proofs::Queue::QueueLemmas::cutting))]
-    pub fn oldest_texts(&self) -> &str
+    pub(crate) fn oldest_texts(&self) -> &str
         ensures { result.now ≡ texts_of (oldest (Whole self.now.waiting)) }
     {
         let Some(oldest) = self.waiting.front() else {
@@ -136,26 +123,28 @@ impl Notes {
         all
     }
 
-    /// Forgets the oldest report, so that the next becomes the oldest.
-    pub fn forget(&mut self)
+    /// Forgets the oldest report, so that the next becomes the oldest. Answers whether a report waited.
+    pub(crate) fn forget(&mut self) -> bool
+        ensures waited { result ≡ is_some (oldest (Whole self.old.waiting)) }
         ensures waiting { self.new.waiting ≡ drop 1 self.old.waiting }
         ensures room { KeepsRoom self.old self.new }
     {
         let Some(oldest) = self.waiting.pop_front() else {
-            return;
+            return false;
         };
         // Mostly it is the only one.
         if self.waiting.is_empty() {
             self.texts.clear();
             self.spent = 0;
-            return;
+            return true;
         }
         let spent = self.spent + bytes_kept(self.text_room, &oldest);
         self.spent = drop_spent(&mut self.texts, spent);
+        true
     }
 
     /// Forgets all.
-    pub fn clear(&mut self)
+    pub(crate) fn clear(&mut self)
         ensures { self.new ≡ record self.old { waiting = [] } }
     {
         self.waiting.clear();
@@ -163,57 +152,10 @@ impl Notes {
         self.spent = 0;
     }
 
-    /// Gives the memory for texts back where none stand there and there is more than for so many bytes.
-    pub fn trim(&mut self, alloc: Global, bytes: usize)
-        ensures waiting { self.new.waiting ≡ self.old.waiting }
-        ensures room { (self.new.text_room ≡ self.old.text_room) × (self.new.places ≡ self.old.places) }
-    {
-        if self.texts.is_empty() && self.texts.capacity() > bytes {
-            self.texts = String::new(alloc);
-            self.spent = 0;
-        }
-    }
-
-    /// Forgets all but the first `count`.
-    #[tactic(auto, using(crate::proofs::Queue::QueueLemmas::shortened))]
-    pub fn truncate(&mut self, count: usize)
-        ensures waiting { self.new.waiting ≡ take count self.old.waiting }
-        ensures room { KeepsRoom self.old self.new }
-    {
-        while self.len() > count {
-            self.forget_newest();
-        }
-    }
-
-    // Forgets the newest report.
-    fn forget_newest(&mut self)
-        ensures waiting { self.new.waiting ≡ take (length self.old.waiting - 1) self.old.waiting }
-        ensures room { KeepsRoom self.old self.new }
-    {
-        let Some(newest) = self.waiting.pop_back() else {
-            return;
-        };
-        let left = self.texts.len() - bytes_kept(self.text_room, &newest);
-        self.texts.truncate(left);
-        self.spent = drop_spent(&mut self.texts, self.spent);
-    }
-
-    /// Finds memory for so many more reports. Refused only if memory is out for it, and all that wait do so then too.
-    #[inline(always)]
-    #[tactic(auto, using(crate::proofs::Queue::QueueLemmas::counted))]
-    pub fn reserve(&mut self, more: usize) -> Result<(), Refusal>
-        ensures waiting { self.new.waiting ≡ self.old.waiting }
-        ensures room { KeepsRoom self.old self.new }
-        ensures done { OnOk result (length self.new.waiting + more ≤ self.new.places) }
-        ensures err { IfErr result (λ r. (r ≡ NoMemory) × (self.old.places < length self.old.waiting + more)) }
-    {
-        Ok(self.waiting.reserve(more)?)
-    }
-
     /// Puts a report at the end: at a place what went gave way to what came. There is memory for one more. Refused only where memory
     /// is out for its texts, and all that wait do so then too.
     #[tactic(auto, using(crate::proofs::Queue::QueueLemmas::counted))]
-    pub fn push(
+    pub(crate) fn push(
         &mut self,
         kind: ReportKind,
         at: usize,
@@ -234,7 +176,7 @@ impl Notes {
     /// Puts a report at the end: at a place a character came. Texts are kept. All else is as of `push`.
     #[inline(always)]
     #[tactic(auto, using(crate::proofs::Queue::QueueLemmas::counted))]
-    pub fn push_char(&mut self, at: usize, c: char) -> Result<(), Refusal>
+    pub(crate) fn push_char(&mut self, at: usize, c: char) -> Result<(), Refusal>
         requires keeps { 0 < self.old.text_room }
         requires place { length self.old.waiting < self.old.places }
         ensures done { OnOk result (self.new.waiting ≡ self.old.waiting ++ noted self.old.text_room CharInserted at [] (encode_utf8 c) ∷ []) }
@@ -258,31 +200,10 @@ impl Notes {
         self.waiting.push_back_reserved(report);
     }
 
-    /// Puts the reports of another, which keeps texts as this one does, after those that wait, and leaves memory for so many more. Refused
-    /// only if memory is out for it, and all that wait do so then too.
-    #[tactic(auto, using(crate::proofs::Queue::QueueLemmas::cutting, crate::proofs::Queue::QueueLemmas::counted))]
-    pub fn append(&mut self, later: Notes, more: usize) -> Result<(), Refusal>
-        requires { later.text_room ≡ self.old.text_room }
-        ensures done { OnOk result ((self.new.waiting ≡ self.old.waiting ++ later.waiting) × (length self.new.waiting + more ≤ self.new.places)) }
-        ensures err { IfErr result (λ r. (r ≡ NoMemory) × (self.new.waiting ≡ self.old.waiting) × AppendTakesMemory later more self.old) }
-        ensures room { KeepsRoom self.old self.new }
-    {
-        let mut reports = later.waiting;
-        let Some(room) = more.checked_add(reports.len()) else {
-            return Err(Refusal::NoMemory);
-        };
-        self.waiting.reserve(room)?;
-        self.texts.push_str(&later.texts.as_str()[later.spent..])?;
-        if self.waiting.append(&mut reports).is_err() {
-            unreachable!();
-        }
-        Ok(())
-    }
-
     /// Tells the last report where the cursor was before it and after it, if that is a change.
     #[inline(always)]
     #[tactic(auto, using(crate::proofs::Queue::QueueLemmas::notes_told))]
-    pub fn tell_last(&mut self, before: usize, after: usize)
+    pub(crate) fn tell_last(&mut self, before: usize, after: usize)
         ensures { self.new ≡ record self.old { waiting = on_last (told_note before after) self.old.waiting } }
     {
         tell_last(&mut self.waiting, before, after);

@@ -1,5 +1,5 @@
 //! A queue of reports of changes, for who reads late.
-ghost use Rattle.std.specs.Prelude.{◌≡◌, ℕ, ◌^◌, ◌<◌, ◌⊎◌, [], Bool, List, None, Some, encode_utf8, false, fold, true, length, option_map, IfErr, IfOk};
+ghost use Rattle.std.specs.Prelude.{◌≡◌, ℕ, ◌^◌, ◌<◌, ◌⊎◌, [], Bool, List, None, Some, encode_utf8, false, fold, is_some, true, length, option_map, IfErr, IfOk};
 ghost use Rattle.std.specs.Str.{IsCharBoundary};
 ghost use Rattle.rl_base.specs.declared.listeners.Refusal.TheVariants.{NoMemory};
 ghost use Rattle.rl_base.specs.declared.reports.ReportKind.TheVariants.{CharInserted};
@@ -224,16 +224,18 @@ impl Reports {
         self.notes.oldest_texts()
     }
 
-    /// Forgets the oldest report, so that the next becomes the oldest. Where a change was heard since the oldest was read, it
-    /// may by now stand folded with that change, which is then forgotten too: so read and forget with no edit between.
-    pub fn forget(&mut self)
-        ensures { self.new ≡ forgotten self.old }
+    /// Forgets the oldest report, so that the next becomes the oldest. Answers whether a report waited. Where a change
+    /// was heard since the oldest was read, it may by now stand folded with that change, which is then forgotten too:
+    /// so read and forget with no edit between.
+    pub fn forget(&mut self) -> bool
+        ensures waited { result ≡ is_some (oldest self.old.waiting) }
+        ensures forgotten { self.new ≡ forgotten self.old }
     {
         if self.folded.is_some() {
             self.folded = None;
-            return;
+            return true;
         }
-        self.notes.forget();
+        self.notes.forget()
     }
 
     // Whether one more report would find room, with so many bytes of texts.

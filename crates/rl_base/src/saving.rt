@@ -1,5 +1,5 @@
 //! Numbers and texts as bytes, one after another, as what is saved has them.
-ghost use Rattle.std.specs.Prelude.{◌≡◌, ◌<◌, ◌^◌, ◌++◌, ◌∷◌, ◌==◌, [], List, ℕ, All, IfErr, IfSome, option_map, OnErr, OnOk, Some, length, nat_lt, true};
+ghost use Rattle.std.specs.Prelude.{◌≡◌, ◌<◌, ◌^◌, ◌++◌, ◌==◌, List, ℕ, All, IfErr, IfSome, option_map, OnOk, Some, length, nat_lt, true};
 ghost use Rattle.std.specs.Str.{IsUtf8};
 ghost use Rattle.rl_base.specs.Saving.{Fits, FitsLength, IsSized, number, numbers, size, sized};
 ghost use Rattle.rl_base.specs.declared.saving.LoadFault.TheVariants.{NoMemory};

@@ -1,5 +1,5 @@
 //! What changed in a text since it was asked last, and a queue of reports for who wants each change.
-ghost use Rattle.std.specs.Prelude.{◌≡◌, ◌<◌, None, Some, IfErr, OnOk};
+ghost use Rattle.std.specs.Prelude.{◌≡◌, ◌<◌, None, Some, IfErr, OnOk, is_some};
 ghost use Rattle.std.specs.Option.{option_map};
 ghost use Rattle.rl_base.specs.Reports.{new_queue, texts_of};
 ghost use Rattle.rl_base.specs.Splice.{told, untouched};
@@ -136,12 +136,14 @@ impl Watch {
         }
     }
 
-    /// Forgets the oldest report, so that the next becomes the oldest.
-    pub fn forget_report(&mut self)
-        ensures { self.new ≡ past_next self.old }
+    /// Forgets the oldest report, so that the next becomes the oldest. Answers whether a report waited.
+    pub fn forget_report(&mut self) -> bool
+        ensures waited { result ≡ is_some (next_note self.old) }
+        ensures forgotten { self.new ≡ past_next self.old }
     {
-        if let Some(reports) = &mut self.reports {
-            reports.forget();
+        match &mut self.reports {
+            Some(reports) => reports.forget(),
+            None => false,
         }
     }
 }

@@ -1,5 +1,5 @@
 -- What a call answers, and its number.
-use Rattle.std.specs.Prelude.{Bool, true, false, ℤ, pos, negsuc, Option, Some, None, Result, Ok, Err}
+use Rattle.std.specs.Prelude.{Bool, true, false, ℤ, pos, negsuc, Option, Some, None, Result, Ok, Err, is_some}
 use Rattle.rl_base.specs.declared.watch.WatchFault.{WatchFault}
 use Rattle.rl_base.specs.declared.watch.WatchFault.TheVariants as unwatched
 use Rattle.rl_session.specs.declared.session.Fault.{Fault}
@@ -42,11 +42,6 @@ abbrev pub placed : Bool → Answer
 placed true = DoneAtEnd
 placed false = Done
 
--- the same, or else nothing went in
-abbrev pub inserted : Answer → Option Bool → Answer
-inserted without None = without
-inserted without (Some at_end) = placed at_end
-
 abbrev pub of_fault : Fault → Answer
 of_fault fault.NoMemory = NoMemory
 of_fault fault.BadPlace = BadPlace
@@ -59,18 +54,21 @@ of_watch_fault unwatched.NoMemory = NoMemory
 of_watch_fault unwatched.NoRoom = NoSuchNumber
 of_watch_fault unwatched.IsWatched = IsWatched
 
--- what a session's reply tells; the first argument if nothing was inserted
-abbrev pub told : Answer → Reply → Answer
-told without says.Done = Done
-told without (says.Answer a) = truth a
-told without (says.Inserted at_end) = inserted without at_end
-told without (says.Text (Some text)) = Done
-told without (says.Text None) = Nothing
-told without (says.Mark entries) = Done
-told without (says.At line column) = Done
-told without (says.Refused why) = of_fault why
+-- what the reply to a command tells; the first argument if nothing was inserted
+abbrev pub told_or : Answer → Reply → Answer
+told_or without says.Done = Done
+told_or without (says.Answer a) = truth a
+told_or without (says.Inserted None) = without
+told_or without (says.Inserted (Some at_end)) = placed at_end
+told_or without (says.Text text) = truth (is_some text)
+told_or without (says.Mark entries) = Done
+told_or without (says.At line column) = Done
+told_or without (says.Refused why) = of_fault why
+
+abbrev pub told : Reply → Answer
+told = told_or Nothing
 
 -- the same of an insertion at a place, whose reply says whether that was the end
 abbrev pub told_place : Reply → Answer
 told_place (says.Answer at_end) = placed at_end
-told_place reply = told NoRoom reply
+told_place reply = told reply

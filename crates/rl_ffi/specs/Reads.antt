@@ -6,7 +6,6 @@ use Rattle.rl_base.specs.Clusters.{clusters}
 use Rattle.rl_base.specs.Lines.{line_number}
 use Rattle.rl_base.specs.Widths.{width}
 use Rattle.rl_base.specs.declared.layout.GraphemeClusterMode.{GraphemeClusterMode}
-use Rattle.rl_line.specs.Line.{Line}
 use Rattle.rl_line.specs.LineRanges.{IsRange}
 use Rattle.rl_line.specs.Ranges.{covered}
 use Rattle.rl_session.specs.Commands.{destination, line_place, with_cursor}
@@ -29,36 +28,30 @@ abbrev pub Lends : Option (List ℕ) → Tale View
 Lends None n out out' = (n ≡ Nothing) × (out' ≡ out)
 Lends (Some text) n out out' = (n ≡ Done) × IsViewOf text out'
 
--- the text of a line is lent, or what stands in a range of it
-abbrev pub TellsText : Telling Line View
-TellsText line = Lends (Some line.text)
-
-abbrev pub TellsSlice : CRange → Telling Line View
-TellsSlice r line = told_where (IsRange line.text r.from r.to) BadPlace (Lends (Some (slice_range line.text r.from r.to)))
+-- what stands in a range of the text is lent
+abbrev pub TellsSlice : CRange → Telling View
+TellsSlice r s = told_where (IsRange s.line.text r.from r.to) BadPlace (Lends (Some (slice_range s.line.text r.from r.to)))
 
 abbrev pub range_shape : Range ℕ → CRange
 range_shape r = record { from = r.start; to = r.end }
-
--- what a movement covers
-abbrev pub TellsCovers : CMovement → Telling Line CRange
-TellsCovers movement = told_named (movement_of movement) (λ m (line : Line). Writes (option_map range_shape (covered line m)))
 
 -- where the cursor stands
 abbrev pub cursor_position : State → CPosition
 cursor_position s = record { line = (line_place s).0; column = (line_place s).1 }
 
 -- what is told with the cursor at a place, which must be a boundary
-abbrev pub TellsFrom : {A : Type 0} → ℕ → Telling State A → Telling State A
+abbrev pub TellsFrom : {A : Type 0} → ℕ → Telling A → Telling A
 TellsFrom place Does s = told_where (IsCharBoundary s.line.text place) BadPlace (Does (with_cursor place s))
 
--- what a movement covers from a place, where it leads from there, and the line in which a place stands
-abbrev pub TellsCoversFrom : ℕ → CMovement → Telling State CRange
+-- what a movement covers from a place, where it leads from there, and the line in which a place stands. The last is no
+-- abbreviation, so that it is one fact for the search, as are the clusters at and before a place
+abbrev pub TellsCoversFrom : ℕ → CMovement → Telling CRange
 TellsCoversFrom place movement = told_named (movement_of movement) (λ m. TellsFrom place (λ (s : State). Writes (option_map range_shape (covered s.line m))))
 
-abbrev pub LeadsFrom : ℕ → CMovement → Telling State ℕ
+abbrev pub LeadsFrom : ℕ → CMovement → Telling ℕ
 LeadsFrom place movement = told_named (movement_of movement) (λ m. TellsFrom place (λ (s : State). Writes (destination s m)))
 
-abbrev pub TellsLineAt : ℕ → Telling State ℕ
+unfoldable pub TellsLineAt : ℕ → Telling ℕ
 TellsLineAt place = TellsFrom place (λ (s : State). Writes (Some (line_number s.line.text s.line.cursor)))
 
 -- the first of some clusters, which begins at a place, with its columns
@@ -72,9 +65,9 @@ last_cluster mode place [] = None
 last_cluster mode place (cluster ∷ more) = Some (record { from = place - length cluster; to = place; columns = width mode cluster })
 
 -- the first cluster of a text from a place on; the last one before a place
-abbrev pub TellsCluster : List ℕ → GraphemeClusterMode → ℕ → Tale CCluster
+unfoldable pub TellsCluster : List ℕ → GraphemeClusterMode → ℕ → Tale CCluster
 TellsCluster text mode place = told_where (IsCharBoundary text place) BadPlace (Writes (first_cluster mode place (clusters (drop place text))))
 
-abbrev pub TellsClusterBefore : List ℕ → GraphemeClusterMode → ℕ → Tale CCluster
+unfoldable pub TellsClusterBefore : List ℕ → GraphemeClusterMode → ℕ → Tale CCluster
 TellsClusterBefore text mode place =
     told_where (IsCharBoundary text place) BadPlace (Writes (last_cluster mode place (reverse (clusters (take place text)))))

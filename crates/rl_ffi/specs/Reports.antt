@@ -20,19 +20,15 @@ abbrev pub splice_shape : Splice → CSplice
 splice_shape s = record { from = s.from; old_to = s.old_end; new_to = s.new_end }
 
 -- what changed is told, and asked about from now on
-abbrev pub TakesChange : EffectOut State CSplice
+abbrev pub TakesChange : EffectOut CSplice
 TakesChange s n new out out' =
     Writes (option_map splice_shape (told s.pair.watch.changed)) n out out' × (new ≡ with_watch (record s.pair.watch { changed = untouched }) s)
 
 -- reports are kept from now on, or the answer says why they are not
-abbrev pub Watches : ℕ → ℕ → Effect State
+abbrev pub Watches : ℕ → ℕ → Effect
 Watches reports bytes s n t =
     ((n ≡ Done) × (0 < reports) × (s.pair.watch.reports ≡ None) × (t ≡ with_watch (record s.pair.watch { reports = Some (new_queue reports bytes) }) s))
     ⊎ ((fault : WatchFault) × RefusesQueue fault reports s.pair.watch × (n ≡ of_watch_fault fault) × (t ≡ s))
-
--- no reports are kept any more
-abbrev pub unwatched : State → State
-unwatched s = with_watch (record s.pair.watch { reports = None }) s
 
 -- a report as C gets it, with views of its texts, which stand one after the other: what went, and what came
 pub record IsShapeOf (r : Report) (texts : List ℕ) (c : CReport) : Type 0 where
@@ -54,5 +50,5 @@ abbrev pub TellsNote : Option Noted → Answer → CReport → CReport → Type 
 TellsNote note = TellsReport (option_map (λ (n : Noted). n.report) note) (texts_of note)
 
 -- the oldest report is forgotten, if one waits
-abbrev pub Forgets : Effect State
+abbrev pub Forgets : Effect
 Forgets s n new = (n ≡ truth (is_some (next_note s.pair.watch))) × (new ≡ with_watch (past_next s.pair.watch) s)

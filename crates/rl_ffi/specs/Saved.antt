@@ -2,10 +2,8 @@
 use Rattle.std.specs.Prelude.{◌≡◌, ◌⊎◌, ℕ, List, ◌++◌, Option, Some}
 use Rattle.rl_session.specs.SavedSession.{FitsSaving, IsSavedState, heading, saved_session, unwatched}
 use Rattle.rl_session.specs.State.{Ends, State}
-use Rattle.rl_ffi.specs.Calls.{Effect, Tale, WritesText, leaves, refuses}
+use Rattle.rl_ffi.specs.Calls.{Tale, WritesText, refuses}
 use Rattle.rl_ffi.specs.declared.answers.Answer.TheVariants.{Damaged, Done, NoMemory, NoRoom, UnknownFormat}
-use Rattle.rl_ffi.specs.declared.held.Held.{Held}
-use Rattle.rl_ffi.specs.declared.held.Held.TheVariants as holds
 
 -- the session is written as bytes; or memory is out; or a text or a place is too long for that. Then nothing is written
 abbrev pub Saves : State → Tale (List ℕ × ℕ)
@@ -13,9 +11,9 @@ Saves s n out out' = WritesText (Some (saved_session s)) n out out' ⊎ refuses 
 
 -- a session takes the place of what the handle held: of bytes that were saved the one that was, without its reports. Or memory
 -- is out; or the bytes do not begin as this version begins them; or they are those of no session
-abbrev pub OpensSaved : List ℕ → Effect (Option Held)
-OpensSaved bytes old n new =
-    ((s : State) × Ends s × ((t : State) → IsSavedState t → bytes ≡ saved_session t → s ≡ unwatched t) × (n ≡ Done) × (new ≡ Some (holds.Session s)))
-    ⊎ leaves NoMemory old n new
-    ⊎ (((inside : List ℕ) → bytes ≡ heading ++ inside → ⊥) × leaves UnknownFormat old n new)
-    ⊎ (((t : State) → IsSavedState t → bytes ≡ saved_session t → ⊥) × leaves Damaged old n new)
+abbrev pub OpensSaved : List ℕ → Tale (Option State)
+OpensSaved bytes n old new =
+    ((s : State) × Ends s × ((t : State) → IsSavedState t → bytes ≡ saved_session t → s ≡ unwatched t) × (n ≡ Done) × (new ≡ Some s))
+    ⊎ refuses NoMemory n old new
+    ⊎ (((inside : List ℕ) → bytes ≡ heading ++ inside → ⊥) × refuses UnknownFormat n old new)
+    ⊎ (((t : State) → IsSavedState t → bytes ≡ saved_session t → ⊥) × refuses Damaged n old new)

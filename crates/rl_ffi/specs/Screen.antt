@@ -5,12 +5,11 @@ use Rattle.rl_base.specs.Lines.{line_number}
 use Rattle.rl_base.specs.Screen.{cell, place_at, rows}
 use Rattle.rl_base.specs.declared.layout.GraphemeClusterMode.{GraphemeClusterMode}
 use Rattle.rl_base.specs.declared.screen.Screen.{Screen}
-use Rattle.rl_line.specs.Line.{Line}
-use Rattle.rl_line.specs.Rows.{Above, Below, kept_column, own_cell}
+use Rattle.rl_line.specs.Rows.{kept_column, own_cell}
 use Rattle.rl_line.specs.Rows as motion
-use Rattle.rl_ffi.specs.Calls.{Tale, Telling, Writes, refuses, where_named}
+use Rattle.rl_ffi.specs.Calls.{Tale, Telling, Writes, of_bytes, refuses, where_named}
 use Rattle.rl_ffi.specs.Numbers.{count_of, mode_of}
-use Rattle.rl_ffi.specs.Texts.{Fills, of_bytes}
+use Rattle.rl_ffi.specs.Texts.{Fills}
 use Rattle.rl_ffi.specs.declared.answers.Answer.{Answer}
 use Rattle.rl_ffi.specs.declared.answers.Answer.TheVariants.{BadPlace, NoSuchNumber}
 use Rattle.rl_ffi.specs.declared.shapes.CPosition.{CPosition}
@@ -50,15 +49,11 @@ column_of number = if number == 2 ^ 64 - 1 then None else Some number
 
 -- a motion by so many rows from the cursor, up or down, to the column that was handed in: the place to which it leads, and the
 -- column that it keeps to
-abbrev pub TellsRow : (Screen → List ℕ → ℕ → ℕ → ℕ → Option (ℕ × ℕ) → Type 0) → CScreen → ℕ → Telling Line (ℕ × ℕ)
-TellsRow Comes screen n line answer out out' =
+abbrev pub TellsRow : (Screen → List ℕ → ℕ → ℕ → ℕ → Option (ℕ × ℕ) → Type 0) → CScreen → ℕ → Telling (ℕ × ℕ)
+TellsRow Comes screen n s answer out out' =
+    let text = s.line.text in
+    let cursor = s.line.cursor in
     where_named (screen_of screen) (λ (on : Screen). where_named (count_of n) (λ (k : ℕ) answer out out'.
-    (told : Option (ℕ × ℕ)) × motion.Tells on line.text (Comes on line.text (line_number line.text line.cursor) (own_cell on line.text line.cursor).0 k)
-    (kept_column on line.text (column_of out.1) line.cursor) told
+    (told : Option (ℕ × ℕ)) × motion.Tells on text (Comes on text (line_number text cursor) (own_cell on text cursor).0 k)
+    (kept_column on text (column_of out.1) cursor) told
     × Writes told answer out out')) answer out out'
-
-abbrev pub TellsRowAbove : CScreen → ℕ → Telling Line (ℕ × ℕ)
-TellsRowAbove = TellsRow Above
-
-abbrev pub TellsRowBelow : CScreen → ℕ → Telling Line (ℕ × ℕ)
-TellsRowBelow = TellsRow Below

@@ -1,6 +1,5 @@
 -- What the calls that need no session answer.
 use Rattle.std.specs.Prelude.{◌≡◌, ◌⊎◌, ℕ, ℤ, ◌+◌, ◌*◌, ◌^◌, ◌<◌, ◌≤◌, List, [], ◌∷◌, length, reverse, Option, Some, None}
-use Rattle.std.specs.Str.{IsUtf8}
 use Rattle.rl_base.specs.Clusters.{clusters}
 use Rattle.rl_base.specs.Screen.{filled}
 use Rattle.rl_base.specs.Splice.{moved}
@@ -11,20 +10,11 @@ use Rattle.rl_base.specs.declared.splice.Splice.{Splice}
 use Rattle.rl_session.specs.Script.{Ran, StoppedBy}
 use Rattle.rl_session.specs.declared.script.ScriptFault.{ScriptFault}
 use Rattle.rl_ffi.specs.Answers.{number}
-use Rattle.rl_ffi.specs.Calls.{Tale, Writes, told_where, where_named}
+use Rattle.rl_ffi.specs.Calls.{Tale, Writes, of_bytes, told_where, where_named}
 use Rattle.rl_ffi.specs.Numbers.{mode_of, side_of}
-use Rattle.rl_ffi.specs.declared.answers.Answer.{Answer}
 use Rattle.rl_ffi.specs.declared.shapes.CCluster.{CCluster}
 use Rattle.rl_ffi.specs.declared.shapes.CSplice.{CSplice}
-use Rattle.rl_ffi.specs.declared.answers.Answer.TheVariants.{BadPlace, Done, NoMemory, NotUtf8}
-
--- the number of what is answered
-abbrev pub Answers : {A : Type 0} → Tale A → ℤ → A → A → Type 0
-Answers Does n out out' = (answer : Answer) × Does answer out out' × (n ≡ number answer)
-
--- what is told of a text, if the bytes are one
-abbrev pub of_bytes : {A : Type 0} → List ℕ → Tale A → Tale A
-of_bytes text = told_where (IsUtf8 text) NotUtf8
+use Rattle.rl_ffi.specs.declared.answers.Answer.TheVariants.{BadPlace, Done, NoMemory}
 
 abbrev pub TellsWidth : ℕ → List ℕ → Tale ℕ
 TellsWidth mode text = where_named (mode_of mode) (λ (m : GraphemeClusterMode). of_bytes text (Writes (Some (width m text))))

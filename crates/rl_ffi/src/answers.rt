@@ -1,11 +1,11 @@
 //! What a call answers.
-ghost use Rattle.std.specs.Prelude.{◌≡◌, Ok, Err, IfOk, IfErr};
-ghost use Rattle.rl_base.specs.declared.listeners.Refusal.{Refusal};
-ghost use Rattle.rl_ffi.specs.declared.answers.Answer.TheVariants.{NoMemory};
-ghost use Rattle.rl_ffi.specs.Answers.{inserted, merged, number, of_fault, of_watch_fault, placed, told, told_place, truth};
+ghost use Rattle.std.specs.Prelude.{◌≡◌};
+ghost use Rattle.rl_session.specs.Replies.{replied};
+ghost use Rattle.rl_session.specs.declared.session.Reply.{Reply};
+ghost use Rattle.rl_ffi.specs.Answers.{merged, number, of_fault, of_watch_fault, placed, told, told_or, told_place, truth};
 
-use rl_base::{Refusal, WatchFault};
-use rl_session::{Fault, Reply};
+use rl_base::WatchFault;
+use rl_session::Fault;
 
 /// What a call answers: what it found or did, or why it was refused. `include/lodvarn.h` says what each means.
 #[derive(Clone, Copy, Debug, PartialEq, Eq)]
@@ -51,42 +51,21 @@ pub(crate) fn merged(outcome: Outcome) -> Answer
     }
 }
 
-// What was done, unless memory was out.
-pub(crate) fn tried<T>(outcome: Result<T, Refusal>) -> Result<T, Answer>
-    ensures ok { IfOk result (λ done. outcome ≡ Ok done) }
-    ensures err { IfErr result (λ answer. (answer ≡ NoMemory) × (why : Refusal) × (outcome ≡ Err why)) }
+// Whether there was something to do.
+pub(crate) fn truth(found: bool) -> Answer
+    ensures { result ≡ truth found }
 {
-    match outcome {
-        Ok(done) => Ok(done),
-        Err(_) => Err(Answer::NoMemory),
-    }
-}
-
-// Whether something was done.
-pub(crate) fn truth(done: bool) -> Answer
-    ensures { result ≡ truth done }
-{
-    if done { Answer::Done } else { Answer::Nothing }
+    if found { Answer::Done } else { Answer::Nothing }
 }
 
 // An insertion is done: whether at the end.
-pub(crate) fn placed(at_end: bool) -> Answer
+fn placed(at_end: bool) -> Answer
     ensures { result ≡ placed at_end }
 {
     if at_end {
         Answer::DoneAtEnd
     } else {
         Answer::Done
-    }
-}
-
-// An insertion is done, or else nothing went in.
-pub(crate) fn inserted(without: Answer, at_end: Option<bool>) -> Answer
-    ensures { result ≡ inserted without at_end }
-{
-    match at_end {
-        Some(at_end) => placed(at_end),
-        None => without,
     }
 }
 
@@ -112,26 +91,66 @@ pub(crate) fn of_watch_fault(fault: WatchFault) -> Answer
     }
 }
 
-// What a session's reply tells; the first argument if a command inserted nothing.
+// What a command answers that says nothing. Inlined, as those below are, where what a command returns need not be made.
 #[inline(always)]
-pub(crate) fn told(without: Answer, reply: &Reply) -> Answer
-    ensures { result ≡ told without reply.now }
+pub(crate) fn done(outcome: Result<(), Fault>) -> Answer
+    ensures { result ≡ told (replied (λ _. Reply.Done) outcome) }
 {
-    match reply {
-        Reply::Done | Reply::Text(Some(_)) | Reply::Mark(_) | Reply::At(_, _) => Answer::Done,
-        Reply::Answer(answer) => truth(*answer),
-        Reply::Inserted(at_end) => inserted(without, *at_end),
-        Reply::Text(None) => Answer::Nothing,
-        Reply::Refused(fault) => of_fault(*fault),
+    match outcome {
+        Ok(()) => Answer::Done,
+        Err(why) => of_fault(why),
     }
 }
 
-// The same of an insertion at a place, whose reply says whether that was the end.
-pub(crate) fn told_place(reply: &Reply) -> Answer
-    ensures { result ≡ told_place reply.now }
+// One that says yes or no.
+#[inline(always)]
+pub(crate) fn answered(outcome: Result<bool, Fault>) -> Answer
+    ensures { result ≡ told (replied Reply.Answer outcome) }
 {
-    match reply {
-        Reply::Answer(at_end) => placed(*at_end),
-        _ => told(Answer::NoRoom, reply),
+    match outcome {
+        Ok(answer) => truth(answer),
+        Err(why) => of_fault(why),
+    }
+}
+
+// An insertion at the cursor; the first argument is the answer if nothing went in.
+#[inline(always)]
+pub(crate) fn inserted(without: Answer, outcome: Result<Option<bool>, Fault>) -> Answer
+    ensures { result ≡ told_or without (replied Reply.Inserted outcome) }
+{
+    match outcome {
+        Ok(Some(at_end)) => placed(at_end),
+        Ok(None) => without,
+        Err(why) => of_fault(why),
+    }
+}
+
+// An insertion at a place.
+pub(crate) fn inserted_there(outcome: Result<bool, Fault>) -> Answer
+    ensures { result ≡ told_place (replied Reply.Answer outcome) }
+{
+    match outcome {
+        Ok(at_end) => placed(at_end),
+        Err(why) => of_fault(why),
+    }
+}
+
+// One that hands out a text.
+pub(crate) fn handed_out(outcome: Result<Option<String>, Fault>) -> Answer
+    ensures { result ≡ told (replied Reply.Text outcome) }
+{
+    match outcome {
+        Ok(text) => truth(text.is_some()),
+        Err(why) => of_fault(why),
+    }
+}
+
+// One that says how many entries the record had.
+pub(crate) fn marked(outcome: Result<usize, Fault>) -> Answer
+    ensures { result ≡ told (replied Reply.Mark outcome) }
+{
+    match outcome {
+        Ok(_) => Answer::Done,
+        Err(why) => of_fault(why),
     }
 }

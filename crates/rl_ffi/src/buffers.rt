@@ -1,10 +1,9 @@
 //! Writing a text to a buffer of C.
 ghost use Rattle.std.specs.Prelude.{◌≡◌, ◌≤◌, Some, length};
-ghost use Rattle.rl_ffi.specs.Answers.{merged};
 ghost use Rattle.rl_ffi.specs.Buffers.{put, written};
 ghost use Rattle.rl_ffi.specs.Calls.{WritesText};
 
-use crate::answers::{Answer, Outcome};
+use crate::answers::{Answer};
 
 // Writes the whole text to the start of the buffer.
 pub(crate) fn put(text: &[u8], out: &mut [u8])
@@ -25,13 +24,13 @@ pub(crate) fn write(text: &[u8], out: &mut [u8]) -> usize
 }
 
 // Writes the text and its length; of one that does not fit only the length.
-pub(crate) fn hand_out(text: &[u8], out: &mut [u8], len: &mut usize) -> Outcome
-    ensures { WritesText (Some text.now) (merged result) (out.old, len.old) (out.new, len.new) }
+pub(crate) fn hand_out(text: &[u8], out: &mut [u8], len: &mut usize) -> Answer
+    ensures { WritesText (Some text.now) result (out.old, len.old) (out.new, len.new) }
 {
     *len = text.len();
     if text.len() > out.len() {
-        return Err(Answer::TooSmall);
+        return Answer::TooSmall;
     }
     put(text, out);
-    Ok(Answer::Done)
+    Answer::Done
 }

@@ -1,115 +1,98 @@
-//! What C holds: null, or a session, a line, a record or a kill ring on the heap.
+//! What C holds: a session on the heap, or none, which is closed.
 ghost use Rattle.std.specs.Prelude.{◌≡◌, Option, None, Some, option_map};
-ghost use Rattle.rl_ffi.specs.declared.held.Held.{Held};
-ghost use Rattle.rl_ffi.specs.Handle.{kept, value_coded};
+ghost use Rattle.rl_session.specs.State.{State};
 
-use crate::held::Held;
-use crate::split_box::Parts;
-use std::alloc::Global;
+use rl_session::Session;
 use std::marker::Model;
-use std::mem::replace;
 
-/// What C holds. It is null if that is nothing.
-#[repr(C)]
+/// What C holds. It is an `Option`, so that a session that is in a call can be out of it meanwhile.
+#[derive(Drop)]
 pub struct Handle {
-    at: *mut u8,
-    alloc: Global,
-    pub ghost value: { Option Held } by { value_coded },
+    session: Option<Box<Session>>,
 }
 
 impl Model for Handle {
-    ghost also_owns = { λ h. kept h.alloc h.at h.value };
-}
+    ghost Value = { Option State };
 
-// One that holds something may not be let go or overwritten: what it holds would never be freed.
-impl Drop for Handle {
-    #[inline(always)]
-    fn drop(self)
-        requires closed { self.value ≡ None }
-    {
-        let Handle { at: _, alloc: _ } = self;
-    }
+    ghost view = { λ h. option_map (λ b. b.value) h.session };
 }
 
 impl Handle {
     /// Holds nothing.
     #[inline(always)]
-    pub fn closed(alloc: Global) -> Handle
-        ensures { result.value ≡ None }
+    pub fn closed() -> Handle
+        ensures { result ≡ None }
     {
-        Handle {
-            at: std::ptr::null_mut(),
-            alloc,
-        }
-    }
-
-    #[inline(always)]
-    fn of_parts(parts: Parts<Held, Global>) -> Handle
-        ensures { result.value ≡ Some parts.value }
-    {
-        let Parts { at, alloc } = parts;
-        Handle {
-            at: at as *mut u8,
-            alloc,
-        }
-    }
-
-    #[inline(always)]
-    fn into_parts(self) -> Option<Parts<Held, Global>>
-        ensures { option_map (λ p. p.value) result ≡ self.value }
-    {
-        let Handle { at, alloc } = self;
-        if at.is_null() {
-            None
-        } else {
-            Some(Parts {
-                at: at as *mut Held,
-                alloc,
-            })
-        }
+        Handle { session: None }
     }
 
     /// Holds it.
     #[inline(always)]
-    pub fn of(held: Box<Held>) -> Handle
-        ensures { result.value ≡ Some held.value }
+    pub fn of(session: Box<Session>) -> Handle
+        ensures { result ≡ Some session.value }
     {
-        Handle::of_parts(Parts::of(held))
+        Handle {
+            session: Some(session),
+        }
     }
 
     /// Gives out what it holds, if anything, and holds nothing.
     #[inline(always)]
-    pub fn take(&mut self, alloc: Global) -> Option<Box<Held>>
-        ensures held { option_map (λ b. b.value) result ≡ self.old.value }
-        ensures left { self.new.value ≡ None }
+    pub fn take(&mut self) -> Option<Box<Session>>
+        ensures held { option_map (λ b. b.value) result ≡ self.old }
+        ensures left { self.new ≡ None }
     {
-        match replace(self, Handle::closed(alloc)).into_parts() {
-            Some(parts) => Some(parts.into_box()),
-            None => None,
-        }
+        self.session.take()
     }
 }
 
-// What an expression answers of what the handle holds, if that is of the kind; it is out of the handle meanwhile. The outcome of a
-// call is answered by its number, as is that there is no such thing; or the last expression stands for the latter. A macro, so
-// that each call is inlined, and proved as it stands.
+// What an expression answers of the session that the handle holds, which is out of it meanwhile: an answer, by its
+// number, as is that there is no session; or anything, if another expression says what there is without a session.
+// Names may stand before it for what numbers and bytes of C stand for; if one stands for nothing, the call returns why
+// not. A macro, so that each call is inlined, and proved as it stands.
 macro_rules! of {
-    ($handle:ident, $alloc:ident, Held::$Kind:ident($part:ident) => $outcome:expr) => {
-        of!($handle, $alloc, Held::$Kind($part) => merged($outcome).number(), Answer::Closed.number())
+    ($handle:ident, $session:ident => $answer:expr) => {
+        of!($handle, $session => $answer.number(), Answer::Closed.number())
     };
-    ($handle:ident, $alloc:ident, Held::$Kind:ident($part:ident) => $answer:expr, $closed:expr) => {
-        match $handle.take($alloc) {
+    ($handle:ident, $session:ident => $found:expr, $closed:expr) => {
+        match $handle.take() {
             Some(mut boxed) => {
-                let answer = match &mut *boxed {
-                    Held::$Kind($part) => $answer,
-                    _ => $closed,
-                };
+                let $session = &mut *boxed;
+                let found = $found;
                 *$handle = Handle::of(boxed);
-                answer
+                found
             }
             None => $closed,
         }
     };
+    ($handle:ident, $session:ident, $($name:ident = $given:expr),+ => $answer:expr) => {
+        match $handle.take() {
+            Some(mut boxed) => {
+                $(let $name = match $given {
+                    Ok(given) => given,
+                    Err(why) => {
+                        *$handle = Handle::of(boxed);
+                        return why.number();
+                    }
+                };)+
+                let $session = &mut *boxed;
+                let answer = $answer.number();
+                *$handle = Handle::of(boxed);
+                answer
+            }
+            None => Answer::Closed.number(),
+        }
+    };
 }
 
-pub(crate) use of;
+// The same of a call without a session.
+macro_rules! given {
+    ($given:expr) => {
+        match $given {
+            Ok(given) => given,
+            Err(why) => return why.number(),
+        }
+    };
+}
+
+pub(crate) use {given, of};

@@ -1,165 +1,137 @@
-//! The calls on a kill ring by itself.
-ghost use Rattle.std.specs.Prelude.{◌≡◌, length};
-ghost use Rattle.std.specs.Option.{option_map_or};
-ghost use Rattle.rl_base.specs.Event.{Start, Stop};
-ghost use Rattle.rl_base.specs.KillRing.{Ring, reset, ring_step, text_back};
-ghost use Rattle.rl_ffi.specs.Answers.{merged};
-ghost use Rattle.rl_ffi.specs.Calls.{Tells, Through, ThroughOut, becomes};
-ghost use Rattle.rl_ffi.specs.Held.{a_ring, ring_of};
-ghost use Rattle.rl_ffi.specs.KillRing.{hears_deletion, kills, pops, yanks};
-ghost use Rattle.rl_ffi.specs.Reads.{Lends};
+//! The calls that kill, yank and copy.
+ghost use Rattle.std.specs.Prelude.{◌≡◌};
+ghost use Rattle.rl_base.specs.KillRing.{cleared};
+ghost use Rattle.rl_line.specs.Deletions.{copied};
+ghost use Rattle.rl_session.specs.State.{State, with_ring};
+ghost use Rattle.rl_session.specs.declared.session.Command.{Command};
+ghost use Rattle.rl_ffi.specs.Answers.{told};
+ghost use Rattle.rl_ffi.specs.Calls.{Through, ThroughOut, becomes, of_named};
+ghost use Rattle.rl_ffi.specs.Commands.{performs, performs_text, performs_with, performs_with_as};
+ghost use Rattle.rl_ffi.specs.KillRing.{copies, ends_kills, hands_out, pops};
+ghost use Rattle.rl_ffi.specs.Numbers.{count_of, direction_of, movement_of};
 
-use crate::answers::{Answer, Outcome, merged, tried};
+use crate::answers::{Answer, answered, done, inserted, truth};
+use crate::buffers::put;
 use crate::handle::{Handle, of};
-use crate::held::Held;
-use crate::numbers::direction_of;
-use crate::reads::{lend, ring_text};
+use crate::numbers::{count_of, direction_of, movement_of};
+use crate::shapes::{CMovement, CRange};
 use crate::texts::text_of;
-use crate::view::View;
-use rl_base::{DeleteListener, Direction, KillRing, Mode};
-use std::alloc::Global;
+use rl_base::{Direction, Movement, RepeatCount};
+use rl_session::Session;
 
-fn kill(ring: &mut KillRing, text: &[u8], direction: u32) -> Outcome
-    ensures { kills text.now direction ring.old (merged result) ring.new }
+#[tactic(auto, unfolding(crate::specs::Commands::performs_as))]
+fn kill(session: &mut Session, m: &Movement) -> Answer
+    ensures { performs (Command.Kill m.now) session.old result session.new }
 {
-    let mode = match direction_of(direction)? {
-        Direction::Forward => Mode::Append,
-        Direction::Backward => Mode::Prepend,
+    answered(session.kill(m))
+}
+
+pub fn lodvarn_kill(s: &mut Handle, movement: CMovement) -> i32
+    ensures { Through (of_named (movement_of movement) (λ m. performs (Command.Kill m))) s.old result s.new }
+{
+    of!(s, session, m = movement_of(movement) => kill(session, &m))
+}
+
+#[tactic(auto, unfolding(crate::specs::Commands::performs_as))]
+fn kill_range(session: &mut Session, range: CRange, side: Direction) -> Answer
+    ensures { performs (Command.KillRange range.from range.to side) session.old result session.new }
+{
+    answered(session.kill_range(range.from, range.to, side))
+}
+
+pub fn lodvarn_kill_range(s: &mut Handle, range: CRange, side: u32) -> i32
+    ensures { Through (of_named (direction_of side) (λ side. performs (Command.KillRange range.from range.to side))) s.old result s.new }
+{
+    of!(s, session, side = direction_of(side) => kill_range(session, range, side))
+}
+
+#[tactic(auto, unfolding(crate::specs::Commands::performs_as))]
+fn yank(session: &mut Session, k: RepeatCount) -> Answer
+    ensures { performs (Command.Yank k) session.old result session.new }
+{
+    inserted(Answer::Nothing, session.yank(k))
+}
+
+pub fn lodvarn_yank(s: &mut Handle, n: usize) -> i32
+    ensures { Through (of_named (count_of n) (λ k. performs (Command.Yank k))) s.old result s.new }
+{
+    of!(s, session, k = count_of(n) => yank(session, k))
+}
+
+#[tactic(auto, unfolding(crate::specs::Commands::performs_as))]
+fn yank_pop(session: &mut Session) -> Answer
+    ensures { pops session.old result session.new }
+{
+    let without = truth(session.ring().yank_size().is_some());
+    inserted(without, session.yank_pop())
+}
+
+pub fn lodvarn_yank_pop(s: &mut Handle) -> i32
+    ensures { Through pops s.old result s.new }
+{
+    of!(s, session => yank_pop(session))
+}
+
+pub fn lodvarn_clear_ring(s: &mut Handle) -> i32
+    ensures { Through (becomes (λ (s : State). with_ring (cleared s.pair.ring) s)) s.old result s.new }
+{
+    of!(s, session => {
+        session.clear_ring();
+        Answer::Done
+    })
+}
+
+#[tactic(auto, unfolding(crate::specs::Commands::performs_text))]
+fn keep(session: &mut Session, t: &str) -> Answer
+    ensures { performs_text told t.now Command.Keep session.old result session.new }
+{
+    done(session.keep(t))
+}
+
+fn keep_bytes(session: &mut Session, text: &[u8]) -> Answer
+    ensures { performs_with_as told text.now Command.Keep session.old result session.new }
+{
+    match text_of(text) {
+        Ok(t) => keep(session, t),
+        Err(why) => why,
+    }
+}
+
+pub fn lodvarn_keep(s: &mut Handle, text: &[u8]) -> i32
+    ensures { Through (performs_with text.now Command.Keep) s.old result s.new }
+{
+    of!(s, session => keep_bytes(session, text))
+}
+
+// Ends a run of kills, as a motion to where the cursor is does.
+fn end_kills(session: &mut Session)
+    ensures { ends_kills session.old session.new }
+{
+    let pos = session.line().pos();
+    let _ = session.set_pos(pos);
+}
+
+// Copies what a movement covers, and ends a run of kills.
+fn copy(session: &mut Session, movement: &Movement, out: &mut [u8], len: &mut usize) -> Answer
+    ensures { hands_out (copied session.old.line movement.now) session.old result session.new (out.old, len.old) (out.new, len.new) }
+{
+    let line = session.line();
+    let Some(range) = line.covered(movement) else {
+        end_kills(session);
+        return Answer::Nothing;
     };
-    let text = text_of(text)?;
-    tried(ring.kill(text, mode))?;
-    Ok(Answer::Done)
-}
-
-/// `lodvarn_killring_kill`.
-#[unsafe(no_mangle)]
-pub extern "C" fn lodvarn_killring_kill(
-    alloc: Global,
-    g: &mut Handle,
-    text: &[u8],
-    direction: u32,
-) -> i32
-    ensures { Through a_ring (kills text.now direction) g.old.value result g.new.value }
-{
-    of!(g, alloc, Held::Ring(ring) => kill(ring, text, direction))
-}
-
-/// `lodvarn_killring_reset`.
-#[unsafe(no_mangle)]
-pub extern "C" fn lodvarn_killring_reset(alloc: Global, g: &mut Handle) -> i32
-    ensures { Through a_ring (becomes reset) g.old.value result g.new.value }
-{
-    of!(g, alloc, Held::Ring(ring) => {
-        ring.reset();
-        Ok(Answer::Done)
-    })
-}
-
-/// `lodvarn_killring_start_killing`.
-#[unsafe(no_mangle)]
-pub extern "C" fn lodvarn_killring_start_killing(alloc: Global, g: &mut Handle) -> i32
-    ensures { Through a_ring (becomes (λ (r : Ring). ring_step r Start)) g.old.value result g.new.value }
-{
-    of!(g, alloc, Held::Ring(ring) => {
-        ring.start_killing();
-        Ok(Answer::Done)
-    })
-}
-
-/// `lodvarn_killring_stop_killing`.
-#[unsafe(no_mangle)]
-pub extern "C" fn lodvarn_killring_stop_killing(alloc: Global, g: &mut Handle) -> i32
-    ensures { Through a_ring (becomes (λ (r : Ring). ring_step r Stop)) g.old.value result g.new.value }
-{
-    of!(g, alloc, Held::Ring(ring) => {
-        ring.stop_killing();
-        Ok(Answer::Done)
-    })
-}
-
-fn delete(ring: &mut KillRing, text: &[u8], direction: u32) -> Outcome
-    ensures { hears_deletion text.now direction ring.old (merged result) ring.new }
-{
-    let side = direction_of(direction)?;
-    let text = text_of(text)?;
-    tried(ring.delete(0, text, side))?;
-    Ok(Answer::Done)
-}
-
-/// `lodvarn_killring_delete`.
-#[unsafe(no_mangle)]
-pub extern "C" fn lodvarn_killring_delete(
-    alloc: Global,
-    g: &mut Handle,
-    text: &[u8],
-    direction: u32,
-) -> i32
-    ensures { Through a_ring (hears_deletion text.now direction) g.old.value result g.new.value }
-{
-    of!(g, alloc, Held::Ring(ring) => delete(ring, text, direction))
-}
-
-fn yank(ring: &mut KillRing, view: &mut View) -> Outcome
-    ensures { yanks ring.old (merged result) ring.new view.old view.new }
-{
-    match ring.yank() {
-        Some(text) => lend(text.as_str(), view),
-        None => Ok(Answer::Nothing),
+    let text = &line.as_str().as_bytes()[range.start..range.end];
+    *len = text.len();
+    if text.len() > out.len() {
+        return Answer::TooSmall;
     }
+    put(text, out);
+    end_kills(session);
+    Answer::Done
 }
 
-/// `lodvarn_killring_yank`.
-#[unsafe(no_mangle)]
-pub extern "C" fn lodvarn_killring_yank(alloc: Global, g: &mut Handle, view: &mut View) -> i32
-    ensures { ThroughOut a_ring yanks g.old.value result g.new.value view.old view.new }
+pub fn lodvarn_copy(s: &mut Handle, movement: CMovement, out: &mut [u8], len: &mut usize) -> i32
+    ensures { ThroughOut (copies movement) s.old result s.new (out.old, len.old) (out.new, len.new) }
 {
-    of!(g, alloc, Held::Ring(ring) => yank(ring, view))
-}
-
-fn yank_pop(ring: &mut KillRing, size: &mut usize, view: &mut View) -> Outcome
-    ensures { pops ring.old (merged result) ring.new (size.old, view.old) (size.new, view.new) }
-{
-    match ring.yank_pop() {
-        Some((yanked, text)) => {
-            *size = yanked;
-            lend(text.as_str(), view)
-        }
-        None => Ok(Answer::Nothing),
-    }
-}
-
-/// `lodvarn_killring_yank_pop`.
-#[unsafe(no_mangle)]
-pub extern "C" fn lodvarn_killring_yank_pop(
-    alloc: Global,
-    g: &mut Handle,
-    size: &mut usize,
-    view: &mut View,
-) -> i32
-    ensures { ThroughOut a_ring pops g.old.value result g.new.value (size.old, view.old) (size.new, view.new) }
-{
-    of!(g, alloc, Held::Ring(ring) => yank_pop(ring, size, view))
-}
-
-/// `lodvarn_killring_count`.
-#[unsafe(no_mangle)]
-pub extern "C" fn lodvarn_killring_count(alloc: Global, g: &mut Handle) -> usize
-    ensures value { result ≡ option_map_or (λ (r : Ring). length r.slots) (ring_of g.old.value) 0 }
-    ensures kept { g.new.value ≡ g.old.value }
-{
-    of!(g, alloc, Held::Ring(ring) => ring.len(), 0)
-}
-
-/// `lodvarn_killring_text`.
-#[unsafe(no_mangle)]
-pub extern "C" fn lodvarn_killring_text(
-    alloc: Global,
-    g: &mut Handle,
-    back: usize,
-    view: &mut View,
-) -> i32
-    ensures value { Tells a_ring (λ (r : Ring). Lends (text_back back r)) g.old.value result view.old view.new }
-    ensures kept { g.new.value ≡ g.old.value }
-{
-    of!(g, alloc, Held::Ring(ring) => ring_text(ring, back, view))
+    of!(s, session, m = movement_of(movement) => copy(session, &m, out, len))
 }

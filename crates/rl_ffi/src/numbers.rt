@@ -1,5 +1,5 @@
-//! What the numbers of the calls stand for. Each function answers `NoSuchNumber` for a number that stands for nothing, and
-//! `Nothing` for a count of 0.
+//! What the numbers of the calls stand for. Each function answers `NoSuchNumber` for a number that stands for nothing,
+//! and `Nothing` for a count of 0.
 ghost use Rattle.std.specs.Prelude.{◌≡◌};
 ghost use Rattle.rl_ffi.specs.Numbers.{case_of, char_of, count_of, dedents_of, direction_of, kind_number, mode_number, mode_of, movement_by, movement_of, named, side_of};
 

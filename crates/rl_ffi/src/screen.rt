@@ -1,20 +1,16 @@
 //! The calls that lay a text out on a screen.
 ghost use Rattle.std.specs.Prelude.{◌≡◌};
+ghost use Rattle.rl_line.specs.Rows.{Above, Below};
 ghost use Rattle.rl_ffi.specs.Answers.{merged};
-ghost use Rattle.rl_ffi.specs.Calls.{Tells, Writes};
-ghost use Rattle.rl_ffi.specs.Held.{a_session};
-ghost use Rattle.rl_ffi.specs.Screen.{TellsCell, TellsPlace, TellsRowAbove, TellsRowBelow, TellsRows, column_of, screen_of};
-ghost use Rattle.rl_ffi.specs.Texts.{Answers};
+ghost use Rattle.rl_ffi.specs.Calls.{Answers, Tells, Writes};
+ghost use Rattle.rl_ffi.specs.Screen.{TellsCell, TellsPlace, TellsRow, TellsRows, column_of, screen_of};
 
 use crate::answers::{Answer, Outcome, merged};
 use crate::handle::{Handle, of};
-use crate::held::Held;
 use crate::numbers::{count_of, mode_of};
 use crate::shapes::{CPosition, CScreen};
 use crate::texts::text_of;
 use rl_base::Screen;
-use rl_line::LineBuffer;
-use std::alloc::Global;
 
 // The screen, unless it is none: it has a column at least.
 fn screen_of(screen: &CScreen) -> Result<Screen, Answer>
@@ -46,14 +42,7 @@ fn find_cell(screen: &CScreen, place: usize, text: &[u8], found: &mut CPosition)
     Ok(Answer::Done)
 }
 
-/// `lodvarn_cell`.
-#[unsafe(no_mangle)]
-pub extern "C" fn lodvarn_cell(
-    screen: &CScreen,
-    place: usize,
-    text: &[u8],
-    found: &mut CPosition,
-) -> i32
+pub fn lodvarn_cell(screen: &CScreen, place: usize, text: &[u8], found: &mut CPosition) -> i32
     ensures { Answers (TellsCell screen.now place text.now) result found.old found.new }
 {
     merged(find_cell(screen, place, text, found)).number()
@@ -68,14 +57,7 @@ fn find_place(screen: &CScreen, at: CPosition, text: &[u8], place: &mut usize) -
     Ok(Answer::Done)
 }
 
-/// `lodvarn_place_at`.
-#[unsafe(no_mangle)]
-pub extern "C" fn lodvarn_place_at(
-    screen: &CScreen,
-    at: CPosition,
-    text: &[u8],
-    place: &mut usize,
-) -> i32
+pub fn lodvarn_place_at(screen: &CScreen, at: CPosition, text: &[u8], place: &mut usize) -> i32
     ensures { Answers (TellsPlace screen.now at text.now) result place.old place.new }
 {
     merged(find_place(screen, at, text, place)).number()
@@ -90,14 +72,7 @@ fn find_rows(screen: &CScreen, text: &[u8], starts: &mut [usize], count: &mut us
     Ok(Answer::Done)
 }
 
-/// `lodvarn_rows`.
-#[unsafe(no_mangle)]
-pub extern "C" fn lodvarn_rows(
-    screen: &CScreen,
-    text: &[u8],
-    starts: &mut [usize],
-    count: &mut usize,
-) -> i32
+pub fn lodvarn_rows(screen: &CScreen, text: &[u8], starts: &mut [usize], count: &mut usize) -> i32
     ensures { Answers (TellsRows screen.now text.now) result (starts.old, count.old) (starts.new, count.new) }
 {
     merged(find_rows(screen, text, starts, count)).number()
@@ -114,89 +89,45 @@ fn column_of(number: usize) -> Option<usize>
 }
 
 // Writes the place to which a motion by rows leads, and the column that it keeps to, if it leads anywhere.
-fn write_row(told: Option<(usize, usize)>, place: &mut usize, column: &mut usize) -> Outcome
-    ensures { Writes told (merged result) (place.old, column.old) (place.new, column.new) }
+fn write_row(told: Option<(usize, usize)>, place: &mut usize, column: &mut usize) -> Answer
+    ensures { Writes told result (place.old, column.old) (place.new, column.new) }
 {
     match told {
         Some(row) => {
             *place = row.0;
             *column = row.1;
-            Ok(Answer::Done)
+            Answer::Done
         }
-        None => Ok(Answer::Nothing),
+        None => Answer::Nothing,
     }
 }
 
-fn row_above(
-    line: &LineBuffer,
-    screen: &CScreen,
-    n: usize,
-    column: &mut usize,
-    place: &mut usize,
-) -> Outcome
-    ensures { TellsRowAbove screen.now n line.now (merged result) (place.old, column.old) (place.new, column.new) }
-{
-    let screen = screen_of(screen)?;
-    let n = count_of(n)?;
-    write_row(
-        line.row_above(&screen, n, column_of(*column)),
-        place,
-        column,
-    )
-}
-
-/// `lodvarn_row_above`.
-#[unsafe(no_mangle)]
-pub extern "C" fn lodvarn_row_above(
-    alloc: Global,
+pub fn lodvarn_row_above(
     s: &mut Handle,
     screen: &CScreen,
     n: usize,
     column: &mut usize,
     place: &mut usize,
 ) -> i32
-    ensures value { Tells a_session (λ s. TellsRowAbove screen.now n s.line) s.old.value result (place.old, column.old) (place.new, column.new) }
-    ensures kept { s.new.value ≡ s.old.value }
+    ensures { Tells (TellsRow Above screen.now n) s.old result s.new (place.old, column.old) (place.new, column.new) }
 {
-    of!(s, alloc, Held::Session(session) => {
+    of!(s, session, on = screen_of(screen), k = count_of(n) => {
         session.index_lines();
-        row_above(session.line(), screen, n, column, place)
+        write_row(session.line().row_above(&on, k, column_of(*column)), place, column)
     })
 }
 
-fn row_below(
-    line: &LineBuffer,
-    screen: &CScreen,
-    n: usize,
-    column: &mut usize,
-    place: &mut usize,
-) -> Outcome
-    ensures { TellsRowBelow screen.now n line.now (merged result) (place.old, column.old) (place.new, column.new) }
-{
-    let screen = screen_of(screen)?;
-    let n = count_of(n)?;
-    write_row(
-        line.row_below(&screen, n, column_of(*column)),
-        place,
-        column,
-    )
-}
-
-/// `lodvarn_row_below`.
-#[unsafe(no_mangle)]
-pub extern "C" fn lodvarn_row_below(
-    alloc: Global,
+pub fn lodvarn_row_below(
     s: &mut Handle,
     screen: &CScreen,
     n: usize,
     column: &mut usize,
     place: &mut usize,
 ) -> i32
-    ensures value { Tells a_session (λ s. TellsRowBelow screen.now n s.line) s.old.value result (place.old, column.old) (place.new, column.new) }
-    ensures kept { s.new.value ≡ s.old.value }
+    ensures { Tells (TellsRow Below screen.now n) s.old result s.new (place.old, column.old) (place.new, column.new) }
 {
-    of!(s, alloc, Held::Session(session) => {
+    of!(s, session, on = screen_of(screen), k = count_of(n) => {
         session.index_lines();
-        row_below(session.line(), screen, n, column, place)
+        write_row(session.line().row_below(&on, k, column_of(*column)), place, column)
     })
 }

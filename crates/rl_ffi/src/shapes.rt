@@ -82,6 +82,5 @@ pub struct COptions {
     pub max_entries: usize,
     pub max_bytes: usize,
     pub max_ring_bytes: usize,
-    pub limit_holds: bool,
     pub keeps_undone: bool,
 }

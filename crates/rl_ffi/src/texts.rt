@@ -5,7 +5,8 @@ ghost use Rattle.rl_base.specs.Clusters.{clusters};
 ghost use Rattle.rl_base.specs.Screen.{filled};
 ghost use Rattle.rl_ffi.specs.Answers.{merged, number};
 ghost use Rattle.rl_ffi.specs.Buffers.{written};
-ghost use Rattle.rl_ffi.specs.Texts.{Answers, Printed, TellsClusters, TellsFirst, TellsLast, TellsMoved, TellsWidth, measured, version};
+ghost use Rattle.rl_ffi.specs.Calls.{Answers};
+ghost use Rattle.rl_ffi.specs.Texts.{Printed, TellsClusters, TellsFirst, TellsLast, TellsMoved, TellsWidth, measured, version};
 ghost use Rattle.rl_ffi.specs.declared.answers.Answer.TheVariants.{NotUtf8};
 
 use crate::answers::{Answer, Outcome, merged};
@@ -28,14 +29,7 @@ pub(crate) fn text_of(bytes: &[u8]) -> Result<&str, Answer>
     }
 }
 
-/// `lodvarn_script`.
-#[unsafe(no_mangle)]
-pub extern "C" fn lodvarn_script(
-    alloc: Global,
-    script: &[u8],
-    out: &mut [u8],
-    printed: &mut usize,
-) -> i32
+pub fn lodvarn_script(alloc: Global, script: &[u8], out: &mut [u8], printed: &mut usize) -> i32
     ensures { (whole : List ℕ) × Printed script.now result whole × (out.new ≡ written whole out.old) × (printed.new ≡ length whole) }
 {
     let mut reader = script;
@@ -58,9 +52,7 @@ fn measure(mode: u32, text: &[u8], columns: &mut usize) -> Outcome
     Ok(Answer::Done)
 }
 
-/// `lodvarn_width`.
-#[unsafe(no_mangle)]
-pub extern "C" fn lodvarn_width(mode: u32, text: &[u8], columns: &mut usize) -> i32
+pub fn lodvarn_width(mode: u32, text: &[u8], columns: &mut usize) -> i32
     ensures { Answers (TellsWidth mode text.now) result columns.old columns.new }
 {
     merged(measure(mode, text, columns)).number()
@@ -78,9 +70,7 @@ fn first(text: &[u8], bytes: &mut usize) -> Outcome
     }
 }
 
-/// `lodvarn_first_cluster`.
-#[unsafe(no_mangle)]
-pub extern "C" fn lodvarn_first_cluster(text: &[u8], bytes: &mut usize) -> i32
+pub fn lodvarn_first_cluster(text: &[u8], bytes: &mut usize) -> i32
     ensures { Answers (TellsFirst text.now) result bytes.old bytes.new }
 {
     merged(first(text, bytes)).number()
@@ -98,9 +88,7 @@ fn last(text: &[u8], bytes: &mut usize) -> Outcome
     }
 }
 
-/// `lodvarn_last_cluster`.
-#[unsafe(no_mangle)]
-pub extern "C" fn lodvarn_last_cluster(text: &[u8], bytes: &mut usize) -> i32
+pub fn lodvarn_last_cluster(text: &[u8], bytes: &mut usize) -> i32
     ensures { Answers (TellsLast text.now) result bytes.old bytes.new }
 {
     merged(last(text, bytes)).number()
@@ -134,14 +122,7 @@ fn find_clusters(mode: u32, text: &[u8], out: &mut [CCluster], count: &mut usize
     Ok(Answer::Done)
 }
 
-/// `lodvarn_clusters`.
-#[unsafe(no_mangle)]
-pub extern "C" fn lodvarn_clusters(
-    mode: u32,
-    text: &[u8],
-    out: &mut [CCluster],
-    count: &mut usize,
-) -> i32
+pub fn lodvarn_clusters(mode: u32, text: &[u8], out: &mut [CCluster], count: &mut usize) -> i32
     ensures { Answers (TellsClusters mode text.now) result (out.old, count.old) (out.new, count.new) }
 {
     merged(find_clusters(mode, text, out, count)).number()
@@ -167,17 +148,13 @@ fn find_moved(change: &CSplice, place: usize, side: u32, moved: &mut usize) -> O
     Ok(Answer::Done)
 }
 
-/// `lodvarn_moved`.
-#[unsafe(no_mangle)]
-pub extern "C" fn lodvarn_moved(change: &CSplice, place: usize, side: u32, moved: &mut usize) -> i32
+pub fn lodvarn_moved(change: &CSplice, place: usize, side: u32, moved: &mut usize) -> i32
     ensures { Answers (TellsMoved change.now place side) result moved.old moved.new }
 {
     merged(find_moved(change, place, side, moved)).number()
 }
 
-/// `lodvarn_version`.
-#[unsafe(no_mangle)]
-pub extern "C" fn lodvarn_version() -> u32
+pub fn lodvarn_version() -> u32
     ensures { result ≡ version }
 {
     let (major, minor, patch) = (0, 1, 0);

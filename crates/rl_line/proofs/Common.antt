@@ -50,7 +50,6 @@ pub use Rattle.rl_line.specs.Change.{TakesIn, entries_to_undo, entry_to_undo, gr
 pub use Rattle.rl_line.specs.Deletions.{Told, delete_plan, is_exact, removal, side_of, side_of_place, side_of_search, ToldOutcome}
 pub use Rattle.rl_line.specs.Edits.{cut_to_limit, exchange_plan, insert_event, insert_plan, insert_str_plan, too_long, update_plan, yank_plan, yank_pop_plan}
 pub use Rattle.rl_line.specs.Entries.{Joins, added, cut_at, deep, settled}
-pub use Rattle.rl_line.specs.Foretelling.{HeardInPart}
 pub use Rattle.rl_line.specs.Forgetting.{FitsFrom, ForgetsFirst, bytes_held, fits, forgotten, gone_within, is_within, kept_within, unbounded, units_kept}
 pub use Rattle.rl_line.specs.Indents.{blanks, indent_plan, line_plan, lines_plan, parts, pulled, pushed, put_spaces, spaces}
 pub use Rattle.rl_line.specs.LetterCase.{edit_word_plan, mapped, recased, respell, respelled, word_ahead}

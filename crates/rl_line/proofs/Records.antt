@@ -31,6 +31,8 @@ pub mod RetraceLemmas
 pub mod AbandonLemmas
 pub mod KeepLemmas
 pub mod RoundLemmas
+pub mod UnitingLemmas
+pub mod UnitLawLemmas
 pub mod ForgettingLemmas
 pub mod RedoLemmas
 pub mod Laws

@@ -21,4 +21,3 @@ pub mod Trying
 pub mod Undo
 pub mod Walk
 pub mod SavedRecord
-pub mod Foretelling

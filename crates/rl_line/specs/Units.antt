@@ -1,8 +1,10 @@
 -- Undo groups: the units that an undo takes off and a redo puts back, and what each call makes of the record.
-use Rattle.std.specs.Prelude.{◌≡◌, ℕ, zero, suc, ◌-◌, max, min, not, ◌||◌, ◌==◌, Bool, true, false, List, [], ◌∷◌, ◌++◌, length, map, take, drop, reverse, Option, Some, None, IsSome, IsTrue, option_and_then, if◌then◌else◌}
+use Rattle.std.specs.Prelude.{◌≡◌, ℕ, zero, suc, ◌-◌, max, min, nat_le, not, ◌||◌, ◌&&◌, ◌==◌, Bool, true, false, List, [], ◌∷◌, ◌++◌, length, map, take, drop, reverse, Option, Some, None, IsSome, IsTrue, option_and_then, if◌then◌else◌}
+use Rattle.std.specs.Option.{option_map_or}
 use Rattle.rl_base.specs.Event.{Event}
 use Rattle.rl_line.specs.declared.change.Freshness.TheVariants.{Stale}
-use Rattle.rl_line.specs.Record.{Entry, Begin, End, Changed, Record, arrived, kept_point, point_kept, record_step, turned_all, parted}
+use Rattle.rl_line.specs.declared.changeset.UnitStart.{UnitStart}
+use Rattle.rl_line.specs.Record.{Entry, Begin, End, Changed, Record, arrived, is_saved, kept_point, last_insert, point_kept, record_step, turned_all, parted}
 
 -- a unit: the Begin of an open group, or entries that come and go as one, which are a change or a closed group
 pub data UndoUnit : Type 0 where
@@ -74,6 +76,10 @@ is_open es = not (level es == 0)
 
 abbrev pub open_group : List Entry → List Entry
 open_group es = if is_open es then last_of (open_size es) es else []
+
+-- how many units the group has so far that was opened last and is open, its Begin aside; None if no group is open
+abbrev pub units_in_group : List Entry → Option ℕ
+units_in_group es = if is_open es then Some (open_size es - 1) else None
 
 -- the entries that a redo puts back: the first unit, or all if that is the Begin of an open group
 abbrev pub redo_from : List Entry → List UndoUnit → List Entry
@@ -245,3 +251,38 @@ in_group events r = after_in_group (map Hears events) (begun r)
 -- the entries from the begin of that group on
 abbrev pub group_of : List Event → Record → List Entry
 group_of events r = drop (length r.recorded) (in_group events r).recorded
+
+-- ---- what was recorded becomes one unit
+-- how many bytes the last change put in; 0 if it put in none
+abbrev pub put_in_last : List Entry → ℕ
+put_in_last es = option_map_or length (last_insert es) 0
+
+-- how many entries a unit takes in that were recorded before it: those of the last unit, if the last change put in so many bytes,
+-- 0 aside, and the text is not saved here
+abbrev pub taken_in : ℕ → Record → ℕ
+taken_in put_in r = if not (put_in == 0) && (put_in_last r.recorded == put_in && not (is_saved r)) then length (last_of 1 r.recorded) else 0
+
+-- where a unit begins: after so many entries, of so many that are recorded, with this freshness
+abbrev pub unit_start : ℕ → Record → UnitStart
+unit_start put_in r = record { from = length r.recorded - taken_in put_in r; len = length r.recorded; was = r.fresh }
+
+-- whether no group stays open after entries, each End among them has its Begin among them, and each closed group holds a change
+abbrev pub is_whole : List Entry → Bool
+is_whole es = option_map_or (λ (flags : List Bool). length flags == 0) (marks es []) false
+
+-- the entries from k on make a group
+abbrev pub grouped_from : ℕ → List Entry → List Entry
+grouped_from k es = take k es ++ Begin ∷ (drop k es ++ End ∷ [])
+
+-- whether a unit makes a group: entries were recorded since it began, nothing waits to be redone, and it has several entries,
+-- which are whole
+abbrev pub makes_group : UnitStart → Record → Bool
+makes_group start r =
+    not (length r.recorded == start.len) && (not (waits r.pending) && (nat_le 2 (length (drop start.from r.recorded)) && is_whole (drop start.from r.recorded)))
+
+-- the record once the unit is made. If no entry was recorded, it may go on as it could before the unit began
+abbrev pub united : UnitStart → Record → Record
+united start r =
+    if length r.recorded == start.len then record r { fresh = start.was }
+    else if makes_group start r then arrived (grouped_from start.from r.recorded) [] (kept_point start.from r.saved)
+    else r

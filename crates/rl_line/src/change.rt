@@ -3,15 +3,14 @@ ghost use Rattle.std.specs.Prelude.{◌≡◌, [], ◌∷◌, None, Some, true, 
 ghost use Rattle.std.specs.Option.{option_map};
 ghost use Rattle.std.specs.String.{string_bytes};
 ghost use Rattle.std.specs.Str.{IsUtf8};
-ghost use Rattle.rl_base.specs.Event.{InsertChar, Delete, Replace, apply};
-ghost use Rattle.rl_base.specs.declared.listeners.Direction.TheVariants.{Forward};
+ghost use Rattle.rl_base.specs.Event.{Replace, apply};
 ghost use Rattle.rl_base.specs.declared.listeners.Refusal.TheVariants.{NoMemory};
 ghost use Rattle.rl_line.specs.Plan.{NeverRefuses, listener_after};
 ghost use Rattle.rl_line.specs.Record.{bytes_back, cursors_of, entry_of, event_of, freshness_joined, freshness_told, inverse, is_parted, new_text, old_text, with_cursors, flipped, swapped};
 ghost use Rattle.rl_line.specs.Undo.{Reaches, count_over, cursor_after, cursor_told, cursor_stands, line_back, steps_ahead};
 ghost use Rattle.rl_line.specs.Walk.{WalksOver};
 ghost use Rattle.rl_line.specs.Units.{is_begin, is_change, is_end};
-ghost use Rattle.rl_line.specs.Change.{Outgrows, TakesIn, text_after, text_back, place, entry_to_undo, greatest_back_over, length_back, order, entries_to_undo, way_back};
+ghost use Rattle.rl_line.specs.Change.{Outgrows, text_after, text_back, place, entry_to_undo, greatest_back_over, length_back, order, entries_to_undo, way_back};
 
 mod joining;
 
@@ -234,6 +233,16 @@ impl Change {
             Way::Back => (new, old),
             Way::Ahead => (old, new),
         }
+    }
+
+    /// Whether a text of `len` bytes keeps to a limit over the change. Inlined too.
+    #[inline(always)]
+    pub(crate) fn keeps_to(&self, way: Way, len: usize, limit: usize) -> bool
+        requires { len ≤ limit }
+        ensures { result ≡ nat_le (greatest_back_over (entry_to_undo way self.now ∷ []) len) limit }
+    {
+        let (going, coming) = self.texts(way);
+        coming.len() <= limit - len.saturating_sub(going.len())
     }
 
     /// Where the cursor goes this way, if it was told.

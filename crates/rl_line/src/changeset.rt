@@ -1,24 +1,20 @@
 //! The record of the changes of a line, which undoes them, in groups where they were made in groups, and redoes them.
-ghost use Rattle.std.specs.Prelude.{◌≡◌, ◌<◌, ◌≤◌, ◌↔◌, ℕ, [], ◌∷◌, map, min, nat_le, true, false, is_some, length, All, IsSome, Some, IfOk, IfErr, IfSome, OnOk, OnErr};
-ghost use Rattle.std.specs.Option.{option_map};
-ghost use Rattle.std.specs.String.{string_bytes};
+ghost use Rattle.std.specs.Prelude.{◌≡◌, ◌<◌, ◌≤◌, [], ◌∷◌, ◌++◌, drop, map, min, take, true, false, length, All, IsSome, Some, IfOk, IfErr, IfSome, OnOk, OnErr};
 ghost use Rattle.rl_base.specs.Event.{InsertChar, InsertStr, Delete, Replace};
-ghost use Rattle.rl_base.specs.Text.{HasText};
 ghost use Rattle.rl_base.specs.declared.listeners.Direction.TheVariants.{Forward};
 ghost use Rattle.rl_base.specs.declared.listeners.Refusal.TheVariants.{NoMemory};
 ghost use Rattle.rl_line.specs.Forgetting.{forgotten};
-ghost use Rattle.rl_line.specs.Change.{entries_to_undo, greatest_ahead_over, greatest_back_over, longest_over};
+ghost use Rattle.rl_line.specs.Change.{entries_to_undo};
 ghost use Rattle.rl_line.specs.Plan.{NeverRefuses};
-ghost use Rattle.rl_line.specs.Record.{IsOfKind, Record, entry_of, is_saved, last_insert, no_changes, parted, record_step, replays_to, saved_here};
-ghost use Rattle.rl_line.specs.Undo.{Abandoned, CopiesBack, GoesOver, LineOutOfRoom, OutOfRoom, Redone, StandsStill, TriesAhead, TriesBack, Undone, line_ahead, line_back, line_over, listener_ahead, listener_back, listener_over, texts_ahead, texts_back, texts_over, unit_of};
-ghost use Rattle.rl_line.specs.Walk.{Walks};
-ghost use Rattle.rl_line.specs.Units.{BothMatched, IsMatched, adds_end, begun, ended, ended_one, ends_in_end, has_change, is_change, last_of, level, open_group, redo_of, reopened, truncated, with_closed, kept_undone, waits};
+ghost use Rattle.rl_line.specs.Record.{Begin, End, IsOfKind, Record, entry_of, is_saved, no_changes, parted, record_step, saved_here};
+ghost use Rattle.rl_line.specs.Undo.{Abandoned, GoesOver, LineOutOfRoom, OutOfRoom, Redone, StandsStill, Undone, line_ahead, line_back, line_over, listener_ahead, listener_back, listener_over, texts_ahead, texts_back, texts_over, unit_of};
+ghost use Rattle.rl_line.specs.Units.{BothMatched, IsMatched, adds_end, begun, ended, ended_one, ends_in_end, has_change, is_change, last_of, level, open_group, redo_of, reopened, truncated, units_in_group, with_closed, kept_of, kept_undone, makes_group, taken_in, unit_start, united, waits};
 
-mod foretelling;
 mod questions;
 mod saved;
 mod trying;
 
+use self::questions::last_text;
 use crate::change::{Change, Freshness, Way, count_over, keeps_to, retraces, text_over};
 use crate::entries::{self, Entries};
 use crate::forgetting::oldest_len;
@@ -41,6 +37,17 @@ pub struct Changeset {
     entries: Entries,
     // How many groups are open, so that no call has to count them over the whole record.
     level: usize,
+}
+
+/// Where a unit of undo begins that is made of what is recorded after it: `start_unit` tells it, and `unite` takes it.
+#[derive(Clone, Copy)]
+pub struct UnitStart {
+    // How many entries stand before the unit.
+    from: usize,
+    // How many were recorded when it began.
+    len: usize,
+    // Whether the last of them could be told its cursors then, and joined.
+    was: Freshness,
 }
 
 impl Model for Changeset {
@@ -81,6 +88,17 @@ impl Changeset {
     {
         self.entries.of_kind();
         self.level
+    }
+
+    /// How many units were made in the group that was opened last and is open; None if no group is open. An undo of no more
+    /// stays in that group.
+    pub fn units_in_group(&self) -> Option<usize>
+        ensures { result ≡ units_in_group self.now.recorded }
+    {
+        if self.level == 0 {
+            return None;
+        }
+        Some(units::open_size(self.recorded()).saturating_sub(1))
     }
 
     /// Whether an undo of one unit would find a change: something is recorded, and the last entry is not the begin of an
@@ -185,6 +203,59 @@ impl Changeset {
         self.entries.part();
     }
 
+    /// Says where a unit begins, of which `unite` makes one group once its changes are recorded. It parts the changes that
+    /// come, as `part` does. If the last change put in a text of `put_in` bytes, and `put_in` is not 0, its unit is taken
+    /// in, unless the text was saved after it.
+    #[tactic(auto, using(crate::proofs::Records::UnitingLemmas::unit_starts))]
+    pub fn start_unit(&mut self, put_in: usize) -> UnitStart
+        ensures start { result ≡ unit_start put_in self.old }
+        ensures done { self.new ≡ parted self.old }
+    {
+        let len = self.entries.len();
+        let from = len - self.taken_in(put_in);
+        let was = self.entries.fresh();
+        self.part();
+        UnitStart { from, len, was }
+    }
+
+    // How many entries a unit takes in that were recorded before it.
+    fn taken_in(&self, put_in: usize) -> usize
+        ensures { result ≡ taken_in put_in self.now }
+    {
+        if put_in == 0 || self.is_saved() {
+            return 0;
+        }
+        let recorded = self.recorded();
+        let Some(text) = last_text(recorded) else {
+            return 0;
+        };
+        if text.len() != put_in {
+            return 0;
+        }
+        units::last_units(recorded, 1).len()
+    }
+
+    /// Makes one group of what was recorded since `start`, and of what that takes in, so that it is undone and redone
+    /// together. It does so if these are several entries, each group that begins or ends among them is whole there, and
+    /// nothing waits to be redone; else the record stays. A save point inside the new group is gone. If no entry was
+    /// recorded, the next change may join as it could before. All room is found first, so refused it changes nothing.
+    pub fn unite(&mut self, start: UnitStart) -> Result<(), Refusal>
+        ensures ok { OnOk result (self.new ≡ united start self.old) }
+        ensures unit { OnOk result (makes_group start self.old ≡ true
+            → (last_of 1 self.new.recorded ≡ Begin ∷ (drop start.from self.old.recorded ++ End ∷ [])) × (kept_of 1 self.new.recorded ≡ take start.from self.old.recorded)) }
+        ensures err { IfErr result (λ r. (r ≡ NoMemory) × (self.new ≡ self.old) × (makes_group start self.old ≡ true)) }
+    {
+        if self.entries.len() == start.len {
+            self.entries.go_on(start.was);
+            return Ok(());
+        }
+        if !self.pending().is_empty() || !units::form_unit(self.recorded(), start.from) {
+            return Ok(());
+        }
+        self.entries.group_from(start.from)?;
+        Ok(())
+    }
+
     /// Marks the text as saved at the present point of the record, and parts the changes that come, as `part` does, so that
     /// none of them joins what was saved. One point is kept, the last that was marked.
     pub fn set_saved(&mut self)
@@ -246,9 +317,8 @@ impl Changeset {
     /// unit is a change, a closed group, or the begin of an open one. Answers whether there was a change.
     /// The cursor goes back to where it was before the last change that is undone, or, if the record was not
     /// told that, to the place of that change, past what it puts back.
-    /// `can_undo_last` tells whether these units can be taken back from the line's text, and `can_undo` whether all can;
-    /// `try_undo` asks that itself.
-    /// It finds all room first, so refused it changes nothing.
+    /// `can_undo` tells whether all changes can be taken back from the line's text; `try_undo` asks that of these units
+    /// itself. It finds all room first, so refused it changes nothing.
     pub fn undo(&mut self, line: &mut LineBuffer, n: RepeatCount) -> Result<bool, Refusal>
         requires { IsSome (line_back (last_of n self.old.recorded) line.old) }
         ensures done { IfOk result (λ answer. Undone n self.old self.new line.old line.new answer) }
@@ -310,8 +380,8 @@ impl Changeset {
     /// Redoes what was undone: the next change, or the next group, or all that is left if its group was
     /// never closed. Answers whether there was a change. The cursor goes to where it went with the last change that
     /// is redone, or, if the record was not told that, to the place of that change, past what it puts in.
-    /// `can_redo_next` tells whether these changes fit the line, and `can_redo` whether all that were undone do; `try_redo`
-    /// asks that itself. It finds all room first, so refused it changes nothing.
+    /// `can_redo` tells whether all changes that were undone fit the line; `try_redo` asks that of these itself. It finds all
+    /// room first, so refused it changes nothing.
     pub fn redo(&mut self, line: &mut LineBuffer) -> Result<bool, Refusal>
         requires { IsSome (line_ahead (redo_of self.old.pending) line.old) }
         ensures done { IfOk result (λ answer. Redone self.old self.new line.old line.new answer) }

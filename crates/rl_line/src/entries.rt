@@ -1,24 +1,18 @@
-//! The entries of a record: what an event makes of them, how its groups are closed, and whether a line can go over them. A
-//! function that records drops what was undone; refused, it leaves every entry.
-ghost use Rattle.std.specs.Prelude.{◌≡◌, ◌+◌, ◌^◌, ◌≤◌, ◌<◌, [], ◌++◌, All, encode_utf8, is_some, length, map, take, drop, true, false, None, IfOk, IfErr, IfSome, OnOk, OnErr, reverse};
-ghost use Rattle.std.specs.Option.{option_map};
-ghost use Rattle.std.specs.String.{string_bytes};
+//! The entries of a record: what an event makes of them, and how its groups are closed. A function that records drops what
+//! was undone; refused, it leaves every entry.
+ghost use Rattle.std.specs.Prelude.{◌≡◌, ◌+◌, ◌^◌, ◌≤◌, ◌<◌, [], ◌++◌, All, encode_utf8, length, map, take, drop, true, false, None, IfOk, IfErr, IfSome, OnOk, OnErr, reverse};
 ghost use Rattle.std.specs.Vec.{vec_len, vec_capacity};
 ghost use Rattle.rl_base.specs.Event.{InsertChar, InsertStr, Delete, Replace, Cursors};
-ghost use Rattle.rl_base.specs.Text.{HasText};
 ghost use Rattle.rl_base.specs.declared.listeners.Direction.TheVariants.{Forward};
 ghost use Rattle.rl_base.specs.declared.listeners.Refusal.TheVariants.{NoMemory};
 ghost use Rattle.rl_line.specs.declared.change.Freshness.TheVariants.{Added, Stale};
-ghost use Rattle.rl_line.specs.Record.{Changed, Insertion, IsOfKind, untold, entry_of, freshness_at, freshness_told, is_at, is_saved, kept_point, last_insert, no_changes, parted, point_past, record_step, saved_here, arrived, flipped, inverse};
-ghost use Rattle.rl_line.specs.Undo.{Tries, line_over};
-ghost use Rattle.rl_line.specs.Units.{adds_end, end_one, end_times, ends_in_begin, ends_in_end, has_change, point_closed, truncated, with_closed, IsMatched, level, there_and_back};
+ghost use Rattle.rl_line.specs.Record.{Changed, Insertion, IsOfKind, untold, entry_of, freshness_at, freshness_told, is_at, is_saved, kept_point, no_changes, parted, point_past, record_step, saved_here, arrived, flipped, inverse};
+ghost use Rattle.rl_line.specs.Units.{adds_end, end_one, end_times, ends_in_begin, ends_in_end, grouped_from, point_closed, truncated, with_closed, IsMatched, level, there_and_back};
 ghost use Rattle.rl_line.specs.Entries.{Joins, added, cut_at, settled};
 
-use crate::change::{Change, Freshness, Texts, Way, copied, patch_over, seldom};
+use crate::change::{Change, Freshness, Texts, copied, seldom};
 use crate::inserted::Inserted;
-use crate::line_buffer::LineBuffer;
-use crate::units::has_change;
-use rl_base::{Gathered, Refusal, RepeatCount};
+use rl_base::{Gathered, Refusal};
 use std::alloc::Global;
 use std::marker::Model;
 
@@ -293,6 +287,28 @@ impl Entries {
         self.fresh = Freshness::Parted;
     }
 
+    /// The last recorded change may be told its cursors, and joined, as `fresh` says.
+    pub(crate) fn go_on(&mut self, fresh: Freshness)
+        ensures { self.new ≡ record self.old { fresh = fresh } }
+    {
+        self.fresh = fresh;
+    }
+
+    /// Makes a group of the recorded entries from `from` on, where nothing waits to be redone.
+    pub(crate) fn group_from(&mut self, from: usize) -> Result<(), Refusal>
+        requires within { from ≤ length self.old.recorded }
+        requires all { self.old.pending ≡ [] }
+        ensures done { OnOk result (self.new ≡ arrived (grouped_from from self.old.recorded) [] (kept_point from self.old.saved)) }
+        ensures err { IfErr result (λ r. (r ≡ NoMemory) × (self.new ≡ self.old)) }
+    {
+        self.list.reserve(2)?;
+        put_marks(&mut self.list, from);
+        self.recorded = self.list.len();
+        self.saved = kept_point(self.saved, from);
+        self.fresh = freshness_at(self.recorded, self.saved);
+        Ok(())
+    }
+
     /// Marks the text as saved here, and parts what comes from it.
     pub(crate) fn set_saved(&mut self)
         ensures { self.new ≡ saved_here self.old }
@@ -552,6 +568,23 @@ fn push_turned(entries: &mut Vec<Change>, back: Vec<Change>)
     }
 }
 
+// Puts a Begin at a place, and an End behind all, in a list that has room for both.
+#[tactic(auto, using(crate::proofs::Records::UnitingLemmas::marks_put))]
+fn put_marks(entries: &mut Vec<Change>, from: usize)
+    requires within { from ≤ length entries.old.items }
+    requires room { vec_len entries.old + 2 ≤ vec_capacity entries.old }
+    ensures { map entry_of entries.new.items ≡ grouped_from from (map entry_of entries.old.items) }
+{
+    match entries.insert(from, Change::Begin) {
+        Ok(()) => {}
+        Err(_) => unreachable!(),
+    }
+    match entries.push(Change::End) {
+        Ok(()) => {}
+        Err(_) => unreachable!(),
+    }
+}
+
 // Closes the group that was opened last: removes a Begin at the end, or adds an End.
 #[tactic(auto, using(crate::proofs::Records::EntryLemmas::at_the_end))]
 fn close_last(entries: &mut Vec<Change>)
@@ -590,46 +623,4 @@ pub(crate) fn ends_in_end(entries: &[Change]) -> bool
         Some(last) => last.is_end(),
         None => false,
     }
-}
-
-/// Whether a line can go over the entries that way, and each cursor that was told stands between two characters then. One
-/// entry is compared with the text; several, if there is a change among them, are tried on a copy of the part that they touch.
-#[tactic(auto, using(crate::proofs::Records::LeadLemmas::led))]
-pub(crate) fn lead(
-    alloc: Global,
-    line: &LineBuffer,
-    entries: &[Change],
-    way: Way,
-) -> Result<bool, Refusal>
-    ensures ok { IfOk result (λ answer. answer ≡ is_some (line_over way (map entry_of entries.now) line.now)) }
-    ensures err { IfErr result (λ r. (r ≡ NoMemory) × Tries way (map entry_of entries.now) line.now.text) }
-{
-    // So the proof knows that the cursor stands between two characters.
-    let _cursor = line.pos();
-    if entries.len() == 1 {
-        return Ok(entries[0].leads(line.as_str(), way));
-    }
-    if !has_change(entries) {
-        return Ok(true);
-    }
-    let text = patch_over(alloc, line.as_str(), entries, way, true)?;
-    Ok(text.is_some())
-}
-
-/// A copy of what the last entry put in, Ends passed over.
-pub(crate) fn last_insert(entries: &[Change], alloc: Global) -> Result<Option<String>, Refusal>
-    ensures ok { IfOk result (λ text. option_map string_bytes text ≡ last_insert (map entry_of entries.now)) }
-    ensures err { IfErr result (λ r. (r ≡ NoMemory) × HasText (last_insert (map entry_of entries.now))) }
-{
-    let mut left = entries.len();
-    while left > 0 {
-        left -= 1;
-        match &entries[left] {
-            Change::End => {}
-            Change::Insert(_, _, new) => return Ok(Some(copied(alloc, new.as_str())?)),
-            Change::Replace(_, _, texts) => return Ok(Some(copied(alloc, texts.after.as_str())?)),
-            Change::Begin | Change::Delete(_, _, _) => return Ok(None),
-        }
-    }
-    Ok(None)
 }

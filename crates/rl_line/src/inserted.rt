@@ -40,6 +40,8 @@ impl Inserted {
         }
     }
 
+    // Inlined, since an undo and a redo ask it of each insertion.
+    #[inline(always)]
     pub(crate) fn as_str(&self) -> &str
         ensures value { result.now ≡ inserted_bytes self.now }
         ensures utf8 { IsUtf8 result.now }

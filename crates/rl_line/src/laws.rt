@@ -1,16 +1,16 @@
 //! The laws of the record: what undo, redo, groups and forgetting come to, over any entries.
 #![tactic(auto, using(crate::proofs::Records::Laws::laws))]
 
-ghost use Rattle.std.specs.Prelude.{◌≡◌, ◌≤◌, ◌↔◌, ℕ, List, Bool, [], ◌∷◌, ◌++◌, ◌-◌, min, suc, true, false, drop, length, IsSome, Some, ◌<◌};
+ghost use Rattle.std.specs.Prelude.{◌≡◌, ◌≤◌, ◌↔◌, ℕ, List, Bool, [], ◌∷◌, ◌++◌, ◌-◌, min, suc, true, false, drop, length, take, IsSome, Some, ◌<◌};
 ghost use Rattle.std.specs.Str.{IsCharBoundary, IsUtf8};
 ghost use Rattle.rl_base.specs.Event.{Event};
 ghost use Rattle.rl_line.specs.Forgetting.{fits, forgotten, gone_within, kept_within};
 ghost use Rattle.rl_line.specs.Line.{Line};
-ghost use Rattle.rl_line.specs.Plan.{after};
+ghost use Rattle.rl_line.specs.Plan.{Step, after, listener_after};
 ghost use Rattle.rl_line.specs.Record.{Begin, Entry, End, IsRecorded, Record, SavedAt, StaysSaved, arrived, entries_of, is_saved, parted, point_kept, record_step, saved_here, replay_entries, unwind};
 ghost use Rattle.rl_line.specs.declared.change.Freshness.TheVariants.{Parted};
 ghost use Rattle.rl_line.specs.Undo.{Redone, Redos, StandAfter, StandBefore, Undone, line_ahead, line_back, steps_ahead, steps_back};
-ghost use Rattle.rl_line.specs.Units.{BothMatched, GroupAt, InGroup, IsMatched, abandoned, adds_end, after_in_group, begun, ended, ended_one, group_of, has_change, in_group, kept_of, last_of, last_units, level, open_group, opens, redo_of, redone, reopened, truncated, undone, with_closed, closed_all, kept_undone, next_of, there_and_back, units, waits};
+ghost use Rattle.rl_line.specs.Units.{BothMatched, GroupAt, InGroup, IsMatched, abandoned, adds_end, after_in_group, begun, ended, ended_one, group_of, has_change, in_group, kept_of, last_of, last_units, level, open_group, opens, redo_of, redone, reopened, truncated, undone, unit_start, united, with_closed, closed_all, kept_undone, next_of, there_and_back, units, waits};
 
 /// Where entries lead from one text to another, unwinding them leads back from that to the first, and conversely.
 pub fn unwinding_is_replaying()
@@ -134,6 +134,21 @@ pub fn part_begins_an_undo_of_its_own()
         → (last_of 1 (record_step (parted r) event).recorded ≡ entries_of event)
         × (kept_of 1 (record_step (parted r) event).recorded ≡ r.recorded) }
     ensures stays { (r : Record) (event : Event) → ¬ (IsRecorded event) → (record_step (parted r) event).fresh ≡ Parted }
+{}
+
+/// What a record hears after `start_unit`, here in the steps of an edit, is its last unit once `unite` had memory for its
+/// marks. What was recorded before stays, and nothing joins it; if an entry was recorded, nothing waits to be redone. An
+/// undo of one unit takes back a change, and keeps what was recorded before the unit: all of it, or if the unit takes in
+/// the last one, what stands before that.
+pub fn what_was_heard_becomes_the_last_unit()
+    ensures stays { (cursor : ℕ) (steps : List Step) (r now : Record) → now ≡ listener_after record_step cursor steps (parted r)
+        → take (length r.recorded) now.recorded ≡ r.recorded }
+    ensures drops { (cursor : ℕ) (steps : List Step) (r now : Record) → now ≡ listener_after record_step cursor steps (parted r)
+        → length r.recorded < length now.recorded → now.pending ≡ [] }
+    ensures unit { (put_in cursor : ℕ) (steps : List Step) (r now : Record) → now ≡ listener_after record_step cursor steps (parted r)
+        → IsMatched r.recorded → length r.recorded < length now.recorded
+        → (kept_of 1 (united (unit_start put_in r) now).recorded ≡ take (unit_start put_in r).from r.recorded)
+        × (has_change (last_of 1 (united (unit_start put_in r) now).recorded) ≡ true) }
 {}
 
 /// One redo for each unit that an undo took gives back the text, what was recorded and what was undone before, unless

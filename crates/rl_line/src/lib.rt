@@ -15,5 +15,5 @@ mod swap;
 mod tails;
 mod units;
 
-pub use changeset::Changeset;
+pub use changeset::{Changeset, UnitStart};
 pub use line_buffer::{LineBuffer, MAX_LINE, can_delete_by, is_by_characters};

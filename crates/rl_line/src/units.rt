@@ -1,7 +1,7 @@
 //! The units of a list of entries, which an undo or a redo goes over, and how many groups are open after it.
-ghost use Rattle.std.specs.Prelude.{◌≡◌, ◌+◌, ◌^◌, ◌≤◌, ◌<◌, [], ◌∷◌, length, map, take, true, None, IfSome};
+ghost use Rattle.std.specs.Prelude.{◌≡◌, ◌+◌, ◌^◌, ◌≤◌, ◌<◌, ◌&&◌, [], ◌∷◌, drop, length, nat_le, map, take, true, None, IfSome};
 ghost use Rattle.rl_line.specs.Record.{entry_of};
-ghost use Rattle.rl_line.specs.Units.{IsMatched, has_change, is_change, last_of, level, open_size, redo_of};
+ghost use Rattle.rl_line.specs.Units.{IsMatched, has_change, is_change, is_whole, last_of, level, open_size, redo_of};
 ghost use Rattle.rl_line.specs.Entries.{deep};
 
 use crate::change::Change;
@@ -35,6 +35,20 @@ pub(crate) fn matched_level(entries: &[Change]) -> Option<usize>
         after_begin = entry.is_begin();
     }
     Some(level)
+}
+
+/// Whether the entries from a place on are several, and each group that is begun or ended among them is whole.
+#[tactic(auto, using(crate::proofs::Records::UnitingLemmas::unit_forms))]
+pub(crate) fn form_unit(entries: &[Change], from: usize) -> bool
+    ensures { result ≡ (nat_le 2 (length (drop from (map entry_of entries.now))) && is_whole (drop from (map entry_of entries.now))) }
+{
+    if entries.len().saturating_sub(from) < 2 {
+        return false;
+    }
+    match matched_level(&entries[from..]) {
+        Some(open) => open == 0,
+        None => false,
+    }
 }
 
 // How many groups are open after an entry, if `level` are open before it.

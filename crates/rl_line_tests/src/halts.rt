@@ -1,9 +1,10 @@
-//! Edits of several changes that their listener refuses halfway, and what they leave. `rl_halts` refuses every edit.
-use crate::edits::{update, yank_pop};
+//! Edits that their listener refuses, at their first change or halfway, and what they leave. `kills` has the deletions that
+//! answer whether there was one.
+use crate::edits::{replace, update, yank_pop};
 use crate::line_buffer::{leaves, line_of};
 use crate::told::{AHEAD, Told, is_told};
 use rl_base::testing::RefuseAt;
-use rl_base::{Movement, Refusal, WordAction};
+use rl_base::{Movement, Refusal, RepeatCount, WordAction};
 use rl_line::LineBuffer;
 use std::alloc::Global;
 use std::process::Abort;
@@ -12,6 +13,12 @@ use std::test::Fail;
 // An edit, as a value of a table.
 #[derive(Drop)]
 enum Edit {
+    Insert(char, RepeatCount),
+    InsertStr(&'static str),
+    Yank(&'static str),
+    Replace(&'static str),
+    DeleteRange,
+    Delete,
     YankPop(&'static str),
     Update(&'static str),
     TransposeChars,
@@ -19,6 +26,28 @@ enum Edit {
     EditWord(WordAction),
     Indent(Movement, u8),
     Dedent(Movement, u8),
+}
+
+// Takes out what stands before the cursor.
+fn delete_range(
+    rt: &impl Abort,
+    line: &mut LineBuffer,
+    heard: &mut RefuseAt,
+) -> Result<(), Refusal> {
+    let to = line.pos();
+    assert!(rt; line.is_range(0, to), "up to {to}");
+    line.delete_range(0..to, heard)
+}
+
+// Puts a text in at the start.
+fn insert_str(
+    rt: &impl Abort,
+    line: &mut LineBuffer,
+    text: &str,
+    heard: &mut RefuseAt,
+) -> Result<bool, Refusal> {
+    assert!(rt; line.can_insert_str(0, text), "{text:?}");
+    line.insert_str(0, text, heard)
 }
 
 // Makes the edit, from the start of the text where it takes a place. Answers why it was refused, if it was.
@@ -29,6 +58,15 @@ fn make(
     heard: &mut RefuseAt,
 ) -> Option<Refusal> {
     match edit {
+        Edit::Insert(c, n) => line.insert(*c, *n, heard).err(),
+        Edit::InsertStr(text) => insert_str(rt, line, text, heard).err(),
+        Edit::Yank(text) => line.yank(text, 1, heard).err(),
+        Edit::Replace(text) => {
+            let at = line.pos();
+            replace(rt, line, 0, at, text, heard).err()
+        }
+        Edit::DeleteRange => delete_range(rt, line, heard).err(),
+        Edit::Delete => line.delete(1, heard).err(),
         Edit::YankPop(text) => {
             let at = line.pos();
             yank_pop(rt, line, at, text, heard).err()
@@ -107,6 +145,35 @@ fn halt_in_turn(rt: &impl Abort, alloc: Global, rows: &[Halting]) -> Result<(), 
         halts(rt, alloc, text, *pos, edit, steps)?;
     }
     Ok(())
+}
+
+#[test]
+fn refused_changes_leave_the_line(rt: HostRuntime) -> Result<(), Fail> {
+    const ROWS: &[Halting] = &[
+        ("ab", 1, Edit::Insert('é', 1), &[((1, "é", None), "aéb", 3)]),
+        (
+            "ab",
+            2,
+            Edit::Insert('x', 2),
+            &[((2, "xx", None), "abxx", 4)],
+        ),
+        (
+            "ab",
+            1,
+            Edit::InsertStr("xy"),
+            &[((0, "xy", None), "xyab", 1)],
+        ),
+        ("ab", 1, Edit::Yank("xy"), &[((1, "xy", None), "axyb", 3)]),
+        (
+            "abc",
+            1,
+            Edit::Replace("xyz"),
+            &[((0, "xyz", None), "xyzbc", 3)],
+        ),
+        ("abc", 2, Edit::DeleteRange, &[((0, "ab", AHEAD), "c", 0)]),
+        ("abc", 1, Edit::Delete, &[((1, "b", AHEAD), "ac", 1)]),
+    ];
+    halt_in_turn(&rt, rt.alloc(), ROWS)
 }
 
 #[test]

@@ -14,6 +14,7 @@ enum Call {
     AfterNewest,
     Clear,
     Forget(usize),
+    Resize(usize),
     Yank(&'static str),
     YankNone,
     Pop(usize, &'static str),
@@ -53,6 +54,7 @@ fn make(ring: &mut KillRing, call: Call) -> Result<bool, Fail> {
         Call::AfterNewest => ring.set_new_kill(NewKill::AfterNewest),
         Call::Clear => ring.clear(),
         Call::Forget(bytes) => ring.forget(bytes),
+        Call::Resize(size) => ring.set_size(size),
         Call::Yank(text) => return Ok(lends(ring.yank(), text)),
         Call::YankNone => return Ok(ring.yank().is_none()),
         Call::Pop(size, text) => {
@@ -266,6 +268,54 @@ fn the_oldest_texts_are_forgotten(rt: HostRuntime) -> Result<(), Fail> {
         (Call::Count(1), None),
     ];
     goes(&rt, rt.alloc(), 3, STEPS)
+}
+
+#[test]
+fn a_ring_is_resized(rt: HostRuntime) -> Result<(), Fail> {
+    const STEPS: &[Step] = &[
+        (Call::AfterNewest, None),
+        (Call::Resize(3), None),
+        (Call::Kill("a"), None),
+        (Call::Reset, None),
+        (Call::Kill("b"), None),
+        (Call::Reset, None),
+        (Call::Kill("c"), None),
+        (Call::Reset, None),
+        // in the place of the first
+        (Call::Kill("dd"), None),
+        (Call::Yank("dd"), Some(2)),
+        (Call::Pop(2, "c"), Some(1)),
+        // the current one stays
+        (Call::Resize(3), Some(1)),
+        (Call::Resize(2), Some(1)),
+        (Call::At(0, "c"), Some(1)),
+        (Call::At(1, "dd"), Some(1)),
+        (Call::NoneAt(2), Some(1)),
+        (Call::Resize(9), Some(1)),
+        (Call::Pop(1, "dd"), Some(2)),
+        (Call::Kill("e"), None),
+        (Call::Resize(3), None),
+        // a kill goes on
+        (Call::Kill("f"), None),
+        (Call::At(0, "ef"), None),
+        (Call::At(1, "dd"), None),
+        (Call::At(2, "c"), None),
+        (Call::Yank("ef"), Some(2)),
+        (Call::Pop(2, "dd"), Some(2)),
+        // the current one goes
+        (Call::Resize(1), None),
+        (Call::PopNone, None),
+        (Call::At(0, "ef"), None),
+        (Call::Count(1), None),
+        (Call::Resize(0), None),
+        (Call::YankNone, None),
+        (Call::Kill("x"), None),
+        (Call::Count(0), None),
+        (Call::Resize(2), None),
+        (Call::Kill("g"), None),
+        (Call::Yank("g"), Some(1)),
+    ];
+    goes(&rt, rt.alloc(), 2, STEPS)
 }
 
 #[test]

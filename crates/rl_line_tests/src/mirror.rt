@@ -191,14 +191,6 @@ fn mirror_changes(rt: &impl Abort, alloc: Global, mirror: &mut Mirror) -> Result
     Ok(())
 }
 
-// An empty record foretells nothing.
-fn foretell_nothing(alloc: Global, line: &LineBuffer, mirror: &mut Mirror) -> Result<(), Fail> {
-    let empty = Changeset::new(alloc);
-    empty.foretell_undo(line, 1, mirror)?;
-    empty.foretell_redo(line, mirror)?;
-    Ok(())
-}
-
 // Makes the changes, and goes back and ahead over them.
 fn hears(
     rt: &impl Abort,
@@ -218,8 +210,6 @@ fn hears(
     ];
     record_changes(rt, line, record)?;
     mirror_changes(rt, alloc, mirror)?;
-    both_hold(rt, line, mirror, "a zwei!!", 8, 0);
-    foretell_nothing(alloc, line, mirror)?;
     both_hold(rt, line, mirror, "a zwei!!", 8, 0);
     go_all(rt, line, record, mirror, STEPS)?;
     Ok(())

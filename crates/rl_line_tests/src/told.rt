@@ -8,11 +8,15 @@ pub(crate) type Told = (usize, &'static str, Option<Direction>);
 // The side of a deletion ahead.
 pub(crate) const AHEAD: Option<Direction> = Some(Direction::Forward);
 
-// It heard that change last. A character alone is none of these.
+// It heard that change last.
 pub(crate) fn is_told(heard: &RefuseAt, told: Told) -> bool {
     let (place, text, side) = told;
     match heard.seen.last() {
-        None | Some(TextEvent::InsertChar(_, _)) => false,
+        None => false,
+        Some(TextEvent::InsertChar(at, c)) => *at == place
+            && side.is_none()
+            && text.len() == c.len_utf8()
+            && text.starts_with(*c),
         Some(TextEvent::InsertStr(at, new) | TextEvent::Replace(at, _, new)) => *at == place
             && side.is_none()
             && new.as_str() == text,

@@ -83,6 +83,8 @@ pub(crate) enum Call {
     Reopen,
     Abandon,
     KeepUndone,
+    // Yanks as one unit, which takes in a text of so many bytes that was put in last
+    Unite(usize, &'static [&'static str]),
     Truncate(usize),
     HasUndo,
     HasRedo,
@@ -161,6 +163,20 @@ fn delete_ahead(line: &mut LineBuffer, record: &mut Changeset) -> Result<usize, 
     Ok(usize::from(gone.is_some()))
 }
 
+// Yanks the texts as one unit.
+fn unite(
+    line: &mut LineBuffer,
+    record: &mut Changeset,
+    put_in: usize,
+    texts: &[&str],
+) -> Result<(), Refusal> {
+    let start = record.start_unit(put_in);
+    for text in texts {
+        line.yank(text, 1, record)?;
+    }
+    record.unite(start)
+}
+
 // Makes the call. It answers the mark of a begin, or the limit; otherwise 1 for true, and 0 for what is not true. What is
 // tried and does not fit answers 2.
 pub(crate) fn make(
@@ -196,6 +212,7 @@ pub(crate) fn make(
         Call::Reopen => Ok(usize::from(record.reopen())),
         Call::Abandon => truth(abandon(rt, line, record)),
         Call::KeepUndone => truth(record.keep_undone()),
+        Call::Unite(put_in, texts) => unite(line, record, put_in, texts).and(Ok(1)),
         Call::Truncate(len) => {
             record.truncate(len);
             Ok(1)

@@ -113,6 +113,40 @@ fn the_last_group_is_closed_alone(rt: HostRuntime) -> Result<(), Fail> {
 }
 
 #[test]
+fn several_changes_become_one_unit(rt: HostRuntime) -> Result<(), Fail> {
+    const STEPS: &[Step] = &[
+        (Call::Insert('a', 1), 1, "a", 1, 1, 0),
+        (Call::Unite(0, &["b", "c"]), 1, "abc", 3, 5, 0),
+        (Call::Undo(1), 1, "a", 1, 1, 0),
+        (Call::Redo, 1, "abc", 3, 5, 0),
+        // one change is no group; what was put in before it is taken in if it is so long
+        (Call::Unite(0, &["d"]), 1, "abcd", 4, 6, 0),
+        (Call::Unite(2, &["e"]), 1, "abcde", 5, 7, 0),
+        (Call::Unite(1, &["f"]), 1, "abcdef", 6, 10, 0),
+        (Call::Undo(1), 1, "abcd", 4, 6, 0),
+        // where nothing was recorded, what comes may join as before
+        (Call::Insert('x', 1), 1, "abcdx", 5, 6, 0),
+        (Call::Unite(0, &[]), 1, "abcdx", 5, 6, 0),
+        (Call::Insert('y', 1), 1, "abcdxy", 6, 6, 0),
+        // what is saved is not taken in
+        (Call::Yank("z"), 1, "abcdxyz", 7, 7, 0),
+        (Call::SetSaved, 1, "abcdxyz", 7, 7, 0),
+        (Call::Unite(1, &["-"]), 1, "abcdxyz-", 8, 8, 0),
+        (Call::Undo(1), 1, "abcdxyz", 7, 7, 0),
+        (Call::IsSaved, 1, "abcdxyz", 7, 7, 0),
+        // a group stays open around the unit
+        (Call::Begin, 7, "abcdxyz", 7, 8, 1),
+        (Call::Unite(1, &["!", "?"]), 1, "abcdxyz!?", 9, 12, 1),
+        (Call::Undo(1), 1, "abcdxyz", 7, 8, 1),
+        (Call::Redo, 1, "abcdxyz!?", 9, 12, 1),
+        (Call::End, 1, "abcdxyz!?", 9, 13, 0),
+        (Call::Undo(1), 1, "abcdxyz", 7, 7, 0),
+        (Call::IsSaved, 1, "abcdxyz", 7, 7, 0),
+    ];
+    goes(&rt, rt.alloc(), "", STEPS)
+}
+
+#[test]
 fn the_last_group_is_abandoned(rt: HostRuntime) -> Result<(), Fail> {
     const STEPS: &[Step] = &[
         (Call::Abandon, 0, "", 0, 0, 0),

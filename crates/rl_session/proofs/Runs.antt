@@ -3,7 +3,10 @@ pub mod RowLemmas
 pub mod PlaceLemmas
 pub mod ReportLemmas
 pub mod HistoryLemmas
+pub mod InGroupLemmas
 pub mod UndoGroupLemmas
 pub mod CursorLemmas
 pub mod GiveBackLemmas
 pub mod KillRunLemmas
+pub mod CallLemmas
+pub mod UnitLawLemmas

@@ -11,3 +11,4 @@ pub mod WatchLemmas
 pub mod QuietLemmas
 pub mod StepLemmas
 pub mod LimitLemmas
+pub mod PerformLemmas

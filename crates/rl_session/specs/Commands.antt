@@ -1,5 +1,5 @@
 -- What each command does.
-use Rattle.std.specs.Prelude.{◌≡◌, ℕ, ◌<◌, min, Bool, true, false, not, ◌&&◌, nat_le, length, List, [], Any, Option, Some, None, Result, Ok, Err, ◌⊎◌, if◌then◌else◌, String, IsSome}
+use Rattle.std.specs.Prelude.{◌≡◌, ℕ, ◌<◌, min, Bool, true, false, not, length, List, [], Any, Option, Some, None, Result, Ok, Err, ◌⊎◌, if◌then◌else◌, String, IsSome}
 use Rattle.std.specs.Option.{option_map}
 use Rattle.std.specs.String.{string_bytes}
 use Rattle.std.specs.Str.{IsCharBoundary}
@@ -16,12 +16,11 @@ use Rattle.rl_line.specs.LineRanges.{IsRange}
 use Rattle.rl_line.specs.Line.{Line, NeedsRoom}
 use Rattle.rl_line.specs.LineMotions.{columns_before}
 use Rattle.rl_line.specs.Motions.{Moved, destination as destination_in}
-use Rattle.rl_line.specs.Plan.{Step as PlanStep, Plan, nothing, Done, Halted, Takes, nothing_more, room_by_step, a_copy, refusal_of, unbegun, longest_by, listener_after}
+use Rattle.rl_line.specs.Plan.{Step as PlanStep, Plan, nothing, Done, Halted, Takes, nothing_more, room_by_step, a_copy, refusal_of, unbegun, listener_after}
 use Rattle.rl_line.specs.Edits.{CanInsertStr, CanYankPop, insert_plan, insert_str_plan, yank_plan, yank_pop_plan, update_plan, replace_plan, delete_range_plan}
 use Rattle.rl_line.specs.Indents.{indent_plan}
 use Rattle.rl_line.specs.Deletions.{copied, delete_plan, kill_plan, kill_range_plan, is_by_characters, Told}
 use Rattle.rl_line.specs.LetterCase.{edit_word_plan}
-use Rattle.rl_line.specs.Change.{greatest_ahead_over, greatest_back_over}
 use Rattle.rl_line.specs.Record.{Record, parted, replays_to, replay_entries}
 use Rattle.rl_line.specs.Transpositions.{transpose_chars_plan, transpose_words_plan}
 use Rattle.rl_line.specs.Undo.{Abandoned, CopiesBack, Undone, Redone, steps_ahead, steps_back, texts_ahead, texts_back}
@@ -31,7 +30,7 @@ use Rattle.rl_session.specs.Pair.{pair_step, pair_refused}
 use Rattle.rl_session.specs.declared.session.Command.{Command}
 use Rattle.rl_session.specs.declared.session.Command.TheVariants.{SetPos, Move, Insert, Paste, Yank, YankPop, Update, InsertStr, Replace, DeleteRange, Delete, Backspace, KillLine, KillBuffer, DiscardLine, DiscardBuffer, DeletePrevWord, DeleteWord, DeleteTo, TransposeChars, TransposeWords, EditWord, Kill, Copy, Indent, Begin, End, EndOne, Undo, Redo, Truncate, LinePlace, KillRange, Keep, Part, Reopen, Abandon, KeepUndone}
 use Rattle.rl_session.specs.declared.session.Fault.{Fault}
-use Rattle.rl_session.specs.declared.session.Fault.TheVariants.{NoMemory, BadPlace, BadYankSize, NotReplaying, TooLong}
+use Rattle.rl_session.specs.declared.session.Fault.TheVariants.{NoMemory, BadPlace, BadYankSize, NotReplaying}
 use Rattle.rl_session.specs.declared.session.Reply.{Reply}
 use Rattle.rl_session.specs.declared.session.Reply.TheVariants as says
 use Rattle.rl_session.specs.State.{State, Follows, IsBounded, Stands, with_ring}
@@ -261,53 +260,20 @@ abbrev pub course_of : Asked → State → Command → Reply → Course
 course_of (edit takes condition plan telling) old command reply = edit_course takes condition plan telling reply
 course_of other old command reply = other_course old command reply
 
--- so many bytes are more than a limit that holds
-abbrev pub is_past_limit : State → ℕ → Bool
-is_past_limit s n = s.options.holds && not (nat_le n s.line.limit)
-
--- a step of the command would make the text longer than a limit that holds; no other commands would, since they make it no
--- longer, or look at the limit whether it holds or not
-abbrev pub is_barred : State → Command → Bool
-is_barred s (InsertStr i t) = is_past_limit s (longest_by s.line (insert_str_plan s.line i (string_bytes t)))
-is_barred s (Replace i j t) = is_past_limit s (longest_by s.line (replace_plan s.line i j (string_bytes t)))
-is_barred s (TransposeWords n) = is_past_limit s (longest_by s.line (transpose_words_plan s.line n))
-is_barred s (EditWord action) = is_past_limit s (longest_by s.line (edit_word_plan s.line action))
-is_barred s (Indent m amount dedent) = is_past_limit s (longest_by s.line (indent_plan s.line m amount dedent))
-is_barred s (Undo n) = is_past_limit s (greatest_back_over (last_of n s.pair.changes.recorded) (length s.line.text))
-is_barred s Abandon = is_past_limit s (greatest_back_over (open_group s.pair.changes.recorded) (length s.line.text))
-is_barred s Redo = is_past_limit s (greatest_ahead_over (redo_of s.pair.changes.pending) (length s.line.text))
-is_barred s _ = false
-
--- what is barred is refused: a place is bad, memory is out for a copy, or the text would get too long
-abbrev pub barred_course : Asked → Reply → Course
-barred_course (edit takes condition plan telling) (says.Refused BadPlace) = when (¬ condition) stays
-barred_course (edit takes condition plan telling) (says.Refused NoMemory) = when (condition × unbegun takes plan) stays
-barred_course (edit takes condition plan telling) (says.Refused TooLong) = when condition stays
-barred_course other (says.Refused TooLong) = stays
-barred_course _ _ = never
-
--- what a command did that had this reply and is not barred
-abbrev pub allowed : State → Command → Reply → Effect
-allowed old Begin (says.Mark n) = puts_begin n
-allowed old End (says.Answer a) = puts_ends a
-allowed old EndOne (says.Answer a) = puts_end a
-allowed old (Truncate len) says.Done = shortens len
-allowed old (Undo n) (says.Answer a) = takes_back n a
-allowed old Redo (says.Answer a) = puts_again a
-allowed old (Keep t) says.Done = keeps (string_bytes t)
-allowed old Part says.Done = parts
-allowed old Reopen (says.Answer a) = reopens a
-allowed old Abandon (says.Answer a) = gives_up a
-allowed old KeepUndone (says.Answer a) = keeps_undone a
-allowed old command reply = by_steps (course_of (asked old.line command) old command reply)
-
--- what a command did that had this reply, where it is barred or not
-abbrev pub effect_where : Bool → State → Command → Reply → Effect
-effect_where true old command reply = by_steps (barred_course (asked old.line command) reply)
-effect_where false old command reply = allowed old command reply
-
+-- what a command did that had this reply
 abbrev pub effect : State → Command → Reply → Effect
-effect old command reply = effect_where (is_barred old command) old command reply
+effect old Begin (says.Mark n) = puts_begin n
+effect old End (says.Answer a) = puts_ends a
+effect old EndOne (says.Answer a) = puts_end a
+effect old (Truncate len) says.Done = shortens len
+effect old (Undo n) (says.Answer a) = takes_back n a
+effect old Redo (says.Answer a) = puts_again a
+effect old (Keep t) says.Done = keeps (string_bytes t)
+effect old Part says.Done = parts
+effect old Reopen (says.Answer a) = reopens a
+effect old Abandon (says.Answer a) = gives_up a
+effect old KeepUndone (says.Answer a) = keeps_undone a
+effect old command reply = by_steps (course_of (asked old.line command) old command reply)
 
 -- from old, the command may have this reply and lead to new, the ring's resets aside
 abbrev pub Does : State → Command → Reply → State → Type 0
@@ -350,14 +316,6 @@ pub record Step (old : State) (command : Command) (reply : Reply) (new : State) 
 -- the same of a command with a text, whichever value of these bytes the text is
 abbrev pub DoesWith : List ℕ → (String Global → Command) → State → Reply → State → Type 0
 DoesWith bytes make old reply new = (text : String Global) → string_bytes text ≡ bytes → Does old (make text) reply new
-
-abbrev pub StepWith : List ℕ → (String Global → Command) → State → Reply → State → Type 0
-StepWith bytes make old reply new = (text : String Global) → string_bytes text ≡ bytes → Step old (make text) reply new
-
--- what was undone is kept before an edit, as by the command for it, if that is asked for; else nothing happens
-abbrev pub Keeps : Bool → State → Reply → State → Type 0
-Keeps false old reply new = (reply ≡ says.Answer false) × (new ≡ old)
-Keeps true old reply new = Step old KeepUndone reply new
 
 -- the command that deletes by a movement to one side of the cursor; other movements have none
 abbrev pub deletion_of : Movement → Command

@@ -3,15 +3,10 @@ use Rattle.std.specs.Prelude.{◌≡◌, ◌∷◌, List, ℕ, Some}
 use Rattle.rl_base.specs.KillRing.{within_bytes}
 use Rattle.rl_line.specs.Forgetting.{forgotten, gone_within}
 use Rattle.rl_line.specs.Record.{Entry, replay_entries}
-use Rattle.rl_session.specs.declared.options.Bound.{Bound}
 use Rattle.rl_session.specs.History.{Holds, StandsAfter}
-use Rattle.rl_session.specs.State.{State, Replays}
+use Rattle.rl_session.specs.State.{Ends, State, Replays}
 
--- the same with another bound
-abbrev pub bounded_by : Bound → State → State
-bounded_by bound s = record s { options = record s.options { bound = bound } }
-
--- the same once the oldest units and the oldest texts of the ring beyond its bound were forgotten
+-- a session once the oldest units and the oldest texts of the ring beyond its bound were forgotten
 abbrev pub within_bound : State → State
 within_bound s =
     record s {
@@ -20,6 +15,12 @@ within_bound s =
         changes = forgotten s.options.bound.entries s.options.bound.bytes s.pair.changes;
       };
     }
+
+-- a session forgot what is beyond its bound
+pub record Forgets (old new : State) : Type 0 where
+  pub before : Ends old
+  pub is : new ≡ within_bound old
+  pub after : Ends new
 
 -- the entries that the session forgets
 abbrev pub gone : State → List Entry

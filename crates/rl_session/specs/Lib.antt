@@ -12,6 +12,7 @@ pub mod History
 pub mod Spelling
 pub mod Grammar
 pub mod Parsing
+pub mod Performing
 pub mod Lines
 pub mod Print
 pub mod Writes

@@ -10,9 +10,9 @@ use Rattle.rl_session.specs.declared.options.Options.{Options}
 abbrev pub no_bound : Bound
 no_bound = record { entries = 2 ^ 64 - 1; bytes = 2 ^ 64 - 1; ring_bytes = 2 ^ 64 - 1 }
 
--- the options of a new session: a prompt that ends at column 0, no bound, and a limit that does not hold
+-- the options of a new session: a prompt that ends at column 0, no bound, and an edit drops what was undone
 abbrev pub plain : GraphemeClusterMode → Options
-plain mode = record { mode = mode; prompt = 0; bound = no_bound; holds = false; keeps = false }
+plain mode = record { mode = mode; prompt = 0; bound = no_bound; keeps = false }
 
 -- the layout by which motions over lines go: the prompt ends at its column
 abbrev pub layout_of : Options → Layout

@@ -25,11 +25,11 @@ mode_number NoZwj = 2
 
 -- the numbers of a line and of the options, and then how long the text is
 abbrev pub line_numbers : Line → List ℕ
-line_numbers line = line.limit ∷ line.cursor ∷ truth_number line.grow ∷ []
+line_numbers line = line.limit ∷ line.cursor ∷ []
 
 abbrev pub option_numbers : Options → List ℕ
 option_numbers options =
-    mode_number options.mode ∷ options.prompt ∷ truth_number options.holds ∷ truth_number options.keeps ∷ options.bound.entries ∷ options.bound.bytes ∷ options.bound.ring_bytes ∷ []
+    mode_number options.mode ∷ options.prompt ∷ truth_number options.keeps ∷ options.bound.entries ∷ options.bound.bytes ∷ options.bound.ring_bytes ∷ []
 
 abbrev pub state_numbers : State → List ℕ
 state_numbers s = line_numbers s.line ++ (option_numbers s.options ++ length s.line.text ∷ [])

@@ -6,7 +6,7 @@ use Rattle.rl_session.specs.Commands.{Step}
 use Rattle.rl_session.specs.Grammar.{Meaning, NewText, Set, Do, Means, MeansNothing}
 use Rattle.rl_session.specs.Lines.{lines_of, whole_lines}
 use Rattle.rl_session.specs.Print.{printed, bad_line}
-use Rattle.rl_session.specs.Settings.{usual, with_setting}
+use Rattle.rl_session.specs.Settings.{as_new, usual, with_setting}
 use Rattle.rl_session.specs.declared.script.Interpreter.{Interpreter}
 use Rattle.rl_session.specs.declared.script.ScriptFault.{ScriptFault}
 use Rattle.rl_session.specs.declared.script.ScriptFault.TheVariants as why
@@ -17,7 +17,7 @@ use Rattle.rl_session.specs.declared.settings.Settings.{Settings}
 
 -- the session that begins with a text: the cursor is at its end
 abbrev pub begun : Settings → List ℕ → State
-begun settings text = fresh text (length text) settings.limit settings.ring_size settings.mode
+begun settings text = fresh text (length text) (as_new settings.limit settings.ring_size settings.options.mode)
 
 -- before the first line: the usual settings, and the session of the empty text
 abbrev pub started : Interpreter

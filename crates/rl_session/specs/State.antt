@@ -1,19 +1,18 @@
 -- What a session holds.
-use Rattle.std.specs.Prelude.{◌≡◌, ℕ, ◌^◌, ◌<◌, ◌≤◌, max, Bool, false, true, IsSome, List, length, Option, Some, Result, Ok, Err}
+use Rattle.std.specs.Prelude.{◌≡◌, ℕ, ◌^◌, ◌<◌, ◌≤◌, max, false, true, IsSome, List, length, Option, Some, Result, Ok, Err}
 use Rattle.std.specs.Str.{IsCharBoundary, IsUtf8}
 use Rattle.rl_base.specs.Event.{Cursors, Replace}
-use Rattle.rl_base.specs.KillRing.{Ring, IsRing, new_ring, reset}
+use Rattle.rl_base.specs.KillRing.{Ring, IsRing, new_ring, reset, resized, ruled}
 use Rattle.rl_base.specs.Reports.{IsLineText}
 use Rattle.rl_base.specs.Splice.{Covers}
 use Rattle.rl_base.specs.Watch.{Watched, ReportsLead, new_watch, watch_step}
-use Rattle.rl_base.specs.declared.layout.GraphemeClusterMode.{GraphemeClusterMode}
 use Rattle.rl_line.specs.Line.{Line, NeedsRoom}
 use Rattle.rl_line.specs.Record.{Record, no_changes, replay_entries, saved_here, unwind}
 use Rattle.rl_line.specs.Undo.{line_ahead, line_back}
 use Rattle.rl_line.specs.Walk.{Walks}
-use Rattle.rl_session.specs.Options.{plain}
 use Rattle.rl_session.specs.declared.options.Options.{Options}
 use Rattle.rl_session.specs.declared.pair.Pair.{Pair}
+use Rattle.rl_session.specs.declared.settings.Settings.{Settings}
 use Rattle.rl_session.specs.declared.session.Fault.{Fault}
 use Rattle.rl_session.specs.declared.session.Fault.TheVariants.{NoMemory, BadPlace, TooLong}
 
@@ -59,43 +58,35 @@ with_watch watch s = record s { pair = record s.pair { watch = watch } }
 abbrev pub with_ring : Ring → State → State
 with_ring ring s = record s { pair = record s.pair { ring = ring } }
 
--- the same with another limit on the text's length, which the text itself is within
-abbrev pub limited : ℕ → State → State
-limited limit s = record s { line = record s.line { limit = max limit (length s.line.text) } }
-
--- the same with a limit that holds, or does not
-abbrev pub holding : Bool → State → State
-holding holds s = record s { options = record s.options { holds = holds } }
-
--- the same in which what was undone is kept before an edit, or is not
-abbrev pub keeping : Bool → State → State
-keeping keeps s = record s { options = record s.options { keeps = keeps } }
-
--- a session whose limit holds, and whose line has no leave to grow past it, as that of no session has
-pub record HoldsLimit (s : State) : Type 0 where
+-- a session whose line has no leave to grow past its limit, as that of no session has
+pub record KeepsLimit (s : State) : Type 0 where
   pub stands : Stands s
-  pub holds : s.options.holds ≡ true
   pub grows_not : s.line.grow ≡ false
-
--- the same with a prompt that ends at another column
-abbrev pub prompted : ℕ → State → State
-prompted column s = record s { options = record s.options { prompt = column } }
-
--- the same with another way to count columns
-abbrev pub with_mode : GraphemeClusterMode → State → State
-with_mode mode s = record s { options = record s.options { mode = mode } }
 
 -- the same, whose text is saved as it is
 abbrev pub saved_now : State → State
 saved_now s = record s { pair = record s.pair { changes = saved_here s.pair.changes } }
 
--- the state of a new session
-abbrev pub fresh : List ℕ → ℕ → ℕ → ℕ → GraphemeClusterMode → State
-fresh text pos limit ring_size mode = record {
-  line = record { text = text; cursor = pos; limit = max limit (length text); grow = false };
-  pair = record { ring = new_ring ring_size; changes = no_changes; watch = new_watch };
-  options = plain mode;
+-- the state of a new session; a limit below the length of its text is raised to it
+abbrev pub fresh : List ℕ → ℕ → Settings → State
+fresh text pos settings = record {
+  line = record { text = text; cursor = pos; limit = max settings.limit (length text); grow = false };
+  pair = record { ring = ruled settings.new_kill (new_ring settings.ring_size); changes = no_changes; watch = new_watch };
+  options = settings.options;
 }
+
+-- what is chosen of a session
+abbrev pub settings_of : State → Settings
+settings_of s = record { limit = s.line.limit; ring_size = s.pair.ring.size; new_kill = s.pair.ring.rule; options = s.options }
+
+-- the same with other settings; the ring's oldest texts that it has no place for are gone
+abbrev pub set_to : Settings → State → State
+set_to settings s =
+    record {
+      line = record s.line { limit = settings.limit };
+      pair = record s.pair { ring = ruled settings.new_kill (resized settings.ring_size s.pair.ring) };
+      options = settings.options;
+    }
 
 -- a session begins with a text, as a new one and one that was restarted do: nothing is recorded yet
 pub record Begins (text : List ℕ) (s : State) : Type 0 where
@@ -108,10 +99,10 @@ abbrev pub told_anew : List ℕ → Line → Watched → Watched
 told_anew text line watch = watch_step (watch_step watch (Replace 0 line.text text)) (Cursors line.cursor (length text))
 
 -- the state after a restart: another text, nothing recorded, the ring with its slots, and a watch that was told that all the
--- old text gave way to the new one. The limit is raised if the text is longer
+-- old text gave way to the new one
 abbrev pub restarted : List ℕ → ℕ → State → State
 restarted text pos s = record {
-  line = record s.line { text = text; cursor = pos; limit = max s.line.limit (length text) };
+  line = record s.line { text = text; cursor = pos };
   pair = record {
     ring = reset s.pair.ring;
     changes = no_changes;
@@ -120,25 +111,29 @@ restarted text pos s = record {
   options = s.options;
 }
 
--- a text that the limit lets in, if it holds
-abbrev pub FitsLimit : List ℕ → State → Type 0
-FitsLimit text s = s.options.holds ≡ true → length text ≤ s.line.limit
-
--- why a session is not restarted: the place is no boundary of the text, the text is longer than a limit that holds, or memory
--- is out for a text that needs more room
+-- why a session is not restarted: the place is no boundary of the text, the text is longer than the limit, or memory is out
+-- for a text that needs more room
 abbrev pub RefusesRestart : Fault → List ℕ → ℕ → State → Type 0
 RefusesRestart BadPlace text pos s = ¬ (IsCharBoundary text pos)
-RefusesRestart TooLong text pos s = IsCharBoundary text pos × (s.options.holds ≡ true) × (s.line.limit < length text)
-RefusesRestart NoMemory text pos s = IsCharBoundary text pos × FitsLimit text s × NeedsRoom s.line.text text
+RefusesRestart TooLong text pos s = IsCharBoundary text pos × (s.line.limit < length text)
+RefusesRestart NoMemory text pos s = IsCharBoundary text pos × (length text ≤ s.line.limit) × NeedsRoom s.line.text text
 RefusesRestart _ text pos s = ⊥
 
--- what making a session may give: a session with these five values, or BadPlace if the place is no boundary. NoMemory comes
--- only if the line's limit is above 0.
-abbrev pub Opens : List ℕ → ℕ → ℕ → ℕ → GraphemeClusterMode → Result State Fault → Type 0
-Opens text pos limit ring_size mode (Ok session) = IsCharBoundary text pos × (session ≡ fresh text pos limit ring_size mode)
-Opens text pos limit ring_size mode (Err NoMemory) = IsCharBoundary text pos × (0 < max limit (length text))
-Opens text pos limit ring_size mode (Err BadPlace) = ¬ (IsCharBoundary text pos)
-Opens text pos limit ring_size mode (Err _) = ⊥
+-- what making a session may give: a session with these settings, or BadPlace if the place is no boundary. NoMemory comes only
+-- if the line's limit is above 0
+abbrev pub Opens : List ℕ → ℕ → Settings → Result State Fault → Type 0
+Opens text pos settings (Ok session) = IsCharBoundary text pos × (session ≡ fresh text pos settings)
+Opens text pos settings (Err NoMemory) = IsCharBoundary text pos × (0 < max settings.limit (length text))
+Opens text pos settings (Err BadPlace) = ¬ (IsCharBoundary text pos)
+Opens text pos settings (Err _) = ⊥
+
+-- the same of a session whose limit is kept: a longer text is TooLong, and NoMemory comes only of a text that is not empty
+abbrev pub OpensWithin : List ℕ → ℕ → Settings → Result State Fault → Type 0
+OpensWithin text pos settings (Ok session) = IsCharBoundary text pos × (length text ≤ settings.limit) × (session ≡ fresh text pos settings)
+OpensWithin text pos settings (Err NoMemory) = IsCharBoundary text pos × (length text ≤ settings.limit) × (0 < length text)
+OpensWithin text pos settings (Err BadPlace) = ¬ (IsCharBoundary text pos)
+OpensWithin text pos settings (Err TooLong) = IsCharBoundary text pos × (settings.limit < length text)
+OpensWithin text pos settings (Err _) = ⊥
 
 -- the text from which a state came: the recorded changes, taken back from the present text
 abbrev pub origin : State → Option (List ℕ)

@@ -6,13 +6,15 @@ pub mod history;
 pub mod kill_runs;
 pub mod options;
 pub mod pair;
+pub mod performing;
 mod print;
 pub mod script;
 pub mod session;
-mod settings;
+pub mod settings;
 mod spelling;
 
 pub use options::{Bound, Options};
 pub use pair::Pair;
 pub use script::{ScriptFault, run_script};
 pub use session::{Command, Fault, Reply, Session};
+pub use settings::Settings;

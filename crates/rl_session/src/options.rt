@@ -1,4 +1,4 @@
-//! How a session measures columns, how much its record and its ring may hold, and what holds of its edits.
+//! How a session measures columns, how much its record and its ring may hold, and whether edits keep what was undone.
 ghost use Rattle.std.specs.Prelude.{◌≡◌};
 ghost use Rattle.rl_session.specs.Options.{layout_of, no_bound, plain};
 
@@ -28,7 +28,7 @@ impl Bound {
     }
 }
 
-/// What may be chosen of a session, beside its limit and the size of its ring.
+/// What may be chosen of a session, beside its limit and its ring.
 #[derive(Clone, Copy, Debug, PartialEq, Eq)]
 pub struct Options {
     /// How columns are counted.
@@ -37,16 +37,12 @@ pub struct Options {
     pub prompt: Unit,
     /// How much the record and the ring may hold.
     pub bound: Bound,
-    /// Whether the limit on the text's length holds: no command makes the text longer, and what would is refused.
-    pub holds: bool,
-    /// Whether what was undone is kept before an edit. `Session::keep_if_asked` does it, which who asks for edits calls
-    /// before each.
+    /// Whether what was undone is kept before an edit (`Session::keep_undone`), which would drop it.
     pub keeps: bool,
 }
 
 impl Options {
-    /// The options of a new session: a prompt that ends at column 0, no bound, a limit that does not hold, and an edit drops
-    /// what was undone.
+    /// The options of a new session: a prompt that ends at column 0, no bound, and an edit drops what was undone.
     pub fn new(mode: GraphemeClusterMode) -> Self
         ensures { result ≡ plain mode }
     {
@@ -54,7 +50,6 @@ impl Options {
             mode,
             prompt: 0,
             bound: Bound::none(),
-            holds: false,
             keeps: false,
         }
     }

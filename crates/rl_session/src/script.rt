@@ -59,7 +59,7 @@ fn begin(alloc: Global, settings: Settings, text: &str) -> Result<Session, Fault
         text.len(),
         settings.limit,
         settings.ring_size,
-        settings.mode,
+        settings.options.mode,
     )
 }
 

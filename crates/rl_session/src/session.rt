@@ -1,5 +1,5 @@
 //! A session: a line with its kill ring and the record of its changes, which takes commands one after another.
-ghost use Rattle.std.specs.Prelude.{◌≡◌, ◌<◌, ◌++◌, ◌∷◌, [], List, ℕ, length, IsSome, Some, IfOk, IfErr, MatchOption, None, OnErr, OnOk};
+ghost use Rattle.std.specs.Prelude.{is_some, ◌≡◌, ◌<◌, ◌++◌, ◌∷◌, [], List, ℕ, length, IsSome, Some, IfOk, IfErr, MatchOption, None, OnErr, OnOk};
 ghost use Rattle.rl_base.specs.Event.{replay};
 ghost use Rattle.rl_line.specs.Line.{Line};
 ghost use Rattle.rl_line.specs.Record.{Record, replay_entries, unwind};
@@ -8,8 +8,8 @@ ghost use Rattle.rl_base.specs.KillRing.{reset};
 ghost use Rattle.rl_base.specs.Reports.{HasTexts, LacksTexts, Noted, Stand, TellsByTexts, after_numbers, after_texts, new_queue, texts_of};
 ghost use Rattle.rl_base.specs.Splice.{Splices, told, untouched};
 ghost use Rattle.rl_base.specs.Watch.{RefusesQueue, next_note, past_next, text_room, waiting_count};
-ghost use Rattle.rl_session.specs.State.{State, ChangedFrom, Follows, HoldsLimit, IsBounded, ReportedFrom, Ends, Stands, with_ring, with_watch, Replays, origin};
-ghost use Rattle.rl_session.specs.Commands.{Step};
+ghost use Rattle.rl_session.specs.State.{State, ChangedFrom, Follows, IsBounded, ReportedFrom, Ends, Stands, with_ring, with_watch, Replays, origin};
+ghost use Rattle.rl_session.specs.Commands.{Does, Step, readied, settled};
 ghost use Rattle.rl_session.specs.Run.{Row, Run, AfterEach, commands_of, held_of, replies_of, reports, reports_of};
 ghost use Rattle.rl_session.specs.declared.session.Command.{Command};
 ghost use Rattle.rl_session.specs.declared.session.Reply.{Reply};
@@ -27,9 +27,10 @@ mod yanks;
 
 use crate::options::Options;
 use crate::pair::Pair;
+use crate::session::replies::{answered, done, handed_out, inserted, marked};
 use rl_base::{
-    At, CharSearch, Direction, KillRing, Movement, RepeatCount, Report, Splice, Unit, WatchFault,
-    Word, WordAction,
+    At, CharSearch, Direction, KillRing, Movement, Refusal, RepeatCount, Report, Splice, Unit,
+    WatchFault, Word, WordAction,
 };
 use rl_line::{Changeset, LineBuffer};
 use std::alloc::Global;
@@ -136,7 +137,7 @@ pub enum Fault {
     /// The entries to keep do not lead to the present text.
     #[error("the kept entries do not reproduce the text")]
     NotReplaying = 4,
-    /// The limit holds, and the text would get longer.
+    /// The text would get longer than its limit.
     #[error("the text would get longer than its limit")]
     TooLong = 5,
 }
@@ -191,6 +192,16 @@ impl Model for Session {
     ghost invariant = { λ s. AtRest s.line s.pair };
 }
 
+impl From<Refusal> for Fault {
+    ghost use Rattle.rl_session.specs.declared.session.Fault.{Fault};
+
+    ghost from_gives = { λ _ f. f ≡ Fault.NoMemory };
+
+    fn from(_: Refusal) -> Self {
+        Fault::NoMemory
+    }
+}
+
 impl Session {
     /// The line.
     pub fn line(&self) -> &LineBuffer
@@ -213,7 +224,7 @@ impl Session {
         &self.pair.ring
     }
 
-    /// How it measures columns, and how much its record may hold.
+    /// How it measures columns, how much its record and ring may hold, and whether edits keep undone changes.
     pub fn options(&self) -> &Options
         ensures { result.now ≡ self.now.options }
     {
@@ -289,7 +300,9 @@ impl Session {
     /// wait lead to the present one. Without texts, or folded, it was all that waited, and what came stands in the present text.
     /// The cursors of a report stand between two characters, the first in the text before it, the second in that after it. Where
     /// no report waited, the text at which reading left off is the present one.
-    pub fn forget_report(&mut self)
+    /// Returns whether one waited.
+    pub fn forget_report(&mut self) -> bool
+        ensures waited { result ≡ is_some (next_note self.old.pair.watch) }
         ensures forgotten { self.new ≡ with_watch (past_next self.old.pair.watch) self.old }
         ensures nothing { (read : List ℕ) → ReportedFrom read self.old → next_note self.old.pair.watch ≡ None → self.old.line.text ≡ read }
         ensures with_texts { (read : List ℕ) (note : Noted) → ReportedFrom read self.old → next_note self.old.pair.watch ≡ Some note
@@ -300,7 +313,7 @@ impl Session {
             → (next_note self.new.pair.watch ≡ None) × (after_numbers note.report self.old.line.text read ≡ self.old.line.text)
             × Stand note.report.cursors read self.old.line.text × ReportedFrom self.old.line.text self.new }
     {
-        self.pair.watch.forget_report();
+        self.pair.watch.forget_report()
     }
 
     // States the invariants of a session's parts, and that no kill is on, for the proofs that rely on them.
@@ -345,70 +358,115 @@ impl Session {
         self.follows();
     }
 
-    // Does a command by the call of its name.
-    #[inline(never)]
+    // Does a command, the ring's resets aside.
     fn obey(&mut self, command: &Command) -> Reply
-        ensures { Step self.old command.now result self.new }
+        ensures { Does self.old command.now result self.new }
     {
         match command {
-            Command::SetPos(pos) => self.set_pos(*pos),
-            Command::Move(movement) => self.move_by(movement),
-            Command::Insert(c, n) => self.insert(*c, *n),
-            Command::Paste(text, n) => self.paste(text.as_str(), *n),
-            Command::Yank(n) => self.yank(*n),
-            Command::YankPop => self.yank_pop(),
-            Command::Update(text, pos) => self.update(text.as_str(), *pos),
-            Command::InsertStr(idx, text) => self.insert_str(*idx, text.as_str()),
-            Command::Replace(from, to, text) => self.replace(*from, *to, text.as_str()),
-            Command::DeleteRange(from, to) => self.delete_range(*from, *to),
-            Command::Delete(n) => self.delete(*n),
-            Command::Backspace(n) => self.backspace(*n),
-            Command::KillLine => self.delete_by(&Movement::EndOfLine),
-            Command::KillBuffer => self.delete_by(&Movement::EndOfBuffer),
-            Command::DiscardLine => self.delete_by(&Movement::BeginningOfLine),
-            Command::DiscardBuffer => self.delete_by(&Movement::BeginningOfBuffer),
-            Command::DeletePrevWord(word, n) => self.delete_by(&Movement::BackwardWord(*n, *word)),
-            Command::DeleteWord(at, word, n) => self.delete_by(&Movement::ForwardWord(
-                *n, *at, *word,
-            )),
-            Command::DeleteTo(cs, n) => self.delete_by(&Movement::ViCharSearch(*n, *cs)),
-            Command::TransposeChars => self.transpose_chars(),
-            Command::TransposeWords(n) => self.transpose_words(*n),
-            Command::EditWord(action) => self.edit_word(*action),
-            Command::Kill(movement) => self.kill(movement),
-            Command::KillRange(from, to, dir) => self.kill_range(*from, *to, *dir),
-            Command::Keep(text) => self.keep(text.as_str()),
-            Command::Copy(movement) => self.copy(movement),
-            Command::Indent(movement, amount, dedent) => self.indent(movement, *amount, *dedent),
-            Command::Part => self.part(),
-            Command::Begin => self.begin(),
-            Command::End => self.end(),
-            Command::EndOne => self.end_one(),
-            Command::Reopen => self.reopen(),
-            Command::Abandon => self.abandon(),
-            Command::KeepUndone => self.keep_undone(),
-            Command::Undo(n) => self.undo(*n),
-            Command::Redo => self.redo(),
-            Command::Truncate(len) => self.truncate(*len),
-            Command::LinePlace => self.line_place(),
+            Command::SetPos(pos) => done(self.do_set_pos(*pos)),
+            Command::Move(movement) => answered(self.do_move_by(movement)),
+            Command::Insert(c, n) => inserted(self.do_insert(*c, *n)),
+            Command::Paste(text, n) => inserted(self.do_paste(text.as_str(), *n)),
+            Command::Yank(n) => inserted(self.do_yank(*n)),
+            Command::YankPop => inserted(self.do_yank_pop()),
+            Command::Update(text, pos) => done(self.do_update(text.as_str(), *pos)),
+            Command::InsertStr(idx, text) => answered(self.do_insert_str(*idx, text.as_str())),
+            Command::Replace(from, to, text) => done(self.do_replace(*from, *to, text.as_str())),
+            Command::DeleteRange(from, to) => done(self.do_delete_range(*from, *to)),
+            Command::Delete(n) => handed_out(self.do_delete(*n)),
+            Command::Backspace(n) => answered(self.do_backspace(*n)),
+            Command::KillLine => answered(self.do_delete_by(&Movement::EndOfLine)),
+            Command::KillBuffer => answered(self.do_delete_by(&Movement::EndOfBuffer)),
+            Command::DiscardLine => answered(self.do_delete_by(&Movement::BeginningOfLine)),
+            Command::DiscardBuffer => answered(self.do_delete_by(&Movement::BeginningOfBuffer)),
+            Command::DeletePrevWord(word, n) => {
+                answered(self.do_delete_by(&Movement::BackwardWord(*n, *word)))
+            }
+            Command::DeleteWord(at, word, n) => {
+                answered(self.do_delete_by(&Movement::ForwardWord(*n, *at, *word)))
+            }
+            Command::DeleteTo(cs, n) => {
+                answered(self.do_delete_by(&Movement::ViCharSearch(*n, *cs)))
+            }
+            Command::TransposeChars => answered(self.do_transpose_chars()),
+            Command::TransposeWords(n) => answered(self.do_transpose_words(*n)),
+            Command::EditWord(action) => answered(self.do_edit_word(*action)),
+            Command::Kill(movement) => answered(self.do_kill(movement)),
+            Command::KillRange(from, to, dir) => answered(self.do_kill_range(*from, *to, *dir)),
+            Command::Keep(text) => done(self.do_keep(text.as_str())),
+            Command::Copy(movement) => handed_out(self.do_copy(movement)),
+            Command::Indent(movement, amount, dedent) => {
+                answered(self.do_indent(movement, *amount, *dedent))
+            }
+            Command::Part => done(self.do_part()),
+            Command::Begin => marked(self.do_begin()),
+            Command::End => answered(self.do_end()),
+            Command::EndOne => answered(self.do_end_one()),
+            Command::Reopen => answered(self.do_reopen()),
+            Command::Abandon => answered(self.do_abandon()),
+            Command::KeepUndone => answered(self.do_keep_undone()),
+            Command::Undo(n) => answered(self.do_undo(*n)),
+            Command::Redo => answered(self.do_redo()),
+            Command::Truncate(len) => done(self.do_truncate(*len)),
+            Command::LinePlace => self.do_line_place(),
         }
+    }
+
+    // Resets the ring before a command that does not go on from what it did last.
+    fn ready(&mut self, command: &Command)
+        ensures { self.new ≡ readied command.now self.old }
+    {
+        match command {
+            Command::Kill(movement) => self.ready_to_kill(movement),
+            Command::KillRange(_, _, _)
+            | Command::Yank(_)
+            | Command::YankPop
+            | Command::KeepUndone => {}
+            _ => self.reset_ring(),
+        }
+    }
+
+    // Resets the ring after a vain yank, whose reply this is.
+    fn settle(&mut self, command: &Command, reply: &Reply)
+        ensures { self.new ≡ settled command.now reply.now self.old }
+    {
+        if matches!(command, Command::Yank(_) | Command::YankPop)
+            && !matches!(reply, Reply::Inserted(Some(_)))
+        {
+            self.reset_ring();
+        }
+    }
+
+    // Does a command, with the ring's resets.
+    #[inline(never)]
+    fn carry_out(&mut self, command: &Command) -> Reply
+        ensures { Step self.old command.now result self.new }
+    {
+        self.ready(command);
+        let reply = self.obey(command);
+        self.settle(command, &reply);
+        self.ends();
+        reply
     }
 
     // The same, where a typed letter does not pay for the choice of what to do. Inlined, as `apply` is.
     #[inline(always)]
-    fn carry_out(&mut self, command: &Command) -> Reply
+    fn do_command(&mut self, command: &Command) -> Reply
         ensures { Step self.old command.now result self.new }
     {
         if let Command::Insert(c, n) = command {
-            return self.insert(*c, *n);
+            self.reset_ring();
+            let reply = inserted(self.do_insert(*c, *n));
+            self.ends();
+            return reply;
         }
-        self.obey(command)
+        self.carry_out(command)
     }
 
-    /// Does one command. The ring is reset first, unless the command is a yank, a kill of a range, a kill by a movement
-    /// other than by clusters, or `KeepUndone`. It is also reset after a yank whose reply is not `Inserted(Some(..))`.
-    /// Whatever the reply, the recorded changes lead from the starting text to the present one, and back to the same
-    /// text as before. Inlined, so that a reply is not copied on its way.
+    /// Does one command, whatever the session's options are: `perform` obeys these. The ring is reset first, unless the
+    /// command is a yank, a kill of a range, a kill by a movement other than by clusters, or `KeepUndone`. It is also reset
+    /// after a yank whose reply is not `Inserted(Some(..))`. Whatever the reply, the recorded changes lead from the starting
+    /// text to the present one, and back to the same text as before. Inlined, so that a reply is not copied on its way.
     #[inline(always)]
     pub fn apply(&mut self, command: &Command) -> Reply
         ensures step { Step self.old command.now result self.new }
@@ -417,7 +475,7 @@ impl Session {
     {
         self.stands();
         self.follows();
-        self.carry_out(command)
+        self.do_command(command)
     }
 
     /// Does the commands in order, and answers one reply for each. It allocates room for the replies first. Where
@@ -499,13 +557,4 @@ pub fn what_changed_is_told()
         → ChangedFrom asked old → ChangedFrom asked new }
     ensures reported_over { (read : List ℕ) (old new : State) (commands : List Command) (replies : List Reply) (run : Run old commands replies new)
         → ReportedFrom read old → ReportedFrom read new }
-{}
-
-/// Where the limit holds, no command makes the text longer than it: each leaves the limit as it was, to which the text
-/// keeps (`Stands`), and what would raise it is refused. So over a run.
-pub fn a_limit_that_holds_stays()
-    ensures step { (old new : State) (command : Command) (reply : Reply) → Step old command reply new → HoldsLimit old
-        → HoldsLimit new × (new.line.limit ≡ old.line.limit) }
-    ensures run { (old new : State) (commands : List Command) (replies : List Reply) (run : Run old commands replies new)
-        → HoldsLimit old → HoldsLimit new × (new.line.limit ≡ old.line.limit) }
 {}

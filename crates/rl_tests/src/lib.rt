@@ -22,6 +22,8 @@ mod motions;
 #[cfg(test)]
 mod pair;
 #[cfg(test)]
+mod performing;
+#[cfg(test)]
 mod quotas;
 #[cfg(test)]
 mod saved;

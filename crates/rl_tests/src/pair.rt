@@ -30,9 +30,8 @@ fn hears(rt: &impl Abort, line: &mut LineBuffer, pair: &mut Pair) -> Result<(), 
     holds(rt, pair, 2, None, "nor is a deletion");
     line.kill(&Movement::BeginningOfLine, pair)?;
     holds(rt, pair, 3, Some("a b"), "a kill is for both");
-    if pair.changes.can_undo_last(line, 3)? {
-        pair.changes.undo(line, 3)?;
-    }
+    let undone = pair.changes.try_undo(line, 3)?;
+    assert!(rt; undone == Some(true), "the changes can be taken back");
     holds(
         rt,
         pair,
@@ -67,14 +66,11 @@ fn goes_to(
     before: usize,
     after: usize,
 ) -> Result<(), Fail> {
-    assert!(rt;
-        changes.can_undo_last(line, 1)?,
-        "the change can be taken back"
-    );
-    changes.undo(line, 1)?;
+    let undone = changes.try_undo(line, 1)?;
+    assert!(rt; undone == Some(true), "the change can be taken back");
     assert!(rt; line.pos() == before, "the cursor before the change");
-    assert!(rt; changes.can_redo_next(line)?, "the change fits the line");
-    changes.redo(line)?;
+    let redone = changes.try_redo(line)?;
+    assert!(rt; redone == Some(true), "the change fits the line");
     assert!(rt; line.pos() == after, "the cursor after the change");
     Ok(())
 }

@@ -1,38 +1,34 @@
 //! A session that is saved and loaded again.
 use crate::script::is_so;
 use rl_base::{GraphemeClusterMode, LoadFault, Movement};
-use rl_session::{Command, Reply, Session};
+use rl_session::{Command, Fault, Session, Settings};
 use std::alloc::Global;
 use std::process::Abort;
 use std::test::Fail;
 
 // Words are typed, one is killed, two groups are made, of which one is open, and a part of it is undone.
-fn edits(session: &mut Session) {
-    session.insert('a', 2);
-    session.kill(&Movement::BeginningOfLine);
-    session.begin();
-    session.insert('é', 1);
-    session.insert('-', 1);
-    session.end_one();
-    session.transpose_chars();
-    session.begin();
-    session.backspace(1);
-    session.insert('z', 3);
-    session.undo(1);
+fn edits(session: &mut Session) -> Result<(), Fault> {
+    session.insert('a', 2)?;
+    session.kill(&Movement::BeginningOfLine)?;
+    session.begin()?;
+    session.insert('é', 1)?;
+    session.insert('-', 1)?;
+    session.end_one()?;
+    session.transpose_chars()?;
+    session.begin()?;
+    session.backspace(1)?;
+    session.insert('z', 3)?;
+    session.undo(1)?;
+    Ok(())
 }
 
 // Both sessions do a command, with the same reply, and come to the same text and cursor.
 fn do_alike(rt: &impl Abort, one: &mut Session, other: &mut Session, command: &Command) {
-    let (reply, again) = (one.apply(command), other.apply(command));
+    let (reply, again) = (one.perform(command), other.perform(command));
     is_so(rt, reply == again, "the replies");
     let (line, same) = (one.line(), other.line());
     is_so(rt, line.as_str() == same.as_str(), "the texts");
     is_so(rt, line.pos() == same.pos(), "the cursors");
-}
-
-// What was undone is kept, since the options ask for it.
-fn keeps(session: &mut Session) -> bool {
-    session.keep_if_asked() == Reply::Answer(true)
 }
 
 // So they go on through record and ring.
@@ -41,8 +37,9 @@ fn go_on_alike(rt: &impl Abort, one: &mut Session, other: &mut Session) {
     do_alike(rt, one, other, &Command::Yank(1));
     do_alike(rt, one, other, &Command::Abandon);
     do_alike(rt, one, other, &Command::Undo(2));
-    is_so(rt, keeps(one) && keeps(other), "what was undone is kept");
-    do_alike(rt, one, other, &Command::Undo(1));
+    // what was undone is kept
+    do_alike(rt, one, other, &Command::Begin);
+    do_alike(rt, one, other, &Command::Undo(2));
     do_alike(rt, one, other, &Command::Undo(9));
 }
 
@@ -71,9 +68,10 @@ fn refuses_others(rt: &impl Abort, alloc: Global, bytes: &mut Vec<u8>) {
 
 // It is loaded as what it was.
 fn comes_back(rt: &impl Abort, alloc: Global, session: &mut Session) -> Result<(), Fail> {
-    edits(session);
+    edits(session)?;
     let mut bytes = session.save()?;
     let mut loaded = Session::load(alloc, bytes.as_slice())?;
+    is_so(rt, loaded.settings() == session.settings(), "the settings");
     let again = loaded.save()?;
     is_so(rt, again.as_slice() == bytes.as_slice(), "the same bytes");
     go_on_alike(rt, session, &mut loaded);
@@ -83,12 +81,8 @@ fn comes_back(rt: &impl Abort, alloc: Global, session: &mut Session) -> Result<(
 
 #[test]
 fn a_saved_session_comes_back(rt: HostRuntime) -> Result<(), Fail> {
-    let mut session = Session::open(rt.alloc(), "", 0, 64, 60, GraphemeClusterMode::Unicode)?;
-    is_so(
-        &rt,
-        session.keep_if_asked() == Reply::Answer(false),
-        "nothing is kept unasked",
-    );
-    session.set_keeps(true);
+    let mut settings = Settings::new(64, 60, GraphemeClusterMode::Unicode);
+    settings.options.keeps = true;
+    let mut session = Session::open(rt.alloc(), "", 0, &settings)?;
     comes_back(&rt, rt.alloc(), &mut session)
 }

@@ -1,7 +1,7 @@
 //! Rows of sessions.
 use crate::script::is_so;
-use rl_base::{At, GraphemeClusterMode, Movement, RepeatCount, Unit, Word, WordAction};
-use rl_session::{Bound, Command, Fault, Reply, Session};
+use rl_base::{At, GraphemeClusterMode, Movement, NewKill, Unit, Word};
+use rl_session::{Command, Fault, Reply, Session, Settings};
 use std::alloc::Global;
 use std::process::Abort;
 use std::test::Fail;
@@ -138,64 +138,56 @@ fn sessions_open(rt: HostRuntime) {
     }
 }
 
-// Opens a session on "abc" with that limit, deletes that many clusters from its end, and sets the other limit. The line has
-// the third one then, and takes so many letters, where it has room for them.
-fn sets_limit(
+// A session of that text, with the cursor at its end, and that limit.
+pub(crate) fn limited_to(alloc: Global, text: &str, limit: usize) -> Result<Session, Fault> {
+    let settings = Settings::new(limit, 60, GraphemeClusterMode::Unicode);
+    Session::open(alloc, text, text.len(), &settings)
+}
+
+// Gives a session another limit.
+pub(crate) fn set_limit(session: &mut Session, limit: usize) -> Result<(), Fault> {
+    let mut settings = session.settings();
+    settings.limit = limit;
+    session.set_settings(&settings)
+}
+
+// Opening "abc" under that limit, setting the limit, and restarting under it have that outcome. Refused, they change
+// nothing. A letter is answered so after the limit was set.
+fn meets_limit(
     rt: &impl Abort,
     alloc: Global,
-    what: &str,
-    opened: usize,
-    gone: RepeatCount,
-    set: usize,
     limit: usize,
-    letters: RepeatCount,
-    answer: Option<bool>,
+    outcome: Result<(), Fault>,
+    letter: Result<Option<bool>, Fault>,
 ) -> Result<(), Fail> {
-    let mut session = Session::open(alloc, "abc", 3, opened, 60, GraphemeClusterMode::Unicode)?;
-    is_so(rt, session.line().limit() == opened.max(3), what);
-    session.apply(&Command::Backspace(gone));
-    session.set_limit(set);
-    is_so(rt, session.line().limit() == limit, what);
-    let inserted = session.apply(&Command::Insert('x', letters));
-    is_so(rt, inserted == Reply::Inserted(answer), what);
-    is_so(rt, session.line().limit() == limit, what);
+    let (now, text) = if outcome.is_ok() {
+        (limit, "abc")
+    } else {
+        (9, "")
+    };
+    let refused = limited_to(alloc, "abc", limit).err();
+    is_so(rt, refused == outcome.err(), "opening");
+    let mut anew = limited_to(alloc, "", limit)?;
+    is_so(rt, anew.restart("abc", 3) == outcome, "restarting");
+    shows(rt, &anew, text, text.len());
+    let mut set = limited_to(alloc, "abc", 9)?;
+    is_so(rt, set_limit(&mut set, limit) == outcome, "setting");
+    is_so(rt, set.line().limit() == now, "the limit");
+    is_so(rt, set.insert('x', 1) == letter, "a letter");
     Ok(())
 }
 
 #[test]
-fn limits_are_set(rt: HostRuntime) -> Result<(), Fail> {
-    // what, the limit that it opens with, how many clusters go, the limit that is set, the limit, letters, their answer
-    const ROWS: &[(
-        &str,
-        usize,
-        RepeatCount,
-        usize,
-        usize,
-        RepeatCount,
-        Option<bool>,
-    )] = &[
-        ("shrunk, limit back", 2, 2, 2, 2, 1, Some(true)),
-        ("shrunk, no room past it", 2, 2, 2, 2, 2, None),
-        ("still longer than it", 2, 0, 2, 3, 1, None),
-        ("less than the text", 9, 1, 1, 2, 1, None),
-        ("none at all", 9, 0, 0, 3, 0, Some(true)),
-        ("greater", 3, 0, 5, 5, 2, Some(true)),
-        ("the greatest", 3, 0, usize::MAX, usize::MAX, 9, Some(true)),
-        ("from the greatest", usize::MAX, 0, 4, 4, 1, Some(true)),
-        ("from the greatest, no room", usize::MAX, 0, 4, 4, 2, None),
+fn texts_keep_to_the_limit(rt: HostRuntime) -> Result<(), Fail> {
+    const ROWS: &[(usize, Result<(), Fault>, Result<Option<bool>, Fault>)] = &[
+        (0, Err(Fault::TooLong), Ok(Some(true))),
+        (2, Err(Fault::TooLong), Ok(Some(true))),
+        (3, Ok(()), Err(Fault::TooLong)),
+        (4, Ok(()), Ok(Some(true))),
+        (usize::MAX, Ok(()), Ok(Some(true))),
     ];
-    for (what, opened, gone, set, limit, letters, answer) in ROWS {
-        sets_limit(
-            &rt,
-            rt.alloc(),
-            what,
-            *opened,
-            *gone,
-            *set,
-            *limit,
-            *letters,
-            *answer,
-        )?;
+    for (limit, outcome, letter) in ROWS {
+        meets_limit(&rt, rt.alloc(), *limit, *outcome, *letter)?;
     }
     Ok(())
 }
@@ -207,9 +199,9 @@ fn the_greatest_limit_opens(rt: HostRuntime) -> Result<(), Fail> {
     let mode = GraphemeClusterMode::Unicode;
     let made = Session::new(alloc, "ab", 1, usize::MAX, 60, mode).err();
     is_so(&rt, made == Some(Fault::NoMemory), "room for all bytes");
-    let session = Session::open(alloc, "ab", 1, usize::MAX, 60, mode)?;
+    let session = limited_to(alloc, "ab", usize::MAX)?;
     is_so(&rt, session.line().limit() == usize::MAX, "the limit");
-    shows(&rt, &session, "ab", 1);
+    shows(&rt, &session, "ab", 2);
     Ok(())
 }
 
@@ -223,8 +215,9 @@ fn goes_by_lines(
     prompt: Unit,
     motions: &[(Movement, usize)],
 ) -> Result<(), Fail> {
-    let mut session = Session::open(alloc, text, pos, 64, 60, GraphemeClusterMode::Unicode)?;
-    session.set_prompt(prompt);
+    let mut settings = Settings::new(64, 60, GraphemeClusterMode::Unicode);
+    settings.options.prompt = prompt;
+    let mut session = Session::open(alloc, text, pos, &settings)?;
     for (movement, wanted) in motions {
         let before = session.line().pos();
         let moved = session.apply(&Command::Move(movement.clone()?));
@@ -269,112 +262,110 @@ fn motions_over_lines_count_from_the_prompt(rt: HostRuntime) -> Result<(), Fail>
     Ok(())
 }
 
-// Kills the end of the line and then its beginning, with settings between the two, which make one text of the ring. What is
-// not set stays after a restart.
+// Kills the end of the line and then its beginning, with all settings changed between the two, which make one text of
+// the ring. What is set stays after a restart.
 fn kills_on(rt: &impl Abort, session: &mut Session) -> Result<(), Fail> {
-    let yank = Command::Yank(1);
-    session.set_prompt(7);
+    is_so(rt, session.kill(&Movement::EndOfLine) == Ok(true), "a kill");
+    let mut settings = session.settings();
+    settings.limit = 5;
+    settings.ring_size = 2;
+    settings.new_kill = NewKill::AfterNewest;
+    settings.options.prompt = 7;
+    settings.options.keeps = true;
+    settings.options.bound.entries = 0;
+    session.set_settings(&settings)?;
+    is_so(rt, session.settings() == settings, "what was set");
+    is_so(rt, session.record().len() == 0, "the bound at once");
     // the prompt is no part of where the cursor stands
-    replies(rt, session, &Command::LinePlace, &Reply::At(0, 2));
-    let ahead = Command::Kill(Movement::EndOfLine);
-    replies(rt, session, &ahead, &Reply::Answer(true));
-    session.set_prompt(1);
-    session.set_limit(5);
-    session.set_bound(Bound {
-        entries: 0,
-        bytes: 0,
-        ring_bytes: usize::MAX,
-    });
-    let back = Command::Kill(Movement::BeginningOfLine);
-    replies(rt, session, &back, &Reply::Answer(true));
+    assert_eq!(rt; session.line_column(), (0, 2), "the cursor");
+    let back = session.kill(&Movement::BeginningOfLine);
+    is_so(rt, back == Ok(true), "the next kill");
     session.restart("\nx", 2)?;
-    replies(rt, session, &yank, &Reply::Inserted(None));
-    session.set_limit(7);
-    replies(rt, session, &yank, &Reply::Inserted(Some(true)));
+    is_so(rt, session.settings() == settings, "what is set still");
+    is_so(rt, session.yank(1) == Err(Fault::TooLong), "a yank");
+    set_limit(session, 7)?;
+    is_so(rt, session.yank(1) == Ok(Some(true)), "the yank again");
     shows(rt, session, "\nxab cd", 7);
-    Ok(())
-}
-
-// Applies a command that is refused for the limit, and changes nothing.
-fn is_too_long(rt: &impl Abort, session: &mut Session, command: &Command, text: &str, pos: usize) {
-    let limit = session.line().limit();
-    replies(rt, session, command, &Reply::Refused(Fault::TooLong));
-    shows(rt, session, text, pos);
-    is_so(rt, session.line().limit() == limit, text);
-}
-
-// A limit that holds: what fits goes in, and a byte more does not.
-fn holds_its_limit(rt: &impl Abort, alloc: Global, session: &mut Session) -> Result<(), Fail> {
-    session.set_limit_holds(true);
-    let more = Command::Replace(0, 1, String::from_str(alloc, "xyz")?);
-    is_too_long(rt, session, &more, "a\n ŉ", 5);
-    let fits = Command::Replace(0, 1, String::from_str(alloc, "xy")?);
-    replies(rt, session, &fits, &Reply::Done);
-    shows(rt, session, "xy\n ŉ", 2);
-    let one = Command::InsertStr(0, String::from_str(alloc, "1")?);
-    is_too_long(rt, session, &one, "xy\n ŉ", 2);
-    let bad = Command::InsertStr(9, String::from_str(alloc, "1")?);
-    replies(rt, session, &bad, &Reply::Refused(Fault::BadPlace));
-    let indent = Command::Indent(Movement::WholeBuffer, 1, false);
-    is_too_long(rt, session, &indent, "xy\n ŉ", 2);
-    replies(rt, session, &Command::SetPos(3), &Reply::Done);
-    is_too_long(
-        rt,
-        session,
-        &Command::EditWord(WordAction::Uppercase),
-        "xy\n ŉ",
-        3,
-    );
-    replies(rt, session, &Command::SetPos(2), &Reply::Done);
-    let dedent = Command::Indent(Movement::WholeBuffer, 1, true);
-    replies(rt, session, &dedent, &Reply::Answer(true));
-    shows(rt, session, "xy\nŉ", 2);
-    session.set_limit(0);
-    is_too_long(rt, session, &Command::Undo(1), "xy\nŉ", 2);
-    session.set_limit(6);
-    replies(rt, session, &Command::Undo(1), &Reply::Answer(true));
-    shows(rt, session, "xy\n ŉ", 2);
-    replies(rt, session, &Command::Undo(1), &Reply::Answer(true));
-    session.set_limit(5);
-    is_too_long(rt, session, &Command::Redo, "a\n ŉ", 5);
-    session.set_limit(6);
-    replies(rt, session, &Command::Redo, &Reply::Answer(true));
-    shows(rt, session, "xy\n ŉ", 2);
-    let is_long = session.restart("1234567", 0) == Err(Fault::TooLong);
-    is_so(rt, is_long, "a restart past the limit");
-    shows(rt, session, "xy\n ŉ", 2);
-    session.restart("123456", 6)?;
-    session.set_limit_holds(false);
-    replies(rt, session, &one, &Reply::Answer(false));
-    is_so(
-        rt,
-        session.line().limit() == 7,
-        "a limit that does not hold",
-    );
-    Ok(())
-}
-
-#[test]
-fn a_limit_holds(rt: HostRuntime) -> Result<(), Fail> {
-    let mode = GraphemeClusterMode::Unicode;
-    let mut session = Session::open(rt.alloc(), "a\n ŉ", 5, 6, 60, mode)?;
-    holds_its_limit(&rt, rt.alloc(), &mut session)?;
-    // On the way the first word stands twice.
-    let mut words = Session::open(rt.alloc(), "three one", 6, 9, 60, mode)?;
-    words.set_limit_holds(true);
-    let exchange = Command::TransposeWords(1);
-    is_too_long(&rt, &mut words, &exchange, "three one", 6);
-    words.set_limit(11);
-    replies(&rt, &mut words, &exchange, &Reply::Answer(true));
-    shows(&rt, &words, "one three", 9);
     Ok(())
 }
 
 #[test]
 fn settings_part_no_kills(rt: HostRuntime) -> Result<(), Fail> {
-    let mode = GraphemeClusterMode::Unicode;
-    let mut session = Session::open(rt.alloc(), "ab cd", 2, 2, 60, mode)?;
+    let mut session = session_of(rt.alloc(), "ab cd", 2, 9)?;
     kills_on(&rt, &mut session)
+}
+
+fn is_text(found: Option<&str>, wanted: &str) -> bool {
+    match found {
+        Some(text) => text == wanted,
+        None => false,
+    }
+}
+
+// The ring has these texts, from the newest back.
+fn rings(rt: &impl Abort, session: &Session, texts: &[&str]) {
+    let ring = session.ring();
+    is_so(rt, ring.len() == texts.len(), "how many texts");
+    for (back, text) in texts.iter().enumerate() {
+        is_so(rt, is_text(ring.text_back(back), text), "a text");
+    }
+}
+
+// The ring of three texts gets that size. It has these texts then, and these after one more.
+fn resizes(
+    rt: &impl Abort,
+    session: &mut Session,
+    size: usize,
+    left: &[&str],
+    after: &[&str],
+) -> Result<(), Fail> {
+    let mut settings = session.settings();
+    settings.ring_size = size;
+    session.set_settings(&settings)?;
+    is_so(rt, session.ring().size() == size, "the size");
+    rings(rt, session, left);
+    session.keep("d")?;
+    rings(rt, session, after);
+    Ok(())
+}
+
+fn keep_three(session: &mut Session) -> Result<(), Fault> {
+    session.keep("a")?;
+    session.keep("b")?;
+    session.keep("c")
+}
+
+// So it is of a session, and of one that is loaded of it.
+fn resizes_both(
+    rt: &impl Abort,
+    alloc: Global,
+    size: usize,
+    left: &[&str],
+    after: &[&str],
+) -> Result<(), Fail> {
+    let mut settings = Settings::new(9, 3, GraphemeClusterMode::Unicode);
+    settings.new_kill = NewKill::AfterNewest;
+    let mut session = Session::open(alloc, "", 0, &settings)?;
+    keep_three(&mut session)?;
+    let saved = session.save()?;
+    let mut loaded = Session::load(alloc, saved.as_slice())?;
+    resizes(rt, &mut session, size, left, after)?;
+    resizes(rt, &mut loaded, size, left, after)
+}
+
+#[test]
+fn rings_are_resized(rt: HostRuntime) -> Result<(), Fail> {
+    const ROWS: &[(usize, &[&str], &[&str])] = &[
+        (9, &["c", "b", "a"], &["d", "c", "b", "a"]),
+        (3, &["c", "b", "a"], &["d", "c", "b"]),
+        (2, &["c", "b"], &["d", "c"]),
+        (1, &["c"], &["d"]),
+        (0, &[], &[]),
+    ];
+    for (size, left, after) in ROWS {
+        resizes_both(&rt, rt.alloc(), *size, left, after)?;
+    }
+    Ok(())
 }
 
 #[test]

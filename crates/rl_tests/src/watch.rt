@@ -1,9 +1,9 @@
 //! What a watch tells: splices, and reports of a queue, with answers that were worked out by hand.
 use crate::script::is_so;
-use crate::session::{replies, session_of, shows};
+use crate::session::{limited_to, replies, session_of, shows};
 use rl_base::{
-    ChangeListener, DeleteListener, Direction, GraphemeClusterMode, Movement, Report, ReportKind,
-    Reports, Splice, WatchFault, Word,
+    ChangeListener, DeleteListener, Direction, Movement, Report, ReportKind, Reports, Splice,
+    WatchFault, Word,
 };
 use rl_session::{Command, Fault, Reply, Session};
 use std::alloc::Global;
@@ -29,7 +29,7 @@ fn tells(
     };
     is_so(rt, queue.oldest() == Some(wanted), "the oldest report");
     is_so(rt, queue.oldest_texts() == texts, "its texts");
-    queue.forget();
+    is_so(rt, queue.forget(), "it waited");
 }
 
 #[test]
@@ -65,6 +65,7 @@ fn a_queue_tells_each_change(rt: HostRuntime) -> Result<(), Fail> {
         "bé!",
     );
     is_so(&rt, queue.oldest().is_none(), "nothing waits");
+    is_so(&rt, !queue.forget(), "nothing waited");
     Ok(())
 }
 
@@ -147,14 +148,14 @@ fn reads(rt: &impl Abort, session: &mut Session, at: usize, text: &str) {
     };
     is_so(rt, session.next_report() == Some(wanted), "the next report");
     is_so(rt, session.next_texts() == text, "its texts");
-    session.forget_report();
+    is_so(rt, session.forget_report(), "it waited");
     is_so(rt, session.next_report().is_none(), "no report waits");
+    is_so(rt, !session.forget_report(), "none waited");
 }
 
 // A session with no limit on its text keeps reports in a queue with so much room.
 fn keeps(rt: &impl Abort, alloc: Global, room: usize, text_room: usize) -> Result<(), Fail> {
-    let mode = GraphemeClusterMode::Unicode;
-    let mut session = Session::open(alloc, "a", 1, usize::MAX, 60, mode)?;
+    let mut session = limited_to(alloc, "a", usize::MAX)?;
     is_so(rt, session.watch(room, text_room).is_ok(), "a queue");
     let _ = session.apply(&Command::Insert('b', 1));
     is_so(rt, session.next_report().is_some(), "a report waits");

@@ -154,9 +154,8 @@ impl Field {
 
 /// Answers each key by a line.
 fn main() -> Result<(), Box<dyn Error>> {
-    let options = Session::builder().limit(MAX_BYTES).limit_holds(true);
     let mut field = Field {
-        session: options.open()?,
+        session: Session::builder().limit(MAX_BYTES).open()?,
         first: 0,
         anchor: 0,
     };

@@ -21,7 +21,7 @@ pub use lex::Source;
 pub use pack::{pack, replaced, resolved};
 pub use requires::functions;
 pub use rules::Rules;
-pub use tree::{build, kit, libraries, programs, write_tree, Crate};
+pub use tree::{build, for_c, kit, libraries, programs, write_tree, Crate};
 
 use std::collections::BTreeMap;
 use std::fmt;

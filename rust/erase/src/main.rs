@@ -5,10 +5,9 @@ use std::path::Path;
 use std::process::ExitCode;
 
 const USAGE: &str = "\
-erase tree DIR    writes all crates as one tree of modules
-erase audit       erases and audits all crates, and prints how often each rule was applied
-erase requires    lists what public functions require, and the assertion that asks it
-erase pack DIR    writes the crate `lodvarn` as it is published";
+erase audit             erases and audits all crates, and prints how often each rule was applied
+erase requires          lists what public functions require, and the assertion that asks it
+erase pack CRATE DIR    writes the crate `lodvarn` or `lodvarn-c` as it is published";
 const TREE: &str = "crate::proved";
 
 fn audit() -> Result<Counts> {
@@ -21,6 +20,7 @@ fn audit() -> Result<Counts> {
 
 fn all() -> Result<Vec<Crate>> {
     let mut crates = erase::libraries()?;
+    crates.extend(erase::for_c());
     crates.extend(erase::programs());
     Ok(crates)
 }
@@ -45,13 +45,9 @@ fn main() -> ExitCode {
     let words: Vec<String> = std::env::args().skip(1).collect();
     let words: Vec<&str> = words.iter().map(String::as_str).collect();
     let done = match words.as_slice() {
-        ["tree", out] => {
-            let made = all().and_then(|all| erase::write_tree(Path::new(out), &all, TREE));
-            made.map(drop)
-        }
         ["audit"] => audit().map(|counts| print!("{counts}")),
         ["requires"] => requires(),
-        ["pack", out] => erase::pack(Path::new(out)),
+        ["pack", name @ ("lodvarn" | "lodvarn-c"), out] => erase::pack(name, Path::new(out)),
         _ => {
             eprintln!("{USAGE}");
             return ExitCode::from(2);

@@ -104,6 +104,7 @@ impl Rules {
         found.filter(move |(row, found)| match &*row.why {
             "head" => !["::", "."].contains(&source.before(i)),
             "law" => follows_clause(found[found.len() - 3]),
+            "call" => source.word(i + 2).starts_with("lodvarn_"),
             _ => true,
         })
     }

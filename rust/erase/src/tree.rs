@@ -6,7 +6,8 @@ use crate::lex::Source;
 use crate::rules::Rules;
 use crate::{Counts, Fault, Result};
 use std::path::{Path, PathBuf};
-use std::{env, fs, process::Command};
+use std::process::{self, Command};
+use std::{env, fs};
 
 /// A crate that becomes a module.
 #[derive(Clone, Debug)]
@@ -29,7 +30,8 @@ pub struct File {
 
 // Of this repository. A module `laws` holds nothing else.
 const LIBRARIES: &str = "rl_base rl_line rl_session";
-const PROGRAMS: &str = "rl_halts rl_line_tests rl_refusals rl_script rl_tests";
+const FOR_C: &str = "rl_ffi";
+const PROGRAMS: &str = "rl_line_tests rl_refusals rl_script rl_tests";
 // The kit's ports, each with the modules that allocate or read, which are not needed.
 const PORTS: &str = "arrayvec array_vec impls iter, byteorder io, itoa, md5, \
     memchr arch front memmem, ucd_bidi, ucd_breaks, ucd_category, ucd_derived, \
@@ -75,6 +77,11 @@ pub fn libraries() -> Result<Vec<Crate>> {
     crates.push(of("stand_in", top().join("rust/stand-in/src")));
     crates.push(of("stand_in/casing", kit.join("core/src/char")));
     Ok(crates)
+}
+
+/// The crate of the calls of C, which uses the libraries.
+pub fn for_c() -> Vec<Crate> {
+    ours(FOR_C)
 }
 
 /// The programs and the crates of tests, which use the libraries.
@@ -159,7 +166,7 @@ pub fn write_tree(out: &Path, crates: &[Crate], tree: &str) -> Result<Counts> {
             let risky = files.iter().any(|file| file.text.contains("unsafe "));
             let scope = if ours { "" } else { "(crate)" };
             let lint = if risky { "unsafe_code, " } else { "" };
-            let lints = format!("dead_code, unused_imports, unused_variables, {lint}clippy::all");
+            let lints = format!("dead_code, unused_doc_comments, unused_imports, unused_variables, {lint}clippy::all");
             list += &format!("#[allow({lints})]\npub{scope} mod {};\n", one.name);
             // What an older source left is no part of it.
             let _ = fs::remove_dir_all(out.join(one.name));
@@ -172,14 +179,22 @@ pub fn write_tree(out: &Path, crates: &[Crate], tree: &str) -> Result<Counts> {
     Ok(counts)
 }
 
-/// Writes the tree of modules below `OUT_DIR/proved`, for a build script, which runs again if a source changes.
-pub fn build(crates: &[Crate]) -> Result<Counts> {
+/// All of a build script: writes a tree below `OUT_DIR/proved`, again if a source changes, of the libraries as `choose`
+/// changes them.
+pub fn build(choose: impl FnOnce(&mut Vec<Crate>)) {
     println!("cargo:rerun-if-env-changed=RATTLE_KIT");
-    for one in crates {
-        println!("cargo:rerun-if-changed={}", one.src.display());
+    let made = libraries().and_then(|mut crates| {
+        choose(&mut crates);
+        for one in &crates {
+            println!("cargo:rerun-if-changed={}", one.src.display());
+        }
+        let out = PathBuf::from(env::var_os("OUT_DIR").unwrap_or_default());
+        write_tree(&out.join("proved"), &crates, "crate::proved")
+    });
+    if let Err(fault) = made {
+        eprintln!("{fault}");
+        process::exit(1);
     }
-    let out = PathBuf::from(env::var_os("OUT_DIR").unwrap_or_default());
-    write_tree(&out.join("proved"), crates, "crate::proved")
 }
 
 /// Reads a file.

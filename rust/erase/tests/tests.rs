@@ -57,8 +57,8 @@ fn what_was_changed_is_told() {
 // Each token of a file that is taken out, doubled or another one is told.
 #[test]
 fn each_change_of_a_token_is_told() -> Result<(), Fault> {
-    let others = ["rl_base", "rl_line", "unicode_segmentation"].map(named);
-    let one = &erase::programs()[0];
+    let others = ["rl_base", "rl_line", "rl_session", "unicode_segmentation"].map(named);
+    let one = &erase::for_c()[0];
     let rules = Rules::new("crate::t", one, &others);
     for file in one.files()? {
         let source = Source::new("a.rt", &file.text)?;
@@ -92,6 +92,7 @@ fn all_crates_are_erased_and_each_rule_is_needed() -> Result<(), Fault> {
         return Ok(());
     }
     let (mut crates, mut counts) = (erase::libraries()?, erase::Counts::default());
+    crates.extend(erase::for_c());
     crates.extend(erase::programs());
     for one in &crates {
         counts.join(one.erased(&crates, "crate::proved")?.1);

@@ -1,6 +1,6 @@
-//! How a session is opened.
+//! How a session is opened, and its options as the core has them.
 use crate::proved::rl_base::NewKill;
-use crate::proved::rl_session::Bound;
+use crate::proved::rl_session::{self, Bound, Settings};
 use crate::proved::stand_in::alloc::Global;
 use crate::words::{Fault, Mode, Options};
 use crate::{Core, Session};
@@ -48,12 +48,6 @@ impl<'t> SessionBuilder<'t> {
         self
     }
 
-    /// Lets the text grow to any length.
-    pub fn no_limit(mut self) -> Self {
-        self.options.limit = None;
-        self
-    }
-
     /// Lets the kill ring keep up to so many texts. With 0 it keeps none, and a kill only deletes.
     pub fn ring_size(mut self, ring_size: usize) -> Self {
         self.options.ring_size = ring_size;
@@ -90,13 +84,6 @@ impl<'t> SessionBuilder<'t> {
         self
     }
 
-    /// Lets no command make the text longer than the limit: what would is refused with
-    /// [`Fault::NoRoom`](crate::Fault::NoRoom).
-    pub fn limit_holds(mut self, limit_holds: bool) -> Self {
-        self.options.limit_holds = limit_holds;
-        self
-    }
-
     /// Lets no edit drop what was undone, as [`Options::keeps_undone`] says.
     pub fn keeps_undone(mut self, keeps_undone: bool) -> Self {
         self.options.keeps_undone = keeps_undone;
@@ -105,16 +92,12 @@ impl<'t> SessionBuilder<'t> {
 
     /// Opens the session. No room is reserved for the limit before it is needed.
     /// # Errors
-    /// [`Fault::BadPlace`] if the cursor's place is past the text or inside a character; [`Fault::NoMemory`].
+    /// [`Fault::BadPlace`] if the cursor's place is past the text or inside a character; [`Fault::NoRoom`] if the text is
+    /// longer than the limit; [`Fault::NoMemory`].
     pub fn open(&self) -> Result<Session, Fault> {
         let pos = self.pos.unwrap_or(self.text.len());
-        let limit = self.options.limit.unwrap_or(usize::MAX);
-        let (ring_size, mode) = (self.options.ring_size, self.options.mode.to_core());
-        let mut core = Core::open(Global, self.text, pos, limit, ring_size, mode)?;
-        core.set_new_kill(NewKill::AfterNewest);
-        let mut session = Session::of_core(core);
-        session.choose(&self.options);
-        Ok(session)
+        let core = Core::open(Global, self.text, pos, &self.options.to_core())?;
+        Ok(Session::of_core(core))
     }
 }
 
@@ -127,19 +110,44 @@ impl Session {
             reads_lines: AtomicBool::new(false),
         }
     }
+}
 
-    /// Sets all that an open session may have chosen: the size of its ring stays.
-    pub(crate) fn choose(&mut self, options: &Options) {
-        let core = &mut self.core;
-        core.set_mode(options.mode.to_core());
-        core.set_prompt(options.prompt);
-        core.set_limit_holds(options.limit_holds);
-        core.set_keeps(options.keeps_undone);
-        core.set_limit(options.limit.unwrap_or(usize::MAX));
-        core.set_bound(Bound {
-            entries: options.max_entries.unwrap_or(usize::MAX),
-            bytes: options.max_bytes.unwrap_or(usize::MAX),
-            ring_bytes: options.max_ring_bytes.unwrap_or(usize::MAX),
-        });
+/// A bound of the core's, of which the greatest number is none.
+fn bounded(bound: usize) -> Option<usize> {
+    Some(bound).filter(|it| *it != usize::MAX)
+}
+
+impl Options {
+    pub(crate) fn to_core(self) -> Settings {
+        let bound = Bound {
+            entries: self.max_entries.unwrap_or(usize::MAX),
+            bytes: self.max_bytes.unwrap_or(usize::MAX),
+            ring_bytes: self.max_ring_bytes.unwrap_or(usize::MAX),
+        };
+        Settings {
+            limit: self.limit.unwrap_or(usize::MAX),
+            ring_size: self.ring_size,
+            new_kill: NewKill::AfterNewest,
+            options: rl_session::Options {
+                mode: self.mode.to_core(),
+                prompt: self.prompt,
+                bound,
+                keeps: self.keeps_undone,
+            },
+        }
+    }
+
+    pub(crate) fn of_core(it: Settings) -> Options {
+        let (options, bound) = (it.options, it.options.bound);
+        Options {
+            mode: Mode::of_core(options.mode),
+            prompt: options.prompt,
+            limit: bounded(it.limit),
+            ring_size: it.ring_size,
+            max_entries: bounded(bound.entries),
+            max_bytes: bounded(bound.bytes),
+            max_ring_bytes: bounded(bound.ring_bytes),
+            keeps_undone: options.keeps,
+        }
     }
 }

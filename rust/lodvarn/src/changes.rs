@@ -227,9 +227,7 @@ impl Session {
     /// Forgets the oldest report. False if none waits. A command between [`next_report`](Session::next_report) and this
     /// may have folded its change into the report. A kill after it still goes on from the kill before it.
     pub fn forget_report(&mut self) -> bool {
-        let waits = self.core.next_report().is_some();
-        self.core.forget_report();
-        waits
+        self.core.forget_report()
     }
 
     /// How many reports wait; a folded one is one.

@@ -65,11 +65,11 @@ pub use words::{
     ReportKind, Screen, Side, Word,
 };
 
-use alloc::{string::String, vec::Vec};
+use alloc::vec::Vec;
 use core::fmt;
 use core::sync::atomic::AtomicBool;
 use proved::rl_base;
-use proved::rl_session::{Reply, Session as Core};
+use proved::rl_session::{Fault as CoreFault, Session as Core};
 
 /// The version of this crate.
 pub const VERSION: &str = env!("CARGO_PKG_VERSION");
@@ -107,88 +107,45 @@ impl Session {
         SessionBuilder::default()
     }
 
-    /// Does a command, and then drops what is beyond the bounds of the record and the ring. That it makes the table of
-    /// lines can't be refused: without memory for it there is none.
+    /// Does a command, which obeys the options, and then makes the table of lines if a read has looked for lines. That it
+    /// makes it can't be refused: without memory for it there is none.
     #[inline]
-    fn ask(&mut self, command: impl FnOnce(&mut Core) -> Reply) -> Reply {
-        let reply = command(&mut self.core);
-        self.core.forget();
+    fn run<T>(
+        &mut self,
+        command: impl FnOnce(&mut Core) -> Result<T, CoreFault>,
+    ) -> Result<T, Fault> {
+        let done = command(&mut self.core);
         if *self.reads_lines.get_mut() {
             self.core.index_lines();
         }
-        reply
+        Ok(done?)
     }
 
-    /// Does an edit, before which it keeps the undone changes if the options say so.
+    /// Does a command that takes a count, by which 0 does nothing.
     #[inline]
-    fn edit(&mut self, command: impl FnOnce(&mut Core) -> Reply) -> Result<Reply, Fault> {
-        match self.core.keep_if_asked() {
-            Reply::Refused(fault) => Err(fault.into()),
-            _ => Ok(self.ask(command)),
-        }
-    }
-
-    /// Does an edit that takes a count, by which 0 does nothing.
-    #[inline]
-    fn edit_times(
+    fn run_times<T: Default>(
         &mut self,
         n: u16,
-        command: impl FnOnce(&mut Core, u16) -> Reply,
-    ) -> Result<bool, Fault> {
+        command: impl FnOnce(&mut Core, u16) -> Result<T, CoreFault>,
+    ) -> Result<T, Fault> {
         if n == 0 {
-            return Ok(false);
+            return Ok(T::default());
         }
-        found(self.edit(|core| command(core, n))?)
+        self.run(|core| command(core, n))
     }
 
-    /// Does an edit by a movement, by which a count of 0 does nothing.
+    /// Does a command by a movement, by which a count of 0 does nothing.
     #[inline]
-    fn edit_by(
+    fn run_by<T: Default>(
         &mut self,
         movement: Movement,
-        command: impl FnOnce(&mut Core, &rl_base::Movement) -> Reply,
-    ) -> Result<bool, Fault> {
+        command: impl FnOnce(&mut Core, &rl_base::Movement) -> Result<T, CoreFault>,
+    ) -> Result<T, Fault> {
         match movement.to_core() {
-            Some(movement) => found(self.edit(|core| command(core, &movement))?),
-            None => Ok(false),
+            Some(movement) => self.run(|core| command(core, &movement)),
+            None => Ok(T::default()),
         }
     }
-}
-
-/// Whether there was something to do.
-#[inline]
-fn found(reply: Reply) -> Result<bool, Fault> {
-    match reply {
-        Reply::Answer(is_done) => Ok(is_done),
-        Reply::Text(text) => Ok(text.is_some()),
-        Reply::Inserted(at_end) => Ok(at_end.is_some()),
-        Reply::Done | Reply::Mark(_) | Reply::At(_, _) => Ok(true),
-        Reply::Refused(fault) => Err(fault.into()),
-    }
-}
-
-#[inline]
-fn done(reply: Reply) -> Result<(), Fault> {
-    found(reply).map(drop)
-}
-
-/// What became of an insertion, and what is returned if nothing was inserted.
-#[inline]
-fn inserted(reply: Reply, without: Result<Inserted, Fault>) -> Result<Inserted, Fault> {
-    match reply {
-        Reply::Inserted(Some(at_end)) => Ok(Inserted::of(at_end)),
-        Reply::Inserted(None) => without,
-        reply => found(reply).map(Inserted::of),
-    }
-}
-
-/// A copy of a text.
-fn owned(text: &str) -> Result<String, Fault> {
-    let mut copy = String::new();
-    copy.try_reserve_exact(text.len())
-        .map_err(|_| Fault::NoMemory)?;
-    copy.push_str(text);
-    Ok(copy)
 }
 
 /// An empty list that takes so many without more memory.

@@ -3,15 +3,10 @@ use crate::proved::rl_base;
 use crate::proved::rl_line::LineBuffer;
 use crate::proved::stand_in::alloc::Global;
 use crate::texts::{first_cluster, last_cluster};
-use crate::words::{Cluster, Fault, Mode, Movement, Options, Position, Screen};
+use crate::words::{Cluster, Fault, Movement, Options, Position, Screen};
 use crate::{Core, Session};
 use core::ops::Range;
 use core::sync::atomic::Ordering;
-
-/// A bound of the core's, of which the greatest number is none.
-fn bounded(bound: usize) -> Option<usize> {
-    Some(bound).filter(|it| *it != usize::MAX)
-}
 
 impl Session {
     /// The line, to look for its lines, which needs no search through the text from the next command on.
@@ -35,9 +30,7 @@ impl Session {
         if place == self.lines().pos() {
             return Ok(ask(&self.core, &movement));
         }
-        let options = self.core.options();
-        let mut other = Core::open(Global, self.text(), place, usize::MAX, 0, options.mode)?;
-        other.set_prompt(options.prompt);
+        let other = Core::open(Global, self.text(), place, &self.core.settings())?;
         Ok(ask(&other, &movement))
     }
 
@@ -77,18 +70,7 @@ impl Session {
     /// What is chosen of the session.
     #[must_use]
     pub fn options(&self) -> Options {
-        let options = self.core.options();
-        Options {
-            mode: Mode::of_core(options.mode),
-            prompt: options.prompt,
-            limit: bounded(self.core.line().limit()),
-            ring_size: self.core.ring().size(),
-            max_entries: bounded(options.bound.entries),
-            max_bytes: bounded(options.bound.bytes),
-            max_ring_bytes: bounded(options.bound.ring_bytes),
-            limit_holds: options.holds,
-            keeps_undone: options.keeps,
-        }
+        Options::of_core(self.core.settings())
     }
 
     /// Where the cursor is: its line, and the width of that line before it, at most 65535.

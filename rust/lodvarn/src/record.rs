@@ -1,12 +1,11 @@
 //! Undo, redo, and groups of changes.
 use crate::words::{Fault, Options};
-use crate::{done, found, Core, Session};
+use crate::{Core, Session};
 use core::ops::{Deref, DerefMut};
 
 /// An open undo group, from [`Session::group`]. It is the session meanwhile, and closes the group when it is dropped.
 /// Groups that were begun in it and are still open are closed with it. If the group is not open any more, as after an
-/// [`end_all_groups`](Session::end_all_groups), an [`abandon_group`](Session::abandon_group) or an undo of its begin,
-/// nothing is closed.
+/// [`end_all_groups`](Session::end_all_groups) or an [`abandon_group`](Session::abandon_group), nothing is closed.
 #[derive(Debug)]
 #[must_use = "the group is closed when this is dropped"]
 pub struct Group<'s> {
@@ -94,7 +93,8 @@ impl Session {
     /// # Ok::<(), Fault>(())
     /// ```
     pub fn part(&mut self) {
-        self.ask(Core::part);
+        // It is never refused.
+        let _ = self.run(Core::part);
     }
 
     /// Says that the text is saved as it is. The next change is undone alone, so that an undo may come back to it. A session
@@ -121,24 +121,21 @@ impl Session {
     /// # Errors
     /// [`Fault::NoMemory`].
     pub fn begin_group(&mut self) -> Result<(), Fault> {
-        done(self.edit(Core::begin)?)
+        self.run(Core::begin).map(drop)
     }
 
     /// Closes the innermost group. False if it has no change, or none is open.
     /// # Errors
     /// [`Fault::NoMemory`]; the group stays open.
     pub fn end_group(&mut self) -> Result<bool, Fault> {
-        found(self.edit(Core::end_one)?)
+        self.run(Core::end_one)
     }
 
-    /// Takes the group up again that was closed last, so that later changes are a part of it, until it is closed once more.
-    /// The undone changes are dropped then. False if something was recorded after it, or there is none, or with
-    /// [`Options::keeps_undone`] if there is a change to redo.
+    /// Takes the group up again that was closed last, also that of an edit, so that later changes are a part of it, until
+    /// it is closed once more. The undone changes are dropped then. False if something was recorded after it, or there is
+    /// none, or with [`Options::keeps_undone`] if there is a change to redo.
     pub fn reopen_group(&mut self) -> bool {
-        if self.core.options().keeps && self.core.can_redo() {
-            return false;
-        }
-        found(self.ask(Core::reopen)) == Ok(true)
+        self.run(Core::reopen) == Ok(true)
     }
 
     /// Takes back the innermost group that is open, with those that were closed in it, and forgets it, as for a
@@ -159,25 +156,25 @@ impl Session {
     /// # Errors
     /// [`Fault::NoRoom`] as for an undo; [`Fault::NoMemory`].
     pub fn abandon_group(&mut self) -> Result<bool, Fault> {
-        found(self.ask(Core::abandon))
+        self.run(Core::abandon)
     }
 
     /// Closes all open groups. False if they have no change, or none is open.
     /// # Errors
     /// [`Fault::NoMemory`].
     pub fn end_all_groups(&mut self) -> Result<bool, Fault> {
-        found(self.edit(Core::end)?)
+        self.run(Core::end)
     }
 
-    /// Undoes the last n changes and groups, all if there are fewer. False if there was no change.
+    /// Undoes the last n changes and groups, all if there are fewer; while a group is open, at most what was done in the
+    /// innermost one, which stays open. An edit of several changes, as [`indent`](Session::indent), makes a group of them,
+    /// also if it was refused after some; if no memory is left for its marks, each of them is undone alone. False if
+    /// there was no change.
     /// # Errors
-    /// [`Fault::NoRoom`] if a text on the way back is longer than a limit that holds; [`Fault::NoMemory`].
+    /// [`Fault::NoRoom`] if a text on the way back is longer than the limit; [`Fault::NoMemory`].
     #[inline]
     pub fn undo(&mut self, n: u16) -> Result<bool, Fault> {
-        if n == 0 {
-            return Ok(false);
-        }
-        found(self.ask(|core| core.undo(n)))
+        self.run_times(n, Core::undo)
     }
 
     /// Redoes what was undone last, one change or group. False if there is none.
@@ -185,7 +182,7 @@ impl Session {
     /// [`Fault::NoRoom`] as for an undo; [`Fault::NoMemory`].
     #[inline]
     pub fn redo(&mut self) -> Result<bool, Fault> {
-        found(self.ask(Core::redo))
+        self.run(Core::redo)
     }
 
     /// Keeps the undone changes, which the next edit or group would drop, so that undos come to them: they are recorded
@@ -209,21 +206,21 @@ impl Session {
     /// # Errors
     /// [`Fault::NoMemory`].
     pub fn keep_undone(&mut self) -> Result<bool, Fault> {
-        found(self.ask(Core::keep_undone))
+        self.run(Core::keep_undone)
     }
 
     /// Keeps the first `entries` entries of the record, and drops the others and the undone changes.
     /// # Errors
     /// [`Fault::NotReplaying`] if they do not lead to the present text; [`Fault::NoMemory`].
     pub fn truncate(&mut self, entries: usize) -> Result<(), Fault> {
-        done(self.ask(|core| core.truncate(entries)))
+        self.run(|core| core.truncate(entries))
     }
 
     /// Sets what may be chosen. If the record has more than [`max_entries`](Options::max_entries) or
     /// [`max_bytes`](Options::max_bytes), the oldest changes and groups are dropped at once, and by each later call, so
     /// that a session that goes on for long takes no more and more memory. An undo does not go back over them. A group
     /// that is open stays, with all that comes after its begin, and so do the undone changes. Numbers of entries that were
-    /// returned before count the dropped ones. The oldest texts of the ring beyond
+    /// returned before count the dropped ones. The oldest texts of the ring beyond [`ring_size`](Options::ring_size) and
     /// [`max_ring_bytes`](Options::max_ring_bytes) are dropped so too.
     ///
     /// ```
@@ -240,13 +237,9 @@ impl Session {
     /// # Ok::<(), Fault>(())
     /// ```
     /// # Errors
-    /// [`Fault::NoSuchNumber`] if [`ring_size`](Options::ring_size) is not the session's; nothing is set.
+    /// [`Fault::NoRoom`] if the text is longer than [`limit`](Options::limit); nothing is set.
     pub fn set_options(&mut self, options: &Options) -> Result<(), Fault> {
-        if options.ring_size != self.core.ring().size() {
-            return Err(Fault::NoSuchNumber);
-        }
-        self.choose(options);
-        Ok(())
+        Ok(self.core.set_settings(&options.to_core())?)
     }
 
     /// How many groups are open.

@@ -2,7 +2,6 @@
 use crate::proved::rl_base::{
     self, GraphemeClusterMode, LoadFault, Refusal, SaveFault, Unit, WatchFault, WordAction,
 };
-use crate::proved::rl_line::MAX_LINE;
 use crate::proved::rl_session;
 use core::fmt;
 use core::num::NonZeroU16;
@@ -243,11 +242,10 @@ pub struct Options {
     /// The column where the text begins, after a prompt, which [`Movement::LineUp`] and [`Movement::LineDown`] count if
     /// they come to the first line or leave it. At first 0.
     pub prompt: u16,
-    /// How many bytes the text may have, `None` for any number; as many as it has if that is more. At first 4096. It
-    /// rises if a call that asks for no limit makes the text longer, as [`replace`](crate::Session::replace) and
-    /// [`undo`](crate::Session::undo).
+    /// How many bytes the text may have, at first `None`, for any number. What would make it longer, at its end or on the
+    /// way, is refused with [`Fault::NoRoom`], and changes nothing.
     pub limit: Option<usize>,
-    /// How many texts the kill ring keeps. It can't be changed once a session is open. At first 60.
+    /// How many texts the kill ring keeps; it drops the oldest beyond that. At first 60.
     pub ring_size: usize,
     /// How many entries the record may have: changes, and the marks where groups begin and end. At first `None`, for any
     /// number, as [`max_bytes`](Options::max_bytes).
@@ -256,8 +254,6 @@ pub struct Options {
     pub max_bytes: Option<usize>,
     /// How many bytes the texts of the kill ring may have together. At first `None`.
     pub max_ring_bytes: Option<usize>,
-    /// Whether no command makes the text longer than the limit: what would is refused with [`Fault::NoRoom`].
-    pub limit_holds: bool,
     /// Whether each edit, and each begin and end of a group, first does what
     /// [`keep_undone`](crate::Session::keep_undone) does, so that it drops no undone change.
     pub keeps_undone: bool,
@@ -268,12 +264,11 @@ impl Default for Options {
         Options {
             mode: Mode::Unicode,
             prompt: 0,
-            limit: Some(MAX_LINE),
+            limit: None,
             ring_size: 60,
             max_entries: None,
             max_bytes: None,
             max_ring_bytes: None,
-            limit_holds: false,
             keeps_undone: false,
         }
     }
@@ -355,19 +350,19 @@ pub enum Inserted {
 }
 
 impl Inserted {
-    /// What became of an inserted text, by whether that was at the end.
+    /// What became of a text, by whether it went to the end, or `None` if there was none.
     #[inline]
-    pub(crate) fn of(at_end: bool) -> Inserted {
-        if at_end {
-            Inserted::AtEnd
-        } else {
-            Inserted::Within
+    pub(crate) fn of_core(at_end: Option<bool>) -> Inserted {
+        match at_end {
+            Some(true) => Inserted::AtEnd,
+            Some(false) => Inserted::Within,
+            None => Inserted::Nothing,
         }
     }
 }
 
-/// Why a call was refused. Text, cursor, record and limit are as they were. But an edit of several steps that runs out of
-/// memory stops after the steps that it made, and with [`Options::keeps_undone`] the undone changes may be kept.
+/// Why a call was refused. Text, cursor and record are as they were. But an edit of several steps that runs out of memory
+/// stops after the steps that it made, and with [`Options::keeps_undone`] the undone changes may be kept.
 #[derive(Clone, Copy, Debug, PartialEq, Eq, Hash)]
 #[non_exhaustive]
 pub enum Fault {
@@ -380,7 +375,8 @@ pub enum Fault {
     /// The entries to keep do not lead to the present text, or the changes of a [`Changeset`](crate::undo::Changeset)
     /// do not fit the text of the line.
     NotReplaying,
-    /// The text would get longer than the limit, or one to be saved has 4 GiB or more.
+    /// The text would get longer than the limit, at its end or on the way: the whole session is as it was. Or one to be
+    /// saved has 4 GiB or more.
     NoRoom,
     /// The call takes no such number, or no such movement.
     NoSuchNumber,

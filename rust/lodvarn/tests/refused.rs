@@ -11,8 +11,8 @@ mod refusing;
 
 fn session() -> Session {
     let text = "one two three ".repeat(20);
-    let session = Session::builder().text(&text).no_limit();
-    let mut session = session.keeps_undone(true).open().expect("a session opens");
+    let session = Session::builder().text(&text).keeps_undone(true);
+    let mut session = session.open().expect("a session opens");
     session.keep(&"kept ".repeat(30)).expect("it is kept");
     let word = Movement::BackwardWord(1, Word::Emacs);
     assert_eq!(session.kill(word), Ok(true));
@@ -29,11 +29,29 @@ fn sessions_say_that_memory_is_refused() {
             vec![$((stringify!($call), Box::new(|s: &mut Session| s.$call($($given),*).map(drop)) as _)),*]
         };
     }
+    let of_several: Vec<Call> = vec![
+        (
+            "set_text",
+            Box::new(|s| s.insert('-', 1).and_then(|_| s.set_text(0, text))),
+        ),
+        (
+            "transpose_words",
+            Box::new(|s| s.transpose_words(1).map(drop)),
+        ),
+        (
+            "change_case",
+            Box::new(|s| s.set_pos(0).and(s.change_case(Case::Uppercase)).map(drop)),
+        ),
+        ("indent", Box::new(|s| s.indent(Movement::WholeLine, 200))),
+        (
+            "yank_pop",
+            Box::new(|s| s.yank(1).and_then(|_| s.yank_pop()).map(drop)),
+        ),
+    ];
     let calls: Vec<Call> = calls![
         restart(text),
         insert('漢', 900),
         paste(text, 3),
-        set_text(0, text),
         insert_at(3, text),
         replace(0..3, text),
         delete_range(0..9),
@@ -46,9 +64,6 @@ fn sessions_say_that_memory_is_refused() {
         copy(Movement::WholeBuffer),
         covers(0, Movement::WholeBuffer),
         yank(9),
-        transpose_words(1),
-        change_case(Case::Uppercase),
-        indent(Movement::WholeLine, 200),
         begin_group(),
         end_group(),
         undo(1),
@@ -61,10 +76,18 @@ fn sessions_say_that_memory_is_refused() {
         // What was undone waits, or is kept beside the kill.
         assert!(s.can_redo() || s.entries() >= 3);
     };
-    let counted = calls
+    // One that was refused the marks of the group of its changes is done all the same.
+    let grouped = |s: &mut Session| {
+        let is_group = s.reopen_group();
+        s.end_group()?;
+        is_group.then_some(()).ok_or(Fault::NoMemory)
+    };
+    let of_several = of_several
         .into_iter()
-        .map(|(what, call)| refuse(what, session, call, left));
-    let counted: Vec<_> = counted.collect();
+        .map(|(what, call)| refuse(what, session, |s| call(s).and_then(|()| grouped(s)), left));
+    let calls = calls.into_iter();
+    let of_one = calls.map(|(what, call)| refuse(what, session, call, left));
+    let counted: Vec<_> = of_several.chain(of_one).collect();
     assert!(counted.iter().sum::<usize>() > 40, "{counted:?}");
 }
 

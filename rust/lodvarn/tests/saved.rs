@@ -69,5 +69,6 @@ fn a_random_session_is_saved_at_any_time() {
         assert_eq!(command(&mut loaded, &mut same), answer, "command {it}");
         assert_eq!(seen(&loaded), seen(&session), "command {it}");
         assert_eq!(loaded.to_bytes(), session.to_bytes(), "command {it}");
+        assert!(Some(session.text().len()) <= session.options().limit);
     }
 }

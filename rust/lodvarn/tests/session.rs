@@ -1,7 +1,7 @@
 //! What a session has beside the calls of scripts: how it is built, what it refuses, where it may go, and the guards of
 //! groups.
 use lodvarn::{
-    At, CharSearch, Fault, Group, Inserted, Mode, Movement, Options, Screen, Session, Word,
+    At, Case, CharSearch, Fault, Group, Inserted, Mode, Movement, Options, Screen, Session, Word,
 };
 use std::panic::{catch_unwind, AssertUnwindSafe};
 
@@ -9,6 +9,11 @@ use std::panic::{catch_unwind, AssertUnwindSafe};
 fn opened(text: &str) -> Session {
     let session = Session::builder().text(text).limit(64).open();
     session.expect("a session opens")
+}
+
+/// The texts of its ring, the current one first.
+fn ring(session: &Session) -> Vec<&str> {
+    (0..).map_while(|back| session.ring_text(back)).collect()
 }
 
 #[track_caller]
@@ -22,14 +27,12 @@ fn a_session_is_as_it_was_built() -> Result<(), Fault> {
     let short = new().text(rocket).limit(12).ring_size(0);
     // The builder, the cursor, the limit, the column of the cursor, and the text once a kill of all is yanked.
     let rows = [
-        (new(), 0, Some(4096), 0, ""),
-        (new().text(rocket), 11, Some(4096), 2, rocket),
-        (new().pos(0).text(rocket), 0, Some(4096), 0, rocket),
+        (new(), 0, None, 0, ""),
+        (new().text(rocket), 11, None, 2, rocket),
+        (new().pos(0).text(rocket), 0, None, 0, rocket),
         (short.clone(), 11, Some(12), 2, ""),
         (short.clone().mode(Mode::WcWidth), 11, Some(12), 4, ""),
         (short.mode(Mode::NoZwj), 11, Some(12), 4, ""),
-        (new().no_limit(), 0, None, 0, ""),
-        (new().text("ab").limit(1), 2, Some(2), 2, "ab"),
     ];
     for (built, pos, limit, column, yanked) in rows {
         let mut session = built.open()?;
@@ -49,19 +52,46 @@ fn options_are_those_that_were_set() -> Result<(), Fault> {
     (options.mode, options.prompt) = (Mode::NoZwj, 3);
     (options.limit, options.ring_size) = (Some(20), 1);
     (options.max_entries, options.max_bytes) = (Some(5), Some(50));
-    (options.max_ring_bytes, options.limit_holds) = (Some(9), true);
-    options.keeps_undone = true;
+    (options.max_ring_bytes, options.keeps_undone) = (Some(9), true);
     let built = Session::builder().mode(Mode::NoZwj).prompt(3).limit(20);
     let built = built.ring_size(1).max_entries(5).max_bytes(50);
-    let built = built.max_ring_bytes(9).limit_holds(true);
-    let mut session = built.keeps_undone(true).open()?;
+    let mut session = built.max_ring_bytes(9).keeps_undone(true).open()?;
     assert_eq!(session.options(), options);
-    options.keeps_undone = false;
+    (options.keeps_undone, options.ring_size) = (false, 2);
     (options.mode, options.limit, options.max_bytes) = (Mode::WcWidth, None, None);
     session.set_options(&options)?;
     assert_eq!(session.options(), options);
-    options.ring_size = 2;
-    assert_eq!(session.set_options(&options), Err(Fault::NoSuchNumber));
+    Ok(())
+}
+
+#[test]
+fn a_ring_changes_its_size() -> Result<(), Fault> {
+    // A size for a ring with the texts a, b and c, those that it has then, and those once d is kept too, all in one.
+    let rows = [
+        (0, "", ""),
+        (1, "c", "d"),
+        (2, "cb", "dc"),
+        (3, "cba", "dcb"),
+        (4, "cba", "dcba"),
+    ];
+    for (size, left, later) in rows {
+        let mut session = Session::builder().ring_size(3).open()?;
+        for text in ["a", "b", "c"] {
+            session.keep(text)?;
+        }
+        let loaded = Session::from_bytes(&session.to_bytes()?)?;
+        for mut session in [session, loaded] {
+            let mut options = session.options();
+            options.ring_size = size;
+            session.set_options(&options)?;
+            assert_eq!(
+                (ring(&session).concat(), session.options()),
+                (left.into(), options)
+            );
+            session.keep("d")?;
+            assert_eq!(ring(&session).concat(), later, "size {size}");
+        }
+    }
     Ok(())
 }
 
@@ -80,8 +110,7 @@ fn a_session_begins_anew_with_its_ring() -> Result<(), Fault> {
     session.yank(1)?;
     assert_eq!(session.yank_pop(), Ok(Inserted::AtEnd));
     session.keep("c")?;
-    let texts: Vec<_> = (0..).map_while(|back| session.ring_text(back)).collect();
-    assert_eq!(texts, ["c", "b", "two"]);
+    assert_eq!(ring(&session), ["c", "b", "two"]);
     session.clear_ring();
     assert_eq!(session.ring_count(), 0);
     Ok(())
@@ -93,6 +122,8 @@ fn what_is_refused_says_why_and_changes_nothing() {
         let opened = Session::builder().text("é").pos(pos).open();
         assert_eq!(opened.map(drop), Err(Fault::BadPlace), "at {pos}");
     }
+    let opened_short = Session::builder().text("é").limit(1).open();
+    assert_eq!(opened_short.map(drop), Err(Fault::NoRoom));
     let mut session = opened("aé");
     for place in [2, 4] {
         assert_eq!(session.slice(place..3), Err(Fault::BadPlace));
@@ -166,15 +197,54 @@ fn a_count_of_0_does_nothing() -> Result<(), Fault> {
     Ok(())
 }
 
+/// Sets the limit of a session.
+fn limit(session: &mut Session, limit: usize) -> Result<(), Fault> {
+    let mut options = session.options();
+    options.limit = Some(limit);
+    session.set_options(&options)
+}
+
 #[test]
-fn what_has_no_room_or_would_drop_the_undone_is_not_done() -> Result<(), Fault> {
-    let mut session = Session::builder().limit(4).open()?;
-    session.keep("too long")?;
-    session.keep("a")?;
-    session.yank(1)?;
-    assert_eq!(session.yank_pop(), Err(Fault::NoRoom));
-    assert!(session.last_was_yank());
-    stands(&session, "a", 1);
+fn what_has_no_room_changes_nothing() -> Result<(), Fault> {
+    type Call = fn(&mut Session) -> Result<(), Fault>;
+    let calls: [Call; 14] = [
+        |s| s.insert('x', 1).map(drop),
+        |s| s.paste("x", 1).map(drop),
+        |s| s.yank(1).map(drop),
+        |s| s.yank_pop().map(drop),
+        |s| s.set_text(0, "ten bytes!"),
+        |s| s.insert_at(0, "x").map(drop),
+        |s| s.replace(0..1, "xy"),
+        |s| s.transpose_words(1).map(drop),
+        |s| s.change_case(Case::Uppercase).map(drop),
+        |s| s.indent(Movement::WholeLine, 1),
+        |s| s.undo(9).map(drop),
+        |s| s.abandon_group().map(drop),
+        |s| s.restart("ten bytes!"),
+        |s| limit(s, 8),
+    ];
+    let mut full = Session::builder().text("words ŉ, and more").open()?;
+    full.keep("longer").and(full.keep("-"))?;
+    full.begin_group()?;
+    full.delete_range(8..18).and(full.set_pos(6))?;
+    full.yank(1).and(limit(&mut full, 9))?;
+    stands(&full, "words -ŉ", 7);
+    let mut undone = Session::builder().keeps_undone(true).open()?;
+    undone.paste("one", 1).and(undone.undo(1))?;
+    limit(&mut undone, 2)?;
+    let calls_undone: [Call; 2] = [|s| s.redo().map(drop), |s| s.insert('x', 3).map(drop)];
+    for (session, calls) in [(&mut full, &calls[..]), (&mut undone, &calls_undone[..])] {
+        let before = session.to_bytes()?;
+        for (row, call) in calls.iter().enumerate() {
+            assert_eq!(call(session), Err(Fault::NoRoom), "row {row}");
+            assert_eq!(session.to_bytes().as_ref(), Ok(&before), "row {row}");
+        }
+    }
+    Ok(())
+}
+
+#[test]
+fn a_group_is_not_reopened_before_what_is_kept() -> Result<(), Fault> {
     for keeps in [true, false] {
         let mut session = Session::builder().keeps_undone(keeps).open()?;
         session.group()?.insert('a', 1)?;
@@ -239,7 +309,7 @@ fn a_guard_closes_what_was_begun_in_it_alone() -> Result<(), Fault> {
         (|_| Ok(()), false, 1),
         (|s| s.paste("b", 1).map(drop), true, 1),
         (deeper, true, 1),
-        // this takes back its begin
+        // an undo stays in it
         (|s| s.paste("b", 1).and(s.undo(2)).map(drop), false, 1),
         (|s| s.end_all_groups().map(drop), false, 0),
         (|s| s.abandon_group().map(drop), false, 1),
@@ -266,6 +336,61 @@ fn a_guard_closes_what_was_begun_in_it_alone() -> Result<(), Fault> {
             stands(&session, "-", 1);
         }
     }
+    Ok(())
+}
+
+#[test]
+fn an_edit_is_one_unit() -> Result<(), Fault> {
+    type Edit = fn(&mut Session) -> Result<(), Fault>;
+    // An edit on "one two", right before "two", and the text that it leaves.
+    let rows: [(Edit, &str); 7] = [
+        (|s| s.set_text(1, "three"), "three"),
+        (|s| s.transpose_chars().map(drop), "onet wo"),
+        (|s| s.transpose_words(1).map(drop), "two one"),
+        (|s| s.change_case(Case::Uppercase).map(drop), "one TWO"),
+        (
+            |s| s.indent(Movement::WholeLine, 33),
+            "                                 one two",
+        ),
+        (|s| s.yank(1).and(s.yank_pop()).map(drop), "one -two"),
+        (
+            |s| s.yank(1).and(s.yank_pop()).and(s.yank_pop()).map(drop),
+            "one xtwo",
+        ),
+    ];
+    for (edit, left) in rows {
+        let mut session = Session::builder().text("one two").pos(4).open()?;
+        for text in ["x", "-", "+"] {
+            session.keep(text)?;
+        }
+        edit(&mut session)?;
+        assert_eq!(session.text(), left);
+        assert_eq!(session.undo(1), Ok(true));
+        stands(&session, "one two", 4);
+        assert_eq!((session.entries(), session.redo()), (0, Ok(true)));
+        assert_eq!((session.text(), session.can_redo()), (left, false));
+    }
+    Ok(())
+}
+
+#[test]
+fn an_undo_stays_in_its_group() -> Result<(), Fault> {
+    let mut session = opened("-");
+    session.paste("a", 1)?;
+    let mut group = session.group()?;
+    group.paste("b", 1)?;
+    group.transpose_chars()?;
+    stands(&group, "-ba", 3);
+    assert_eq!((group.undo(9), group.undo(9)), (Ok(true), Ok(false)));
+    stands(&group, "-a", 2);
+    assert_eq!(
+        (group.level(), group.can_undo(), group.redo()),
+        (1, false, Ok(true))
+    );
+    drop(group);
+    stands(&session, "-ab", 3);
+    assert_eq!(session.undo(1), Ok(true));
+    stands(&session, "-a", 2);
     Ok(())
 }
 

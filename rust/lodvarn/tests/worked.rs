@@ -1,8 +1,9 @@
-//! The worked scripts of the repository's one table, by `run_script` and by the calls of a session; and that each
-//! movement of a session is what the word of a script is.
-mod typed;
-
+//! The worked scripts of the repository's one table; and that each call of a session, and each movement, is what the word
+//! of a script is.
+use lodvarn::Direction::{Backward, Forward};
 use lodvarn::{first_cluster, last_cluster, run_script, width, Cluster, Position, Session};
+use lodvarn::{At, Case, CharSearch, Fault, Movement, Word};
+use std::fmt::Debug;
 use std::process::Command;
 
 /// The bytes that a text of C stands for.
@@ -17,9 +18,9 @@ fn bytes_of(literal: &str) -> Vec<u8> {
     bytes
 }
 
-/// What each script of the table shows, the script, what it prints, and whether each of its lines has a call.
-fn rows() -> Vec<([Vec<u8>; 3], bool)> {
-    let program = concat!(env!("CARGO_MANIFEST_DIR"), "/../../clients/rows.py");
+/// What each script of the table shows, the script, and what it prints.
+fn rows() -> Vec<[Vec<u8>; 3]> {
+    let program = concat!(env!("CARGO_MANIFEST_DIR"), "/../../tests/rows.py");
     let ran = Command::new("python3").arg(program).output();
     let ran = ran.expect("python3 runs");
     assert!(ran.status.success(), "{ran:?}");
@@ -27,8 +28,7 @@ fn rows() -> Vec<([Vec<u8>; 3], bool)> {
     let lines = table.lines().filter(|line| line.starts_with("    {"));
     // What stands in a text has no quotation mark.
     let parts = lines.map(|line| line.split('"').collect::<Vec<_>>());
-    let row = |it: Vec<&str>| ([1, 3, 5].map(|i| bytes_of(it[i])), it[6] == ", 1},");
-    parts.map(row).collect()
+    parts.map(|it| [1, 3, 5].map(|i| bytes_of(it[i]))).collect()
 }
 
 /// The reads agree with each other and with the text.
@@ -59,40 +59,202 @@ fn reads_agree(s: &Session) {
 fn scripts_print() {
     let rows = rows();
     assert!(rows.len() > 150, "{} rows", rows.len());
-    for ([what, script, wanted], has_calls) in rows {
+    for [what, script, wanted] in rows {
         let what = String::from_utf8_lossy(&what);
         assert_eq!(run_script(&script).as_ref(), Ok(&wanted), "{what}");
-        if has_calls {
-            let script = String::from_utf8(script).expect("it has a meaning");
-            let (printed, session) = typed::run(&script);
-            assert_eq!(printed, String::from_utf8_lossy(&wanted), "{what}");
-            reads_agree(&session);
-        }
     }
 }
 
-#[test]
-fn movements_and_numbers_are_those_of_scripts() {
-    let words =
-        "line,home,eol,first,bchar 2,fchar 2,up 1,down 1,buf,bob,eob,nonblank,linesup 2,lines 2";
-    let searches = ["f", "t", "F", "T"].map(|kind| format!("find 1 {kind} x"));
-    let mut by: Vec<_> = words.split(',').map(str::to_string).collect();
-    by.extend(searches);
-    for sense in ["big", "emacs", "vi"] {
-        by.push(format!("bword 1 {sense}"));
-        by.extend(["start", "before", "after"].map(|stop| format!("fword 2 {stop} {sense}")));
-    }
-    let calls = ["move", "copy", "kill", "indent 2", "dedent 1"];
-    let with = |call: &'static str| by.iter().map(move |by| format!("{call} {by}"));
-    let lines = calls.into_iter().flat_map(with);
-    let cases = ["cap", "low", "up"].map(|case| format!("case {case}"));
-    let sides = ["f", "b"].map(|side| format!("kill home\nkillrange 0 1 {side}\nyank 1"));
-    for line in lines.chain(cases).chain(sides) {
-        for pos in [6, 12] {
-            let script = format!("text a\\n x.b,cD e.x,f-g\\n h\npos {pos}\n{line}\nyank 1\n");
-            let wanted = run_script(script.as_bytes());
-            let printed = typed::run(&script).0;
-            assert_eq!(wanted.as_deref(), Ok(printed.as_bytes()), "{script}");
+/// The words for movements, and what they name.
+fn movements() -> Vec<(String, Movement)> {
+    let plain = [
+        ("line", Movement::WholeLine),
+        ("home", Movement::BeginningOfLine),
+        ("eol", Movement::EndOfLine),
+        ("first", Movement::ViFirstPrint),
+        ("bchar 2", Movement::BackwardChar(2)),
+        ("fchar 2", Movement::ForwardChar(2)),
+        ("up 1", Movement::LineUp(1)),
+        ("down 1", Movement::LineDown(1)),
+        ("buf", Movement::WholeBuffer),
+        ("bob", Movement::BeginningOfBuffer),
+        ("eob", Movement::EndOfBuffer),
+        ("nonblank", Movement::FirstNonBlank),
+        ("linesup 2", Movement::WholeLinesUp(2)),
+        ("lines 2", Movement::WholeLinesDown(2)),
+        ("find 1 f x", search(CharSearch::Forward)),
+        ("find 1 t x", search(CharSearch::ForwardBefore)),
+        ("find 1 F x", search(CharSearch::Backward)),
+        ("find 1 T x", search(CharSearch::BackwardAfter)),
+    ];
+    let mut all = plain.map(|(words, by)| (words.to_string(), by)).to_vec();
+    let senses = [("big", Word::Big), ("emacs", Word::Emacs), ("vi", Word::Vi)];
+    let stops = [At::Start, At::BeforeEnd, At::AfterEnd];
+    for (sense, word) in senses {
+        all.push((format!("bword 1 {sense}"), Movement::BackwardWord(1, word)));
+        for (stop, at) in ["start", "before", "after"].into_iter().zip(stops) {
+            let by = Movement::ForwardWord(2, at, word);
+            all.push((format!("fword 2 {stop} {sense}"), by));
         }
     }
+    all
+}
+
+fn search(to: fn(char) -> CharSearch) -> Movement {
+    Movement::ViCharSearch(1, to('x'))
+}
+
+fn escaped(text: &str) -> String {
+    text.replace('\n', "\\n")
+}
+
+fn handed(text: String) -> String {
+    format!("text:{}", escaped(&text).replace(' ', "\\s"))
+}
+
+/// What a script prints for what a call returns.
+fn said(answer: impl Debug) -> String {
+    match format!("{answer:?}").as_str() {
+        "()" => "ok",
+        "AtEnd" => "true",
+        "Within" => "false",
+        "Nothing" => "none",
+        truth => truth,
+    }
+    .to_string()
+}
+
+type Plain = fn(&mut Session) -> Result<String, Fault>;
+type Call = Box<dyn Fn(&mut Session) -> Result<String, Fault>>;
+
+/// Whether a line is an edit of several changes. A call makes a group of them.
+fn is_of_several(line: &str) -> bool {
+    let words = ["update", "tchars", "twords", "case", "indent", "dedent"];
+    words.iter().any(|word| line.starts_with(word)) || line.ends_with("yankpop")
+}
+
+/// Calls by each movement, and the lines that they are.
+fn calls_by_movements() -> Vec<(String, Call)> {
+    let (mut all, truth) = (Vec::new(), |()| said(true));
+    for (words, by) in movements() {
+        let calls: [(_, Call); 5] = [
+            ("move", Box::new(move |s| Ok(said(s.move_by(by))))),
+            ("kill", Box::new(move |s| s.kill(by).map(said))),
+            ("indent 2", Box::new(move |s| s.indent(by, 2).map(truth))),
+            ("dedent 1", Box::new(move |s| s.dedent(by, 1).map(truth))),
+            (
+                "copy",
+                Box::new(move |s| Ok(s.copy(by)?.map_or("none".into(), handed))),
+            ),
+        ];
+        all.extend(calls.map(|(name, call)| (format!("{name} {words}"), call)));
+    }
+    all
+}
+
+/// The other calls, and the lines that they are.
+fn calls() -> Vec<(String, Call)> {
+    const ROWS: &[(&str, Plain)] = &[
+        ("pos 3", |s| s.set_pos(3).map(said)),
+        ("ins 2 x", |s| s.insert('x', 2).map(said)),
+        ("paste 2 xy", |s| s.paste("xy", 2).map(said)),
+        ("update 1 xyz", |s| s.set_text(1, "xyz").map(said)),
+        ("rep 2 4 xyz", |s| s.replace(2..4, "xyz").map(said)),
+        ("range 2 4", |s| s.delete_range(2..4).map(said)),
+        ("str 3 xy", |s| s.insert_at(3, "xy").map(said)),
+        ("del 2", |s| {
+            let text = s.slice(s.pos()..s.pos() + 2)?.to_string();
+            s.delete(2).map(|_| handed(text))
+        }),
+        ("back 2", |s| s.backspace(2).map(said)),
+        ("tchars", |s| s.transpose_chars().map(said)),
+        ("twords 1", |s| s.transpose_words(1).map(said)),
+        ("case cap", |s| s.change_case(Case::Capitalize).map(said)),
+        ("case low", |s| s.change_case(Case::Lowercase).map(said)),
+        ("case up", |s| s.change_case(Case::Uppercase).map(said)),
+        ("killline", |s| s.delete_by(Movement::EndOfLine).map(said)),
+        ("discline", |s| {
+            s.delete_by(Movement::BeginningOfLine).map(said)
+        }),
+        ("to 1 F x", |s| {
+            s.delete_by(search(CharSearch::Backward)).map(said)
+        }),
+        ("killrange 2 4 f", |s| s.kill_range(2..4, Forward).map(said)),
+        ("killrange 2 4 b", |s| {
+            s.kill_range(2..4, Backward).map(said)
+        }),
+        ("keep x", |s| s.keep("x").map(said)),
+        ("yank 2", |s| s.yank(2).map(said)),
+        ("yank 1\nyankpop", |s| s.yank(1).and(s.yank_pop()).map(said)),
+        ("begin", |s| {
+            let mark = s.entries();
+            s.begin_group().map(|()| format!("mark:{mark}"))
+        }),
+        ("begin\nendone", |s| {
+            s.begin_group().and(s.end_group()).map(said)
+        }),
+        ("end", |s| s.end_all_groups().map(said)),
+        ("reopen", |s| Ok(said(s.reopen_group()))),
+        ("abandon", |s| s.abandon_group().map(said)),
+        ("keepundone", |s| s.keep_undone().map(said)),
+        ("trunc 5", |s| s.truncate(5).map(said)),
+        ("part", |s| {
+            s.part();
+            Ok(said(()))
+        }),
+        // It stays in the group.
+        ("undo 1", |s| s.undo(2).map(said)),
+        ("undo 1\nredo", |s| s.undo(2).and(s.redo()).map(said)),
+        ("redo", |s| s.redo().map(said)),
+    ];
+    let boxed = |(line, call): &(&str, Plain)| (line.to_string(), Box::new(*call) as Call);
+    ROWS.iter().map(boxed).collect()
+}
+
+/// A session of such a text, cursor, ring and record that each call finds something to do, and the lines of a script for
+/// the same.
+fn begun(pos: usize) -> Result<(Session, String), Fault> {
+    let text = "a\n x.b,cD e.x,f-g\n h";
+    let mut s = Session::builder().text(text).pos(pos).open()?;
+    s.keep("one").and(s.keep("two"))?;
+    s.group()?.insert('z', 1)?;
+    s.begin_group()?;
+    s.paste("-", 1).and(s.paste("+", 1))?;
+    s.undo(1)?;
+    let lines = "keep one\nkeep two\nbegin\nins 1 z\nendone\nbegin\npaste 1 -\npaste 1 +\nundo 1";
+    let script = format!("text {}\npos {pos}\n{lines}\n", escaped(text));
+    Ok((s, script))
+}
+
+#[test]
+fn calls_are_lines_of_scripts() -> Result<(), Fault> {
+    // What is undone, redone and yanked afterwards tells the record and the ring.
+    let later: [Plain; 5] = [
+        |s| s.end_all_groups().map(said),
+        |s| s.undo(1).map(said),
+        |s| s.redo().map(said),
+        |s| s.undo(9).map(said),
+        |s| s.yank(1).map(said),
+    ];
+    for (line, call) in calls().into_iter().chain(calls_by_movements()) {
+        for pos in [6, 12] {
+            let (mut s, begun) = begun(pos)?;
+            let entries = s.entries();
+            let mut shown = format!("{} {} {}\n", call(&mut s)?, s.pos(), escaped(s.text()));
+            reads_agree(&s);
+            let mut line = line.clone();
+            if is_of_several(&line) {
+                line = format!("begin\n{line}\nendone");
+                let has_change = s.entries() > entries;
+                shown += &format!("{has_change} {} {}\n", s.pos(), escaped(s.text()));
+            }
+            for call in later {
+                shown += &format!("{} {} {}\n", call(&mut s)?, s.pos(), escaped(s.text()));
+            }
+            let script = format!("{begun}{line}\nend\nundo 1\nredo\nundo 9\nyank 1\n");
+            let printed = String::from_utf8(run_script(script.as_bytes())?).expect("it is UTF-8");
+            assert!(printed.ends_with(&shown), "{line}: {shown} {printed}");
+        }
+    }
+    Ok(())
 }

@@ -26,6 +26,11 @@ impl<T> Box<T> {
             Ok(Box(alloc::boxed::Box::from_raw(block)))
         }
     }
+
+    /// Rust's own box, for a caller outside the core. Nothing is copied.
+    pub fn into_std(self) -> alloc::boxed::Box<T> {
+        self.0
+    }
 }
 
 impl<T> Deref for Box<T> {

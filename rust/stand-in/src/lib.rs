@@ -21,6 +21,8 @@ pub mod simd;
 pub mod string;
 pub mod vec;
 
+pub use crate::string::{ascii_at, ascii_before, ascii_columns};
+
 /// Kit `std::default`.
 pub mod default {
     /// Kit `MadeWith`: a value where none is given.

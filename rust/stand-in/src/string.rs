@@ -214,6 +214,26 @@ impl fmt::Write for String {
     }
 }
 
+/// The character at a place before the end, if it is ASCII, and where it ends.
+#[inline]
+pub fn ascii_at(text: &str, at: usize) -> Option<(char, usize)> {
+    let byte = text.as_bytes()[at];
+    byte.is_ascii().then(|| (char::from(byte), at + 1))
+}
+
+/// The character that ends at a place after the start, if it is ASCII, and where it begins.
+#[inline]
+pub fn ascii_before(text: &str, end: usize) -> Option<(char, usize)> {
+    let byte = text.as_bytes()[end - 1];
+    byte.is_ascii().then(|| (char::from(byte), end - 1))
+}
+
+/// The width of a text that is one printable ASCII character: a column.
+#[inline]
+pub fn ascii_columns(text: &str) -> Option<usize> {
+    matches!(text.as_bytes(), [b' '..=b'~']).then_some(1)
+}
+
 /// Methods that the kit's `str` has with other arguments than Rust's, or that old Rust lacks.
 pub trait StrExt: AsRef<str> {
     /// Kit `str::repeat`: `n` copies. Refused too if their bytes are more than a `usize` counts.

@@ -6,6 +6,7 @@ use stand_in::alloc::{AllocError, Global};
 use stand_in::collections::VecDeque;
 use stand_in::prelude::{Box, StrExt, String, Vec};
 use stand_in::simd::Lanes;
+use stand_in::{ascii_at, ascii_before, ascii_columns};
 use std::alloc::{GlobalAlloc, Layout, System};
 use std::array::from_fn;
 use std::cell::{Cell, RefCell};
@@ -345,6 +346,29 @@ fn lanes_are_as_bytes() {
     ask_lanes::<64>();
     let both: Lanes<64> = Lanes::<32>::splat(1).then(Lanes::splat(2));
     assert_eq!(both.simd_eq(Lanes::splat(2)).to_bitmask(), !0 << 32);
+}
+
+#[test]
+fn an_ascii_character_is_found_at_both_its_ends() {
+    let text = "a\u{7f}é漢\0🚀b";
+    let ascii = |c: &char| c.is_ascii();
+    for (at, end) in (0..text.len()).zip(1..) {
+        let starts = text.get(at..).and_then(|it| it.chars().next());
+        let ends = text.get(..end).and_then(|it| it.chars().next_back());
+        assert_eq!(ascii_at(text, at), starts.filter(ascii).map(|c| (c, end)));
+        assert_eq!(ascii_before(text, end), ends.filter(ascii).map(|c| (c, at)));
+    }
+}
+
+#[test]
+fn a_printable_ascii_character_alone_takes_a_column() {
+    for c in '\0'..='\u{ff}' {
+        let is_printable = c == ' ' || c.is_ascii_graphic();
+        let (alone, after) = (c.to_string(), format!("a{c}"));
+        assert_eq!(ascii_columns(&alone), is_printable.then_some(1), "{c:?}");
+        assert_eq!(ascii_columns(&after), None, "{c:?}");
+    }
+    assert_eq!(ascii_columns(""), None);
 }
 
 #[test]

@@ -1,5 +1,5 @@
 -- The places where rows begin, and what is written of them.
-use Rattle.rl_base.proofs.Common.{◌≡◌, ℕ, zero, suc, ◌+◌, ◌-◌, ◌≤◌, ◌<◌, ◌++◌, All, max, Bool, true, false, nat_lt, List, [], ◌∷◌, length, take, replicate, slice_get, MatchOption, Some, same_Some, All-head, All-tail, append-nil, length-append, length-replicate, nat_tests, arith, refl, sym, ap, subst, ◌∙◌}
+use Rattle.rl_base.proofs.Common.{◌≡◌, ℕ, zero, suc, ◌+◌, ◌-◌, ◌≤◌, ◌<◌, ◌++◌, All, max, Bool, true, false, nat_lt, List, [], ◌∷◌, length, take, replicate, slice_get, MatchOption, Some, same_Some, All-head, All-tail, length-append, length-replicate, nat_tests, arith, refl, sym, ap, subst, ◌∙◌}
 use Rattle.std.specs.Prelude.{slice_set}
 use Rattle.rl_base.specs.Screen.{after, begins, cells, filled_after, is_within, stands, wrapped}
 use Rattle.rl_base.specs.declared.screen.Screen.{Screen}
@@ -138,13 +138,7 @@ filled-past row begun p more out le lt =
     let next : begun + 1 ≡ suc begun = omega arith in
     ap (λ n. filled_after n xs out) next ∙ fill-none begun p xs out lt ∙ sym (ap (λ l. filled_after begun (l ++ more) out) (next-row row begun p le))
 
--- how many rows have begun after those of the last place
-pub count-last : (begun row p : ℕ) → begun + length (replicate (row + 1 - begun) p ++ []) ≡ max begun (row + 1)
-count-last begun row p =
-    let len = ap length (append-nil (replicate (row + 1 - begun) p)) ∙ length-replicate (row + 1 - begun) p in
-    grind (arith, nat_tests, len)
-
--- and those of one place and of the places after it
+-- how many rows have begun after those of one place and of the places after it
 pub count-on : (begun row p : ℕ) (ys : List ℕ) → begun + length (replicate (row + 1 - begun) p ++ ys) ≡ max begun (row + 1) + length ys
 count-on begun row p ys =
     let len = length-append (replicate (row + 1 - begun) p) ys in

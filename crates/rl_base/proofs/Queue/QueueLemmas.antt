@@ -128,70 +128,6 @@ longer k rs now n spent text new le c u len same more =
     subst (λ t. Joins k rs now (record { report = n.report; texts = t } ∷ []) spent text new) own
     (joins k rs (n.report ∷ []) now spent text n.texts new le c (omega (arith, len), subst IsUtf8 (sym own) u, none) same more)
 
--- the newest report, whose texts are the last
-record Newest (k : ℕ) (rs : List Report) (r : Report) (bytes : List ℕ) : Type 0 where
-  front : List ℕ
-  own : List ℕ
-  both : bytes ≡ front ++ own
-  len : length own ≡ bytes_kept k r
-  cuts : Cuts k rs front
-  utf8 : IsUtf8 own
-
-newest : (k : ℕ) (rs : List Report) (r : Report) (bytes : List ℕ) → Cuts k (rs ++ r ∷ []) bytes → Newest k rs r bytes
-newest k [] r bytes c = record {
-  front = [];
-  own = bytes;
-  both = refl;
-  len = omega (arith, c.0, length-drop (bytes_kept k r) bytes, ap length c.2);
-  cuts = refl;
-  utf8 = Cuts-IsUtf8 k (r ∷ []) bytes c;
-}
-newest k (x ∷ xs) r bytes c =
-    let n = bytes_kept k x in
-    let head = take n bytes in
-    let len = length-take-le n bytes c.0 in
-    let rest = newest k xs r (drop n bytes) c.2 in
-    record {
-      front = head ++ rest.front;
-      own = rest.own;
-      both = sym (take-append-drop n bytes) ∙ ap (λ t. head ++ t) rest.both ∙ sym (append_assoc head rest.front rest.own);
-      len = rest.len;
-      cuts = rw (take_at head rest.front n len, drop_at head rest.front n len) (omega (arith, len, length-append head rest.front), c.1, rest.cuts);
-      utf8 = rest.utf8;
-    }
-
--- the newest report and its texts are taken off
-pub record Off (k : ℕ) (all rs : List Report) (r : Report) (spent : ℕ) (text : List ℕ) : Type 0 where
-  pub fits : bytes_kept k r ≤ length text
-  pub at : IsCharBoundary text (length text - bytes_kept k r)
-  pub order : spent ≤ length (take (length text - bytes_kept k r) text)
-  pub cuts : Cuts k rs (drop spent (take (length text - bytes_kept k r) text))
-  pub waits : notes k rs (drop spent (take (length text - bytes_kept k r) text)) ≡ take (length (notes k all (drop spent text)) - 1) (notes k all (drop spent text))
-
-pub off : (k : ℕ) (all rs : List Report) (r : Report) (spent : ℕ) (text : List ℕ) → all ≡ rs ++ r ∷ [] → spent ≤ length text → Cuts k all (drop spent text) → Off k all rs r spent text
-off k all rs r spent text same le c =
-    let last = newest k rs r (drop spent text) (subst (λ l. Cuts k l (drop spent text)) same c) in
-    let head = take spent text in
-    let left = length text - bytes_kept k r in
-    let len : length head ≡ spent = length-take-le spent text le in
-    let whole : text ≡ (head ++ last.front) ++ last.own =
-    sym (take-append-drop spent text) ∙ ap (λ t. head ++ t) last.both ∙ sym (append_assoc head last.front last.own) in
-    let total : length text ≡ length (head ++ last.front) + bytes_kept k r =
-    ap length whole ∙ length-append (head ++ last.front) last.own ∙ ap (λ n. length (head ++ last.front) + n) last.len in
-    let kept : take left text ≡ head ++ last.front = ap (take left) whole ∙ take_at (head ++ last.front) last.own left (omega (arith, total)) in
-    let rest : drop spent (take left text) ≡ last.front = ap (drop spent) kept ∙ drop_at head last.front spent len in
-    let older = notes k rs last.front in
-    let more : notes k all (drop spent text) ≡ older ++ notes k (r ∷ []) last.own =
-    ap₂ (notes k) same last.both ∙ notes-append k rs (r ∷ []) last.front last.own last.cuts in
-    record {
-      fits = omega (arith, total);
-      at = subst (IsCharBoundary text) (omega (arith, total)) (IsCharBoundary-at_seam text (head ++ last.front) last.own whole last.utf8);
-      order = omega (arith, len, ap length kept, length-append head last.front);
-      cuts = rw rest last.cuts;
-      waits = ap (notes k rs) rest ∙ sym (ap (λ l. take (length l - 1) l) more
-          ∙ take_at older (notes k (r ∷ []) last.own) _ (omega (arith, length-append older (notes k (r ∷ []) last.own))));
-    }
-
 -- where texts wait, a report does
 pub Cuts-some : (k : ℕ) (rs : List Report) (bytes : List ℕ) → Cuts k rs bytes → 0 < length bytes → 0 < length rs
 Cuts-some k [] bytes none some = absurd (omega (arith, ap length none, some))
@@ -256,14 +192,6 @@ pub ruleset cutting = (at_spent, ends)
 
 -- reports as one, in two parts
 pub ruleset joining = (reports_of-notes, fold-append)
-
--- room that is kept, and kept again
-pub KeepsRoom-more : (old now new : Notes) → KeepsRoom old now → KeepsRoom now new → KeepsRoom old new
-KeepsRoom-more old now new h k =
-    record { text_room = k.text_room ∙ h.text_room; places = omega (arith, h.places, k.places); bytes = omega (arith, h.bytes, k.bytes) }
-
--- what fewer reports are
-pub ruleset shortened = (take_all, length-take-le, take-take, KeepsRoom-more)
 
 -- the notes once cursors were told to the last report
 pub ruleset notes_told = (notes-told, Cuts-told)

@@ -82,10 +82,6 @@ newlines-append xs ys = sum_by-append (λ b. cond (is_newline b) 1 0) xs ys
 pub newlines-take : (text : List ℕ) (n : ℕ) → count_by is_newline (take n text) ≤ count_by is_newline text
 newlines-take text n = omega (arith, newlines-append (take n text) (drop n text), ap (count_by is_newline) (take-append-drop n text))
 
-pub newlines-slice : (text : List ℕ) (from to : ℕ) → count_by is_newline (slice_range text from to) ≤ count_by is_newline text
-newlines-slice text from to =
-    omega (arith, newlines-take (drop from text) (to - from), newlines-append (take from text) (drop from text), ap (count_by is_newline) (take-append-drop from text))
-
 -- ---- a range of a text gives way to a part
 pub newlines-front : (text : List ℕ) (from to : ℕ) → from ≤ to → count_by is_newline (take to text) ≡ count_by is_newline (take from text) + count_by is_newline (slice_range text from to)
 newlines-front text from to le =

@@ -1,5 +1,5 @@
 -- Exchanging two ranges: the plan by its halves, and the places between them.
-use Rattle.rl_line.proofs.Common.{HasRoom, RoomyLine, ◌≡◌, ℕ, ◌+◌, ◌-◌, ◌≤◌, [], ◌∷◌, ◌++◌, List, length, take, drop, append_assoc, None, Bool, cond, true, false, slice_range, sym, ap, ap₂, subst, ◌∙◌, arith, length-between, option_and_then, length-take-le, drop-take, drop-append-le, insert_slice, remove_range, replace_range, IsCharBoundary, IsUtf8, Range, Forward, InsertStr, Delete, Line, Plan, Step, nothing, single, followed_by, answering, exchange_plan, text_in, are_two, clusters_around, end_of_cluster, exchanged_text, first_word, meeting_place, second_word, only_move, pull_back_plan, pulled_back, swap_plan, transpose_chars_plan, transpose_words_plan}
+use Rattle.rl_line.proofs.Common.{HasRoom, RoomyLine, ◌≡◌, ℕ, ◌+◌, ◌-◌, ◌≤◌, [], ◌∷◌, ◌++◌, List, length, take, drop, append_assoc, None, false, slice_range, sym, ap, ap₂, subst, ◌∙◌, arith, length-between, option_and_then, length-take-le, drop-take, drop-append-le, insert_slice, remove_range, replace_range, IsCharBoundary, IsUtf8, Range, Forward, InsertStr, Delete, Line, Step, nothing, single, followed_by, exchange_plan, text_in, are_two, clusters_around, end_of_cluster, exchanged_text, first_word, meeting_place, second_word, only_move, pull_back_plan, pulled_back, swap_plan, transpose_chars_plan, transpose_words_plan}
 use Rattle.rl_line.proofs.Lines.RoomyLemmas.{length-swapped, HasRoom-moved}
 use Rattle.rl_base.proofs.Texts.TextLemmas.{slice-before, take-before, removed-is_replaced, IsCharBoundary-before, IsCharBoundary-at_removal, IsCharBoundary-past_replacement, IsCharBoundary-after, IsUtf8-replaced}
 use Rattle.rl_line.proofs.Plans.PlanLemmas.{Done-nothing, Done-followed, Done-single, Halted-after, Halted-at_first, Done-steps, Halted-back, Halted-front, Taken-append}
@@ -94,9 +94,6 @@ exchanged line front after x e le within =
 
 pub transpose_chars-nothing : (line : Line) → None ≡ option_and_then (clusters_around line.text) (meeting_place line) → transpose_chars_plan line ≡ nothing line false
 transpose_chars-nothing line e = ap (pulled_back line) (sym e)
-
-abbrev transposed : Line → Range ℕ → Range ℕ → Plan Bool
-transposed line first second = cond (are_two first second) (answering true (swap_plan line first second)) (only_move first.end)
 
 pub transpose-stays : (line : Line) (n : ℕ) (first second : Range ℕ) → first ≡ first_word line n → second ≡ second_word line n → are_two first second ≡ false
     → transpose_words_plan line n ≡ only_move first.end

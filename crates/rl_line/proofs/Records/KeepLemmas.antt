@@ -53,11 +53,12 @@ ends_past (suc n) xs (y ∷ ys) m l =
 pub few-open : (n k : ℕ) (xs : List Change) (ps : List Entry) → drop k (map entry_of xs) ≡ ps → IsMatched ps → n ≡ level ps → n ≤ length xs
 few-open n k xs ps e m l = omega (arith, l, level-within ps m, ap length e, length-drop k (map entry_of xs), length-map xs entry_of)
 
-view-of : (len : ℕ) (es : List Entry) (point : Option ℕ) → len ≡ length es → cut_at len es Parted point ≡ parted (arrived es [] point)
-view-of len es point e =
-    ap (λ n. cut_at n es Parted point) e
-    ∙ ap (λ l. record { recorded = l; pending = drop (length es) es; fresh = Parted; saved = point }) (take_all (length es) es (omega arith))
-    ∙ ap (λ l. record { recorded = es; pending = l; fresh = Parted; saved = point }) (drop_all (length es) es (omega arith))
+-- what a list of which all is recorded then is
+pub view-of : (len : ℕ) (es : List Entry) (fresh : Freshness) (point : Option ℕ) → len ≡ length es → cut_at len es fresh point ≡ record (arrived es [] point) { fresh = fresh }
+view-of len es fresh point e =
+    ap (λ n. cut_at n es fresh point) e
+    ∙ ap (λ l. record { recorded = l; pending = drop (length es) es; fresh = fresh; saved = point }) (take_all (length es) es (omega arith))
+    ∙ ap (λ l. record { recorded = es; pending = l; fresh = fresh; saved = point }) (drop_all (length es) es (omega arith))
 
 -- what the list of the code then is
 kept-list : (n k len : ℕ) (l now back : List Entry) (point point' : Option ℕ) → IsMatched (drop k l) → n ≡ level (drop k l)
@@ -70,7 +71,7 @@ kept-list n k len l now back point point' m e b g long p =
     let all : now ≡ first ++ (closed ++ turned_all closed) =
     g ∙ ap (λ x. end_times n x ++ map flipped (reverse back)) (sym (take-append-drop k l)) ∙ ap (λ x. x ++ map flipped (reverse back)) (ends_past n first after m (sym e))
     ∙ ap (λ x. (first ++ closed) ++ map flipped (reverse x)) b ∙ ap (λ x. (first ++ closed) ++ x) (turned-twice closed) ∙ append_assoc first closed (turned_all closed) in
-    view-of len now point' long ∙ ap (λ x. parted (arrived x [] point')) all
+    view-of len now Parted point' long ∙ ap (λ x. parted (arrived x [] point')) all
     ∙ ap (λ j. parted (arrived (first ++ (end_times j after ++ turned_all (end_times j after))) [] point')) e
     ∙ ap (λ q. parted (arrived (first ++ there_and_back after) [] q)) (p ∙ ap (λ x. point_closed n x point) (sym (take-append-drop k l)))
 

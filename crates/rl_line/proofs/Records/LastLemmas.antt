@@ -42,18 +42,12 @@ pub fresh-past : (fresh : Freshness) (event : Event) (xs : List Entry) (y : Entr
     → freshness_of fresh event (xs ++ y ∷ ys) ≡ freshness_of fresh event (y ∷ ys)
 fresh-past fresh event = skips (freshness_of fresh event) (λ e d ds. refl)
 
--- what joins in a record joins, and what joins nothing does not join there
+-- what joins in a record joins
 pub joined_in-joined : (fresh : Freshness) (event : Event) (e joint : Entry) → joined_in fresh event e ≡ Some joint → joined event e ≡ Some joint
 joined_in-joined is.Parted event e joint h = cc
 joined_in-joined is.Stale event e joint h = h
 joined_in-joined is.Added event e joint h = h
 joined_in-joined (is.Joined p) event e joint h = h
-
-pub joined_in-none : (fresh : Freshness) (event : Event) (e : Entry) → joined event e ≡ None → joined_in fresh event e ≡ None
-joined_in-none is.Parted event e h = refl
-joined_in-none is.Stale event e h = h
-joined_in-none is.Added event e h = h
-joined_in-none (is.Joined p) event e h = h
 
 -- where a record is not parted, what joins is the same as alone, and where it is, nothing joins
 pub joined_in-as : (fresh : Freshness) (event : Event) (e : Entry) → is_parted fresh ≡ false → joined_in fresh event e ≡ joined event e

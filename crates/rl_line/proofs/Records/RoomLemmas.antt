@@ -1,5 +1,5 @@
 -- Going over a record needs room only where a text on the way needs more than the first.
-use Rattle.rl_line.proofs.Common.{common_steps, ◌≡◌, ℕ, ◌+◌, ◌-◌, ◌^◌, ◌<◌, ◌≤◌, Bool, true, false, zero, suc, max, List, [], ◌∷◌, ◌++◌, length, length-append, map, drop, take, reverse, Option, Some, None, refl, sym, ap, subst, ◌∙◌, arith, nat_tests, get_or-append, drop-map, map-append, reverse-append, Any-push, map-map, Any, IsSome, get_or, nat_lt, option_and_then, IsUtf8, Event, replay, Change, Way, entry_to_undo, greatest_back_over, length_back, length_back_over, Line, NeedsRoom, Entry, Changed, bytes_ahead, bytes_back, event_of, inverse, new_text, old_text, unwind, line_back, texts_after, texts_ahead, texts_back, drop_all}
+use Rattle.rl_line.proofs.Common.{common_steps, ◌≡◌, ℕ, ◌+◌, ◌-◌, ◌^◌, ◌<◌, ◌≤◌, Bool, true, false, zero, suc, max, List, [], ◌∷◌, ◌++◌, length, length-append, map, drop, take, reverse, Option, Some, None, refl, sym, ap, subst, ◌∙◌, arith, nat_tests, get_or-append, drop-map, map-append, reverse-append, Any-push, map-map, Any, IsSome, get_or, nat_lt, option_and_then, IsUtf8, Event, replay, Change, Way, entry_to_undo, greatest_back_over, length_back, length_back_over, Line, NeedsRoom, Entry, Changed, bytes_ahead, bytes_back, event_of, inverse, new_text, old_text, unwind, line_back, texts_after, texts_ahead, texts_back, drop_all, cases_lt, inl, inr, leb, le-leb, lt-leb}
 use Rattle.rl_base.proofs.Texts.SwapLemmas.{Swaps, Swaps-Replace}
 use Rattle.rl_base.specs.Event.{apply}
 use Rattle.rl_line.proofs.Records.RecordLemmas.{through, unwind-IsUtf8, value_of}
@@ -94,6 +94,13 @@ on_the_way way xs m n long x lt e is =
     let same : length_back_over (drop m (map (entry_to_undo way) xs)) n ≡ length_back (entry_to_undo way x) long =
     ap (λ es. length_back_over es n) (drop-map (entry_to_undo way) m xs ∙ entries_from way xs m x lt e) ∙ ap (length_back (entry_to_undo way x)) (sym is) in
     omega (arith, length_back_over-within m (map (entry_to_undo way) xs) n, same)
+
+-- a text keeps to a limit over one change if it does after it
+pub within-one : (n going coming limit : ℕ) → n ≤ limit → leb coming (limit - (n - going)) ≡ leb (max n ((n - going) + coming)) limit
+within-one n going coming limit le = elim (cases_lt (limit - (n - going)) coming) [
+  | inl past ↦ lt-leb coming (limit - (n - going)) past ∙ sym (lt-leb (max n ((n - going) + coming)) limit (omega (arith, le, past)))
+  | inr within ↦ le-leb coming (limit - (n - going)) within ∙ sym (le-leb (max n ((n - going) + coming)) limit (omega (arith, le, within)))
+]
 
 -- a length past what a usize holds is more than the first
 pub past_a_usize : (way : Way) (xs : List Change) (m n long : ℕ) (x : Change) → m < length xs → x ≡ get_or xs m x → long ≡ length_back_over (map (entry_to_undo way) (drop (m + 1) xs)) n

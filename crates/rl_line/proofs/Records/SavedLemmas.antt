@@ -1,5 +1,5 @@
 -- The save point of a record: it stays as long as the entries before it do.
-use Rattle.rl_line.proofs.Common.{[], take_all, Begin, Bool, Cursors, End, Entry, Event, List, None, Option, Parted, Record, SavedAt, Some, Stale, StaysSaved, ap, append-nil, append_assoc, arith, arrived, begun, cond, cond_both, drop, end_one, end_times, ends_in_end, eqb-true, false, freshness_added, freshness_at, freshness_told, inl, inr, is_at, is_parted, is_saved, kept_of, kept_point, last_of, last_told, le-leb, leb-false, leb-true, length, length-append, length-take, nat_le, parted, point_closed, point_kept, point_past, redo_of, redone, refl, reopened, saved_here, subst, suc, sym, take, take-append-drop, take-append-le, true, truncated, undone, with_closed, with_cursors, zero, ℕ, ◌++◌, ◌+◌, ◌-◌, ◌<◌, ◌==◌, ◌∙◌, ◌∷◌, ◌≡◌, ◌≤◌, ◌⊎◌}
+use Rattle.rl_line.proofs.Common.{[], take_all, Begin, Bool, Cursors, End, Entry, Event, List, None, Option, Parted, Record, SavedAt, Some, Stale, StaysSaved, ap, append-nil, append_assoc, arith, arrived, begun, cond, cond_both, drop, end_one, end_times, ends_in_end, eqb-true, false, freshness_added, freshness_at, freshness_told, inl, inr, is_at, is_parted, is_saved, kept_of, kept_point, last_of, last_told, le-leb, leb-false, leb-true, length, length-append, length-take, nat_le, parted, point_closed, point_kept, redo_of, redone, refl, reopened, saved_here, subst, suc, sym, take, take-append-drop, take-append-le, true, truncated, undone, with_closed, with_cursors, zero, ℕ, ◌++◌, ◌+◌, ◌-◌, ◌<◌, ◌==◌, ◌∙◌, ◌∷◌, ◌≡◌, ◌≤◌, ◌⊎◌}
 use Rattle.std.proofs.lemmas.Bool.{eq-eqb}
 use Rattle.rl_line.specs.Record.{record_step, entries_of}
 use Rattle.rl_line.proofs.Records.JoinLemmas.{heard, step-Cursors, step-cases, told-stale}
@@ -20,22 +20,9 @@ kept-again a b (Some n) le = from (nat_le n a) refl
     from true h = kept-some b n (omega (arith, le, leb-true n a h))
     from false h = refl
 
--- a point that is kept is kept in more
-pub kept-more : (a b : ℕ) (point : Option ℕ) → a ≤ b → kept_point a point ≡ point → kept_point b point ≡ point
-kept-more a b point le e = ap (kept_point b) (sym e) ∙ kept-again a b point le ∙ e
-
 -- what was kept of so many entries is kept of them again
 pub kept-here : (len n : ℕ) (point now : Option ℕ) → n ≡ len → now ≡ kept_point n point → kept_point len now ≡ now
 kept-here len n point now long is = ap (kept_point len) is ∙ kept-again n len point (omega (arith, long)) ∙ sym is
-
-pub kept-past : (k len : ℕ) (point : Option ℕ) → kept_point len point ≡ point → kept_point (len - k) (point_past k point) ≡ point_past k point
-kept-past k len None e = refl
-kept-past k len (Some n) e = from (nat_le k n) (nat_le n len) refl e
-  where
-    from : (x y : Bool) → nat_le n len ≡ y → cond y (Some n) None ≡ Some n → kept_point (len - k) (cond x (Some (n - k)) None) ≡ cond x (Some (n - k)) None
-    from false y h e = refl
-    from true true h e = kept-some (len - k) (n - k) (omega (arith, leb-true n len h))
-    from true false h e = cc
 
 -- a record that came to some entries can't be told cursors
 pub told-at : (len : ℕ) (point : Option ℕ) → freshness_told (freshness_at len point) ≡ freshness_at len point
@@ -65,7 +52,7 @@ fits-in es l e = omega (arith, ap length e, length-take (length es) l)
 pub longer : (es l more : List Entry) (point : Option ℕ) → StaysIn es l point → StaysIn es (l ++ more) point
 longer es l more point s = elim s [ inl none ↦ inl none | inr p ↦ inr (p.0, take-append-le (length es) l more (fits-in es l p.1) ∙ p.1) ]
 
-shorter : (es front rest l : List Entry) (point : Option ℕ) → l ≡ front ++ rest → StaysIn es l point → StaysIn es front (kept_point (length front) point)
+pub shorter : (es front rest l : List Entry) (point : Option ℕ) → l ≡ front ++ rest → StaysIn es l point → StaysIn es front (kept_point (length front) point)
 shorter es front rest l point e s = elim s [
   | inl none ↦ inl (ap (kept_point (length front)) none)
   | inr p ↦ subst (λ o. StaysIn es front (kept_point (length front) o)) (sym p.0) (from (nat_le (length es) (length front)) refl p.1)

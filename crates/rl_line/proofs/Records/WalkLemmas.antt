@@ -192,7 +192,7 @@ Walks-Redone r now old new a d w =
     })
 
 -- ---- marks
-mark-leads : (text : List ℕ) → LeadsTo Begin text text × LeadsTo End text text
+pub mark-leads : (text : List ℕ) → LeadsTo Begin text text × LeadsTo End text text
 unfolding apply
 mark-leads text = (record { makes = refl; before = refl; after = refl }, record { makes = refl; before = refl; after = refl })
 

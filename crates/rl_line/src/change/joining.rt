@@ -1,18 +1,11 @@
 //! Changes that join: each call takes an event in where it joins the change, and answers what may be told of it then, or None
 //! where it does not. What was joined has no cursors yet.
-ghost use Rattle.std.specs.Prelude.{◌≡◌, [], ◌∷◌, None, Some, true, false, OnErr, OnOk, IfOk, IfErr, ◌+◌, ◌-◌, ◌<◌, ◌≤◌, ◌↔◌, IsSome, IfSome, get_or, is_some, length, map, nat_le};
-ghost use Rattle.std.specs.Option.{option_map};
-ghost use Rattle.std.specs.String.{string_bytes};
-ghost use Rattle.std.specs.Str.{IsUtf8};
-ghost use Rattle.rl_base.specs.Event.{InsertChar, Delete, Replace, apply};
+ghost use Rattle.std.specs.Prelude.{◌≡◌, IfOk, IfErr};
+ghost use Rattle.rl_base.specs.Event.{InsertChar, Delete, Replace};
 ghost use Rattle.rl_base.specs.declared.listeners.Direction.TheVariants.{Forward};
 ghost use Rattle.rl_base.specs.declared.listeners.Refusal.TheVariants.{NoMemory};
-ghost use Rattle.rl_line.specs.Plan.{NeverRefuses, listener_after};
-ghost use Rattle.rl_line.specs.Record.{bytes_back, cursors_of, entry_of, event_of, freshness_joined, freshness_told, inverse, is_parted, new_text, old_text, with_cursors, flipped, swapped};
-ghost use Rattle.rl_line.specs.Undo.{Reaches, count_over, cursor_after, cursor_told, cursor_stands, line_back, steps_ahead};
-ghost use Rattle.rl_line.specs.Walk.{WalksOver};
-ghost use Rattle.rl_line.specs.Units.{is_begin, is_change, is_end};
-ghost use Rattle.rl_line.specs.Change.{Outgrows, TakesIn, text_after, text_back, place, entry_to_undo, greatest_back_over, length_back, order, entries_to_undo, way_back};
+ghost use Rattle.rl_line.specs.Record.{entry_of};
+ghost use Rattle.rl_line.specs.Change.{TakesIn};
 
 use crate::change::{Change, Freshness, seldom};
 use rl_base::Refusal;

@@ -1,27 +1,25 @@
 //! What can be asked about a record and a line: whether undos and redos fit it.
-ghost use Rattle.std.specs.Prelude.{◌≡◌, ◌<◌, ◌≤◌, ◌↔◌, ℕ, [], ◌∷◌, map, min, nat_le, true, false, is_some, length, All, IsSome, Some, IfOk, IfErr, IfSome, OnOk, OnErr};
+ghost use Rattle.std.specs.Prelude.{◌≡◌, ◌↔◌, ℕ, map, nat_le, true, false, is_some, length, IsSome, None, Some, IfOk, IfErr, IfSome};
 ghost use Rattle.std.specs.Option.{option_map};
 ghost use Rattle.std.specs.String.{string_bytes};
-ghost use Rattle.rl_base.specs.Event.{InsertChar, InsertStr, Delete, Replace};
 ghost use Rattle.rl_base.specs.Text.{HasText};
-ghost use Rattle.rl_base.specs.declared.listeners.Direction.TheVariants.{Forward};
 ghost use Rattle.rl_base.specs.declared.listeners.Refusal.TheVariants.{NoMemory};
-ghost use Rattle.rl_line.specs.Forgetting.{forgotten};
-ghost use Rattle.rl_line.specs.Change.{entries_to_undo, greatest_ahead_over, greatest_back_over, longest_over};
-ghost use Rattle.rl_line.specs.Plan.{NeverRefuses};
-ghost use Rattle.rl_line.specs.Record.{IsOfKind, Record, entry_of, is_saved, last_insert, no_changes, parted, record_step, replays_to, saved_here};
-ghost use Rattle.rl_line.specs.Undo.{Abandoned, CopiesBack, GoesOver, LineOutOfRoom, OutOfRoom, Redone, StandsStill, TriesAhead, TriesBack, Undone, line_ahead, line_back, line_over, listener_ahead, listener_back, listener_over, texts_ahead, texts_back, texts_over, unit_of};
+ghost use Rattle.rl_line.specs.Change.{greatest_ahead_over, greatest_back_over, longest_over};
+ghost use Rattle.rl_line.specs.Record.{entry_of, last_insert, replays_to};
+ghost use Rattle.rl_line.specs.Undo.{CopiesBack, Tries, TriesAhead, TriesBack, line_ahead, line_back, line_over, unit_of};
 ghost use Rattle.rl_line.specs.Walk.{Walks};
-ghost use Rattle.rl_line.specs.Units.{BothMatched, IsMatched, adds_end, begun, ended, ended_one, ends_in_end, has_change, is_change, last_of, level, open_group, redo_of, reopened, truncated, with_closed, kept_undone, waits};
+ghost use Rattle.rl_line.specs.Units.{last_of, open_group, redo_of};
 
-use crate::change::{Change, Way, keeps_to, retraces, text_over};
+use crate::change::{Change, Way, copied, keeps_to, patch_over, retraces, text_over};
 use crate::changeset::Changeset;
 use crate::line_buffer::LineBuffer;
 use crate::{entries, units};
 use rl_base::{Refusal, RepeatCount};
+use std::alloc::Global;
 
 impl Changeset {
     /// Whether an undo of `n` would leave the line's limit as it is: whether the text keeps to it all the way.
+    #[inline(always)]
     pub fn undo_fits(&self, line: &LineBuffer, n: RepeatCount) -> bool
         ensures { result ≡ nat_le (greatest_back_over (last_of n self.now.recorded) (length line.now.text)) line.now.limit }
     {
@@ -40,15 +38,21 @@ impl Changeset {
     }
 
     /// Whether a redo would, as `undo_fits` tells it of an undo.
+    #[inline(always)]
     pub fn redo_fits(&self, line: &LineBuffer) -> bool
         ensures { result ≡ nat_le (greatest_ahead_over (redo_of self.now.pending) (length line.now.text)) line.now.limit }
     {
         self.way_fits(line, Way::Ahead, 1)
     }
 
+    // Mostly it is about one change alone, and then it costs no call.
+    #[inline(always)]
     fn way_fits(&self, line: &LineBuffer, way: Way, n: usize) -> bool
         ensures { result ≡ nat_le (longest_over way (unit_of way n self.now) (length line.now.text)) line.now.limit }
     {
+        if let Some(change) = self.alone(way, n) {
+            return change.keeps_to(way, line.len(), line.limit());
+        }
         keeps_to(self.unit(way, n), way, line.len(), line.limit())
     }
 
@@ -58,7 +62,10 @@ impl Changeset {
         ensures ok { IfOk result (λ text. option_map string_bytes text ≡ last_insert self.now.recorded) }
         ensures err { IfErr result (λ r. (r ≡ NoMemory) × HasText (last_insert self.now.recorded)) }
     {
-        entries::last_insert(self.recorded(), self.entries.allocator())
+        let Some(text) = last_text(self.recorded()) else {
+            return Ok(None);
+        };
+        Ok(Some(copied(self.entries.allocator(), text)?))
     }
 
     /// Whether all recorded changes can be taken back from the line's text, the last first, and each cursor that was
@@ -70,18 +77,7 @@ impl Changeset {
         ensures group { IfOk result (λ answer. answer ≡ true → IsSome (line_back (open_group self.now.recorded) line.now)) }
         ensures err { IfErr result (λ r. (r ≡ NoMemory) × TriesBack self.now.recorded line.now.text) }
     {
-        entries::lead(self.entries.allocator(), line, self.recorded(), Way::Back)
-    }
-
-    /// Whether an undo of `n` fits the line: whether its units can be taken back as `can_undo` asks it of all. It takes
-    /// time of these units, however long the text is: one change is compared with it, several are tried on a copy of the
-    /// part between the places that they touch.
-    pub fn can_undo_last(&self, line: &LineBuffer, n: RepeatCount) -> Result<bool, Refusal>
-        ensures ok { IfOk result (λ answer. answer ≡ is_some (line_back (last_of n self.now.recorded) line.now)) }
-        ensures err { IfErr result (λ r. (r ≡ NoMemory) × TriesBack (last_of n self.now.recorded) line.now.text) }
-    {
-        let unit = self.unit(Way::Back, usize::from(n));
-        entries::lead(self.entries.allocator(), line, unit, Way::Back)
+        lead(self.entries.allocator(), line, self.recorded(), Way::Back)
     }
 
     /// Whether all undone changes can be made again on the line's text, the last undone first, and each cursor that
@@ -92,17 +88,7 @@ impl Changeset {
         ensures unit { IfOk result (λ answer. answer ≡ true → IsSome (line_ahead (redo_of self.now.pending) line.now)) }
         ensures err { IfErr result (λ r. (r ≡ NoMemory) × TriesAhead self.now.pending line.now.text) }
     {
-        entries::lead(self.entries.allocator(), line, self.pending(), Way::Ahead)
-    }
-
-    /// Whether a redo fits the line: whether what it makes again can be made as `can_redo` asks it of all. It takes time
-    /// of that unit, as `can_undo_last` does.
-    pub fn can_redo_next(&self, line: &LineBuffer) -> Result<bool, Refusal>
-        ensures ok { IfOk result (λ answer. answer ≡ is_some (line_ahead (redo_of self.now.pending) line.now)) }
-        ensures err { IfErr result (λ r. (r ≡ NoMemory) × TriesAhead (redo_of self.now.pending) line.now.text) }
-    {
-        let unit = self.unit(Way::Ahead, 1);
-        entries::lead(self.entries.allocator(), line, unit, Way::Ahead)
+        lead(self.entries.allocator(), line, self.pending(), Way::Ahead)
     }
 
     /// Whether the record is one of the line's text: whether what is recorded leads to it and what was undone on from it,
@@ -145,4 +131,46 @@ impl Changeset {
             None => Ok(false),
         }
     }
+}
+
+// Whether a line can go over the entries that way, and each cursor that was told stands between two characters then. One
+// entry is compared with the text; several, if there is a change among them, are tried on a copy of the part that they touch.
+#[tactic(auto, using(crate::proofs::Records::LeadLemmas::led))]
+pub(super) fn lead(
+    alloc: Global,
+    line: &LineBuffer,
+    entries: &[Change],
+    way: Way,
+) -> Result<bool, Refusal>
+    ensures ok { IfOk result (λ answer. answer ≡ is_some (line_over way (map entry_of entries.now) line.now)) }
+    ensures err { IfErr result (λ r. (r ≡ NoMemory) × Tries way (map entry_of entries.now) line.now.text) }
+{
+    // So the proof knows that the cursor stands between two characters.
+    let _cursor = line.pos();
+    if entries.len() == 1 {
+        return Ok(entries[0].leads(line.as_str(), way));
+    }
+    if !units::has_change(entries) {
+        return Ok(true);
+    }
+    let text = patch_over(alloc, line.as_str(), entries, way, true)?;
+    Ok(text.is_some())
+}
+
+// What the last entry put in, Ends passed over.
+pub(super) fn last_text(entries: &[Change]) -> Option<&str>
+    ensures some { IfSome result (λ text. last_insert (map entry_of entries.now) ≡ Some text.now) }
+    ensures none { result ≡ None → last_insert (map entry_of entries.now) ≡ None }
+{
+    let mut left = entries.len();
+    while left > 0 {
+        left -= 1;
+        match &entries[left] {
+            Change::End => {}
+            Change::Insert(_, _, new) => return Some(new.as_str()),
+            Change::Replace(_, _, texts) => return Some(texts.after.as_str()),
+            Change::Begin | Change::Delete(_, _, _) => return None,
+        }
+    }
+    None
 }

@@ -1,10 +1,10 @@
 //! A record as bytes, and back.
-ghost use Rattle.std.specs.Prelude.{◌≡◌, ◌+◌, ◌++◌, List, ℕ, All, IfErr, IfOk, IfSome, OnOk, Option, Some, length, map};
+ghost use Rattle.std.specs.Prelude.{◌≡◌, ◌+◌, ◌++◌, List, ℕ, All, IfErr, IfOk, OnOk, Option, Some, length, map};
 ghost use Rattle.rl_base.specs.Saving.{IsOfPart, Loads};
 ghost use Rattle.rl_base.specs.declared.saving.LoadFault.TheVariants.{NoMemory};
 ghost use Rattle.rl_base.specs.declared.saving.SaveFault.TheVariants.{TooLong};
 ghost use Rattle.rl_line.specs.Record.{Entry, Record, entry_of, kept_point, new_text, old_text};
-ghost use Rattle.rl_line.specs.SavedRecord.{FitsEntry, IsSavedEntry, IsSavedRecord, entry_number, entry_numbers, fresh_number, kept_number, number_or_0, pair_or_0, point_number, record_numbers, saved_entries, saved_entry, saved_record};
+ghost use Rattle.rl_line.specs.SavedRecord.{FitsEntry, IsSavedEntry, IsSavedRecord, entry_number, entry_numbers, fresh_number, kept_number, number_or_0, point_number, record_numbers, saved_entries, saved_entry, saved_record};
 ghost use Rattle.rl_line.specs.Units.{BothMatched};
 ghost use Rattle.rl_line.specs.declared.change.Freshness.{Freshness};
 

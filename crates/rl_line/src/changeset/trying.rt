@@ -1,19 +1,19 @@
 //! An undo and a redo in a line that the record may not fit: one pass asks whether it does, and goes.
-ghost use Rattle.std.specs.Prelude.{◌≡◌, ◌∷◌, [], true, false, IfErr, IfOk, IsSome, None, Some};
+ghost use Rattle.std.specs.Prelude.{◌≡◌, true, false, IfErr, IfOk, None, Some};
 ghost use Rattle.rl_line.specs.Undo.{GoesOver, Redone, StandsStill, Tries, TriesAhead, TriesBack, Undone, line_ahead, line_back, line_over, texts_ahead, texts_back, texts_over, unit_of};
 ghost use Rattle.rl_line.specs.Trying.{Tried, TriedInVain};
 ghost use Rattle.rl_line.specs.Units.{last_of, redo_of};
 
 use crate::change::{Way, count_over};
 use crate::changeset::Changeset;
-use crate::entries;
+use crate::changeset::questions::lead;
 use crate::line_buffer::LineBuffer;
 use rl_base::{NoListener, Refusal, RepeatCount};
 
 impl Changeset {
-    /// Undoes as `undo` does, if that fits the line, and else changes nothing and answers None. It needs no
-    /// `can_undo_last` before it: one change alone is compared with the line's text and taken back in one pass.
-    /// It finds all room first, so refused it changes nothing.
+    /// Undoes as `undo` does, if its units can be taken back from the line's text, and else changes nothing and answers
+    /// None. One change alone is compared with the text and taken back in one pass; several are first tried on a copy of
+    /// the part between the places that they touch. It finds all room first, so refused it changes nothing.
     // Inlined, as `undo_telling` is.
     #[inline(always)]
     pub fn try_undo(
@@ -29,8 +29,8 @@ impl Changeset {
         self.try_over(line, Way::Back, usize::from(n))
     }
 
-    /// Redoes as `redo` does, if that fits the line, and else changes nothing and answers None. It needs no
-    /// `can_redo_next` before it.
+    /// Redoes as `redo` does, if what it makes again can be made on the line's text, and else changes nothing and answers
+    /// None. It tries that as `try_undo` does.
     #[inline(always)]
     pub fn try_redo(&mut self, line: &mut LineBuffer) -> Result<Option<bool>, Refusal>
         ensures tried { IfOk result (Tried (Redone self.old self.new line.old line.new) (line_ahead (redo_of self.old.pending) line.old) self.old self.new line.old line.new) }
@@ -80,7 +80,7 @@ impl Changeset {
             self.old self.new line.old line.new) }
     {
         let unit = self.unit(way, n);
-        let fits = entries::lead(self.entries.allocator(), line, unit, way)?;
+        let fits = lead(self.entries.allocator(), line, unit, way)?;
         if !fits {
             return Ok(None);
         }

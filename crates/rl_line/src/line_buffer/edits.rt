@@ -11,9 +11,9 @@ use rl_base::{ChangeListener, DeleteListener, Direction, Refusal, RepeatCount};
 use std::ops::Range;
 
 impl LineBuffer {
-    // Whether n texts of that length are too many for the text.
+    /// Whether n texts of that length, in bytes, are too many for the text, by the limit.
     #[tactic(auto, using(crate::proofs::Plans::EditLemmas::limits))]
-    fn is_too_long(&self, len: usize, n: RepeatCount) -> bool
+    pub fn is_too_long(&self, len: usize, n: RepeatCount) -> bool
         ensures { result ≡ too_long self.now (length self.now.text + len * n) }
     {
         let line = &self.line;

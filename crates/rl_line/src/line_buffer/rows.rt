@@ -1,7 +1,7 @@
 //! Where motions over the rows of a screen lead, on which each line is laid out by itself.
 ghost use Rattle.std.specs.Prelude.{◌≡◌, ◌+◌, ◌^◌, ◌≤◌, length};
 ghost use Rattle.rl_base.specs.Lines.{last_line, line_number, start_of_line, text_of_line};
-ghost use Rattle.rl_line.specs.Rows.{Above, Below, Tells, cell_in_line, height, kept_column, on_line, own_cell, place_in_row};
+ghost use Rattle.rl_line.specs.Rows.{Above, Below, Tells, height, kept_column, on_line, own_cell, place_in_row};
 
 use crate::line_buffer::LineBuffer;
 use rl_base::{RepeatCount, Screen};

@@ -18,7 +18,7 @@ row-adds row e u at i w adds =
     let line : row.after.line ≡ left.line = ap (λ (s : State). s.line) row.step.settles in
     let changes : row.after.pair.changes ≡ left.pair.changes = ap (λ (s : State). s.pair.changes) row.step.settles in
     let more : left.pair.changes.recorded ≡ row.before.pair.changes.recorded ++ e ∷ [] = ap (λ (r : Record). r.recorded) (sym changes) ∙ adds in
-    let here = asked-adds (asked old.line row.command) old row.command row.reply left e u at (asks-quietly old.line old.pair.changes e row.command u at) i (by_course old row.command row.reply left i w row.step.does) w more in
+    let here = asked-adds (asked old.line row.command) old row.command row.reply left e u at (asks-quietly old.line old.pair.changes e row.command u at) i (by_course old row.command row.reply left i row.step.does) w more in
     subst (λ (l : Line). Adds e row.before.line l row.after.pair.changes) (sym line) (subst (λ (r : Record). Adds e row.before.line left.line r) (sym changes) here)
 
 -- ---- one change back, and ahead again

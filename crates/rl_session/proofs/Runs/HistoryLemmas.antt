@@ -1,6 +1,5 @@
 -- Rows of a session: what they make of its history, and what undos and redos among them do.
-use Rattle.rl_session.specs.Commands.{allowed, gives_up, keeps_undone}
-use Rattle.rl_session.proofs.Sessions.CommandLemmas.{done_allowed}
+use Rattle.rl_session.specs.Commands.{gives_up, keeps_undone}
 use Rattle.rl_session.proofs.Common.{◌≡◌, ◌∙◌, inr, same_Some, replay_entries, true, Cursors, Entry, rules, ℕ, Bool, List, [], ◌∷◌, ◌++◌, length, min, arith, take, sym, ap, subst, append-nil, append_assoc, Line, listener_after, Record, record_step, unwind, Undone, Redone, Redos, begun, ended, ended_one, level, last_of, last_units, opens, redo_of, truncated, undone, Effect, by_steps, puts_begin, puts_ends, puts_end, shortens, takes_back, puts_again, Became, effect, Does, readied, with_changes, AllRedone, History, Holds, WasHeld, WasRefused, Row, Leads, Run, held, held_by, held_of, steps_in, texts_of_steps, State, with_ring, reset, Append, Command, Undo, Redo, Reply, inl}
 use Rattle.rl_line.specs.Plan.{Step as PlanStep}
 use Rattle.rl_line.proofs.Records.MarkLemmas.{agree-same}
@@ -120,12 +119,9 @@ pub done_as : (row : Row) (command : Command) (Did : Record → Record → Line 
 done_as row command Did done e w = grind (arith)
 
 -- an undo that was not refused
-Undo-allowed : (n : ℕ) (old left : State) (reply : Reply) → Became (allowed old (Undo n) reply) old left → ¬ (WasRefused reply) → (a : Bool) × Undone n old.pair.changes left.pair.changes old.line left.line a
-Undo-allowed n old left (says.Answer a) d w = (a, d.0)
-Undo-allowed n old left _ d w = absurd (search rules)
-
 Undo-done : (n : ℕ) (old left : State) (reply : Reply) → Does old (Undo n) reply left → ¬ (WasRefused reply) → (a : Bool) × Undone n old.pair.changes left.pair.changes old.line left.line a
-Undo-done n old left reply d w = Undo-allowed n old left reply (done_allowed old (Undo n) reply left d w) w
+Undo-done n old left (says.Answer a) d w = (a, d.0)
+Undo-done n old left _ d w = absurd (search rules)
 
 pub undo-row : (row : Row) (n : ℕ) → row.command ≡ Undo n → ¬ (WasRefused row.reply)
     → (a : Bool) × Undone n row.before.pair.changes row.after.pair.changes row.before.line row.after.line a
@@ -146,12 +142,9 @@ pub undo-drops : (row : Row) (n : ℕ) → row.command ≡ Undo n → ¬ (WasRef
 undo-drops row n is_undo done = grind (arith, undo-row, kept-last)
 
 -- a redo that was not refused
-Redo-allowed : (old left : State) (reply : Reply) → Became (allowed old Redo reply) old left → ¬ (WasRefused reply) → (a : Bool) × Redone old.pair.changes left.pair.changes old.line left.line a
-Redo-allowed old left (says.Answer a) d w = (a, d.0)
-Redo-allowed old left _ d w = absurd (search rules)
-
 Redo-done : (old left : State) (reply : Reply) → Does old Redo reply left → ¬ (WasRefused reply) → (a : Bool) × Redone old.pair.changes left.pair.changes old.line left.line a
-Redo-done old left reply d w = Redo-allowed old left reply (done_allowed old Redo reply left d w) w
+Redo-done old left (says.Answer a) d w = (a, d.0)
+Redo-done old left _ d w = absurd (search rules)
 
 pub redo-row : (row : Row) → row.command ≡ Redo → ¬ (WasRefused row.reply) → (a : Bool) × Redone row.before.pair.changes row.after.pair.changes row.before.line row.after.line a
 redo-row row = done_as row Redo (λ r k l m. (a : Bool) × Redone r k l m a) Redo-done

@@ -4,7 +4,9 @@ use Rattle.rl_base.specs.Event.{apply}
 use Rattle.rl_base.proofs.Texts.SwapLemmas.{apply-IsUtf8}
 use Rattle.rl_line.specs.Plan.{Step, after}
 use Rattle.rl_line.specs.Record.{record_step}
-use Rattle.rl_line.specs.Units.{ends_in_end, reopened, redo_dropped, kept_undone, there_and_back}
+use Rattle.rl_line.specs.Units.{ends_in_end, grouped_from, reopened, redo_dropped, kept_undone, there_and_back, united}
+use Rattle.rl_line.specs.declared.changeset.UnitStart.{UnitStart}
+use Rattle.rl_line.proofs.Records.UnitingLemmas.{BothMatched-united, replay-united, united-cases}
 use Rattle.rl_line.proofs.Records.MarkLemmas.{unwind-cut, replay-begin, replay-end, replay-end_one}
 use Rattle.rl_line.proofs.Records.JoinLemmas.{heard, step-cases}
 use Rattle.rl_line.proofs.Records.LastLemmas.{after-cases, end_one-cases, end_times-keeps, map-reverse}
@@ -84,6 +86,35 @@ Placed-end_one es start held p =
       | inr c ↦ subst (λ x. Placed start x held) (sym c.after_is) (Placed-mark start es End held p (replay-end es start))
     ]
 
+-- a mark inside the entries: nothing else is made of a text, and they are placed alike
+reverse-inside : (xs ys : List Entry) (e : Entry) → reverse (xs ++ e ∷ ys) ≡ reverse ys ++ e ∷ reverse xs
+reverse-inside xs ys e = reverse-append xs (e ∷ ys) ∙ ap (λ l. l ++ reverse xs) (reverse-append (e ∷ []) ys) ∙ append_assoc (reverse ys) (e ∷ []) (reverse xs)
+
+replay-inside : (start : List ℕ) (zs ms : List Entry) (e : Entry) → ((es : List Entry) → replay_entries (es ++ e ∷ []) start ≡ replay_entries es start)
+    → replay_entries (reverse (zs ++ e ∷ ms)) start ≡ replay_entries (reverse (zs ++ ms)) start
+replay-inside start zs ms e still =
+    ap (λ l. replay_entries l start) (reverse-append zs (e ∷ ms)) ∙ replay-append (reverse (e ∷ ms)) (reverse zs) start
+    ∙ ap (option_and_then (replay_entries (reverse zs))) (ap (λ l. replay_entries l start) (reverse-append (e ∷ []) ms) ∙ still (reverse ms))
+    ∙ sym (replay-append (reverse ms) (reverse zs) start) ∙ ap (λ l. replay_entries l start) (sym (reverse-append zs ms))
+
+PlacedBack-inside : (start : List ℕ) (zs ms : List Entry) (e : Entry) (held : List (List ℕ)) → ((es : List Entry) → replay_entries (es ++ e ∷ []) start ≡ replay_entries es start)
+    → PlacedBack start (zs ++ ms) held → PlacedBack start (zs ++ e ∷ ms) held
+PlacedBack-inside start [] ms e held still p =
+    let l = lands start ms held p in
+    (l.before, l.text, l.stands, replay-inside start [] ms e still ∙ l.leads, l.placed)
+PlacedBack-inside start (z ∷ zs) ms e held still (before, text, stands, leads, rest) =
+    (before, text, stands, replay-inside start (z ∷ zs) ms e still ∙ leads, PlacedBack-inside start zs ms e (before ++ text ∷ []) still rest)
+
+Placed-grouped : (k : ℕ) (es : List Entry) (start : List ℕ) (held : List (List ℕ)) → Placed start es held → Placed start (grouped_from k es) held
+Placed-grouped k es start held p =
+    let first = take k es in
+    let inner = drop k es in
+    let parts : PlacedBack start (reverse inner ++ reverse first) held = subst (λ l. PlacedBack start l held) (ap reverse (sym (take-append-drop k es)) ∙ reverse-append first inner) p in
+    let begun : Placed start (first ++ Begin ∷ inner) held =
+    subst (λ l. PlacedBack start l held) (sym (reverse-inside first inner Begin)) (PlacedBack-inside start (reverse inner) (reverse first) Begin held (λ l. replay-begin l start) parts) in
+    subst (λ l. Placed start l held) (append_assoc first (Begin ∷ inner) (End ∷ []))
+    (Placed-mark start (first ++ Begin ∷ inner) End held begun (replay-end (first ++ Begin ∷ inner) start))
+
 -- ---- an event
 after-leads : (was : Freshness) (event : Event) (es : List Entry) (start x y : List ℕ) → IsUtf8 start → replay_entries es start ≡ Some x → apply event x ≡ Some y
     → replay_entries (entries_after was event es) start ≡ Some y
@@ -110,7 +141,7 @@ pub History-more : (start : List ℕ) (held more : List (List ℕ)) (text : List
 History-more start held more text r h =
     record { is_text = h.is_text; leads = h.leads; placed = Placed-more start (r.recorded ++ r.pending) held more h.placed; matched = h.matched }
 
-recorded-placed : (start : List ℕ) (held : List (List ℕ)) (text : List ℕ) (r : Record) → History start held text r → Placed start r.recorded held
+pub recorded-placed : (start : List ℕ) (held : List (List ℕ)) (text : List ℕ) (r : Record) → History start held text r → Placed start r.recorded held
 recorded-placed start held text r h = Placed-front start r.recorded r.pending held h.placed
 
 alone : (start : List ℕ) (es : List Entry) (held : List (List ℕ)) → Placed start es held → Placed start (es ++ []) held
@@ -257,6 +288,22 @@ History-dropped start held text r h = record {
   placed = alone start r.recorded held (recorded-placed start held text r h);
   matched = record { recorded = h.matched.recorded; pending = refl };
 }
+
+-- with another freshness, and with marks around a unit
+pub History-fresh : (start : List ℕ) (held : List (List ℕ)) (text : List ℕ) (r : Record) (fresh : Freshness) → History start held text r → History start held text (record r { fresh = fresh })
+History-fresh start held text r fresh h =
+    record { is_text = h.is_text; leads = h.leads; placed = h.placed; matched = record { recorded = h.matched.recorded; pending = h.matched.pending } }
+
+pub History-united : (start : List ℕ) (held : List (List ℕ)) (text : List ℕ) (r : Record) (begin : UnitStart) → History start held text r → History start held text (united begin r)
+History-united start held text r begin h =
+    let matched = BothMatched-united begin r h.matched in
+    let grouped = Placed-grouped begin.from r.recorded start held (recorded-placed start held text r h) in
+    record {
+      is_text = h.is_text;
+      leads = replay-united begin r start ∙ h.leads;
+      placed = united-cases begin r (λ k. Placed start (k.recorded ++ k.pending) held) (λ e. h.placed) (λ m. alone start (grouped_from begin.from r.recorded) held grouped) h.placed;
+      matched = matched;
+    }
 
 -- entries that lead on from the text are placed among the texts on their way
 Placed-ahead : (start : List ℕ) (xs ys : List Entry) (held : List (List ℕ)) (text end : List ℕ) → Placed start xs held → replay_entries xs start ≡ Some text

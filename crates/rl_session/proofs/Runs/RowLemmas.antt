@@ -120,11 +120,11 @@ pub Leads-keeps : (Holds : State → Type 0) → ((row : Row) → Holds row.befo
 Leads-keeps Holds next [] old new l k = subst Holds (sym l) k
 Leads-keeps Holds next (row ∷ rows) old new l k = Leads-keeps Holds next rows row.after new l.1 (next row (subst Holds (sym l.0) k))
 
-Leads-append : (xs ys : List Row) (old mid new : State) → Leads old xs mid → Leads mid ys new → Leads old (xs ++ ys) new
+pub Leads-append : (xs ys : List Row) (old mid new : State) → Leads old xs mid → Leads mid ys new → Leads old (xs ++ ys) new
 Leads-append [] ys old mid new l k = subst (λ s. Leads s ys new) l k
 Leads-append (x ∷ xs) ys old mid new l k = (l.0, Leads-append xs ys x.after mid new l.1 k)
 
-held_of-append : (xs ys : List Row) → held_of (xs ++ ys) ≡ held_of xs ++ held_of ys
+pub held_of-append : (xs ys : List Row) → held_of (xs ++ ys) ≡ held_of xs ++ held_of ys
 held_of-append [] ys = refl
 held_of-append (x ∷ xs) ys = ap (λ h. held x ++ h) (held_of-append xs ys) ∙ sym (append_assoc (held x) (held_of xs) (held_of ys))
 

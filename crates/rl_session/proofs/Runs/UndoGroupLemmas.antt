@@ -1,6 +1,6 @@
 -- A group that was closed is one unit, whatever happened inside, so that one undo takes it off.
-use Rattle.rl_session.specs.Commands.{allowed, effect_where, is_barred, gives_up, keeps_undone}
-use Rattle.rl_session.proofs.Common.{Bool, false, rules, ◌≡◌, ◌<◌, ◌+◌, ℕ, inl, inr, zero, suc, true, List, [], ◌∷◌, ◌++◌, length, drop, Some, refl, sym, ap, subst, ◌∙◌, arith, or-false, min, listener_after, listener_after_step, Begin, End, Entry, Record, record_step, replay_entries, IsMatched, begun, end_one, end_times, ended, ended_one, has_change, kept_of, last_of, level, opens, with_closed, Effect, by_steps, puts_begin, puts_end, Became, effect, Does, with_changes, AllStandInGroup, ClosesGroup, Holds, MayStandInGroup, WasRefused, Leads, Row, Run, held, held_of, steps_in, State, with_ring, reset, Append, Command, Reply, Cursors, cond, same_Some}
+use Rattle.rl_session.specs.Commands.{gives_up, keeps_undone}
+use Rattle.rl_session.proofs.Common.{Bool, rules, ◌≡◌, ◌<◌, ◌+◌, ℕ, inl, inr, zero, suc, true, List, [], ◌∷◌, ◌++◌, length, drop, Some, refl, sym, ap, subst, ◌∙◌, arith, or-false, min, listener_after, listener_after_step, Begin, End, Entry, Record, record_step, replay_entries, IsMatched, begun, end_one, end_times, ended, ended_one, has_change, kept_of, last_of, level, opens, with_closed, Effect, by_steps, puts_begin, puts_end, Became, effect, Does, with_changes, AllStandInGroup, ClosesGroup, Holds, MayStandInGroup, WasRefused, Leads, Row, Run, held, held_of, steps_in, State, with_ring, reset, Append, Command, Reply, Cursors, cond, same_Some}
 use Rattle.rl_line.specs.Plan.{Step}
 use Rattle.rl_line.proofs.Records.GroupLemmas.{has_change-append, Inside, InsideOf, Inside-event, Inside-begun, Inside-reopened, past_begin}
 use Rattle.rl_line.proofs.Records.LastLemmas.{end_one-begin, end_one-cases, end_one-past, end_times-keeps}
@@ -19,7 +19,6 @@ use Rattle.rl_session.proofs.Runs.HistoryLemmas.{Holds-Leads, Holds-row, done_as
 use Rattle.rl_session.proofs.Runs.PlaceLemmas.{kept-leads}
 use Rattle.rl_line.proofs.Records.AbandonLemmas.{GroupOpen, Inside-Abandoned, open_after}
 use Rattle.rl_line.specs.Undo.{Abandoned, line_back}
-use Rattle.rl_session.proofs.Sessions.CommandLemmas.{done_allowed}
 use Rattle.rl_line.proofs.Records.RoundLemmas.{Inside-kept}
 
 -- ---- the end of a group
@@ -69,22 +68,15 @@ StaysOpen below now (keeps_undone _) = Unit {0}
 StaysOpen below now (gives_up _) = below < now
 StaysOpen below now _ = ⊥
 
-allowed_open : (below now : ℕ) (old : State) (command : Command) (reply : Reply) → MayStandInGroup below now command reply → StaysOpen below now (allowed old command reply)
-allowed_open below now old asks.End (says.Answer a) i = absurd i
-allowed_open below now old asks.EndOne (says.Answer a) i = elim i [ inl refused ↦ absurd refused | inr above ↦ above ]
-allowed_open below now old asks.Abandon (says.Answer a) i = elim i [ inl refused ↦ absurd refused | inr above ↦ above ]
-allowed_open below now old (asks.Undo n) (says.Answer a) i = absurd i
-allowed_open below now old asks.Redo (says.Answer a) i = absurd i
-allowed_open below now old (asks.Truncate len) says.Done i = absurd i
-allowed_open below now old _ (says.Refused f) i = tt
-allowed_open below now old _ _ i = tt
-
 stays_open : (below now : ℕ) (old : State) (command : Command) (reply : Reply) → MayStandInGroup below now command reply → StaysOpen below now (effect old command reply)
-stays_open below now old command reply i = from (is_barred old command)
-  where
-    from : (barred : Bool) → StaysOpen below now (effect_where barred old command reply)
-    from true = tt
-    from false = allowed_open below now old command reply i
+stays_open below now old asks.End (says.Answer a) i = absurd i
+stays_open below now old asks.EndOne (says.Answer a) i = elim i [ inl refused ↦ absurd refused | inr above ↦ above ]
+stays_open below now old asks.Abandon (says.Answer a) i = elim i [ inl refused ↦ absurd refused | inr above ↦ above ]
+stays_open below now old (asks.Undo n) (says.Answer a) i = absurd i
+stays_open below now old asks.Redo (says.Answer a) i = absurd i
+stays_open below now old (asks.Truncate len) says.Done i = absurd i
+stays_open below now old _ (says.Refused f) i = tt
+stays_open below now old _ _ i = tt
 
 -- the end of one group that leaves the group open closes one that was begun inside
 Inside-end_one : (front inner : List Entry) → IsMatched inner → level front < level (end_one (front ++ (Begin ∷ inner))) → InsideOf front (end_one (front ++ (Begin ∷ inner)))
@@ -192,11 +184,8 @@ group-in_run start texts old new commands replies earlier inside later b e u hol
 -- ---- a group that is given up
 Abandon-done : (old left : State) (reply : Reply) → Does old asks.Abandon reply left → ¬ (WasRefused reply)
     → (a : Bool) × Abandoned old.pair.changes left.pair.changes old.line left.line a
-Abandon-done old left reply d w = from reply (done_allowed old asks.Abandon reply left d w) w
-  where
-    from : (reply : Reply) → Became (allowed old asks.Abandon reply) old left → ¬ (WasRefused reply) → (a : Bool) × Abandoned old.pair.changes left.pair.changes old.line left.line a
-    from (says.Answer a) d w = (a, d.0)
-    from _ d w = absurd (search rules)
+Abandon-done old left (says.Answer a) d w = (a, d.0)
+Abandon-done old left _ d w = absurd (search rules)
 
 pub abandon-in_run : (start : List ℕ) (texts : List (List ℕ)) (old new : State) (commands : List Command) (replies : List Reply)
     (earlier inside later : List Row) (b e : Row) → Holds start texts old → (run : Run old commands replies new)

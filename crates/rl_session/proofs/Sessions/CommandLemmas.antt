@@ -1,11 +1,11 @@
 -- What is known of each command by itself: that its steps change the text, and what it did if it added one entry to the record.
-use Rattle.rl_session.proofs.Common.{eqb-false, Stop, Cursors, ℕ, List, Option, Some, None, ◌≡◌, ◌+◌, ◌≤◌, Bool, true, false, [], ◌∷◌, ◌++◌, length, length-append, IfSome, refl, sym, ap, subst, ◌∙◌, arith, rules, string_bytes, yank_pop, Line, Plan, Takes, single, listener_after, listener_after_step, Done, unless_empty, text_in, Asked, edit, other, asked, Course, when, edits, lends, pops, tells, Effect, Became, by_steps, Telling, answers, inserts, hands_out, is_done, course_of, edit_course, effect, lent_plan, popped_plan, other_course, told_as, Came, Does, Edited, popped, State, Command, BadPlace, Reply, eqb-true, option_map, ◌==◌, Range, IsCharBoundary, IsUtf8, Event, InsertChar, InsertStr, Replace, Start, Direction, Forward, Freshness, Movement, WordAction, is_by_characters, kill_plan, kill_range_plan, removal, side_of, respell, respelled, word_ahead, Entry, Record, entries_after, entries_of, entries_told, IsEdit, WasRefused, pair_step}
+use Rattle.rl_session.proofs.Common.{eqb-false, Stop, Cursors, ℕ, List, Option, Some, None, ◌≡◌, ◌+◌, ◌≤◌, Bool, true, false, [], ◌∷◌, ◌++◌, length, length-append, IfSome, refl, sym, ap, subst, ◌∙◌, arith, rules, string_bytes, yank_pop, Line, Plan, Takes, single, listener_after, listener_after_step, Done, unless_empty, text_in, Asked, edit, other, asked, Course, when, edits, lends, pops, tells, Effect, by_steps, Telling, answers, inserts, hands_out, is_done, course_of, edit_course, effect, lent_plan, popped_plan, other_course, told_as, Came, Does, Edited, popped, State, Command, BadPlace, Reply, eqb-true, option_map, ◌==◌, Range, IsCharBoundary, IsUtf8, Event, InsertChar, InsertStr, Replace, Start, Direction, Forward, Freshness, Movement, WordAction, is_by_characters, kill_plan, kill_range_plan, removal, side_of, respell, respelled, word_ahead, Entry, Record, entries_after, entries_of, entries_told, IsEdit, WasRefused, pair_step}
 use Rattle.rl_base.specs.KillRing.{yank}
 use Rattle.rl_line.specs.Plan.{Step as PlanStep}
 use Rattle.rl_line.specs.Ranges.{killed}
 use Rattle.rl_line.proofs.Plans.HearingLemmas.{AreChanges}
-use Rattle.rl_session.specs.Commands.{stops, allowed, barred_course, effect_where, is_barred, lent}
-use Rattle.rl_session.specs.declared.session.Fault.TheVariants.{NoMemory, TooLong}
+use Rattle.rl_session.specs.Commands.{stops, lent}
+use Rattle.rl_session.specs.declared.session.Fault.TheVariants.{NoMemory}
 use Rattle.rl_session.proofs.Sessions.IdleLemmas.{NoneStarts-edit_word, NoneStarts-indent, NoneStarts-insert, NoneStarts-kill, NoneStarts-removal, NoneStarts-transpose_chars, NoneStarts-transpose_words, NoneStarts-yank, NoneStarts-lent, NoneStarts-popped}
 use Rattle.rl_base.specs.Event.{Delete}
 use Rattle.rl_line.specs.Record.{record_step}
@@ -75,33 +75,19 @@ course-changes : (what : Asked) (old : State) (command : Command) (reply : Reply
 course-changes (edit takes condition plan telling) old command reply c = edit-changes takes condition plan telling reply c
 course-changes other old command reply c = other-changes old command reply
 
-allowed-changes : (old : State) (command : Command) (reply : Reply) → EffectChanges (allowed old command reply)
-allowed-changes old asks.Begin (says.Mark n) = tt
-allowed-changes old asks.End (says.Answer a) = tt
-allowed-changes old asks.EndOne (says.Answer a) = tt
-allowed-changes old (asks.Truncate len) says.Done = tt
-allowed-changes old (asks.Undo n) (says.Answer a) = tt
-allowed-changes old asks.Redo (says.Answer a) = tt
-allowed-changes old asks.Abandon (says.Answer a) = tt
-allowed-changes old asks.KeepUndone (says.Answer a) = tt
-allowed-changes old (asks.Keep t) says.Done = tt
-allowed-changes old asks.Part says.Done = tt
-allowed-changes old asks.Reopen (says.Answer a) = tt
-allowed-changes old command reply = course-changes (asked old.line command) old command reply (asks-changes old.line command)
-
-barred-changes : (what : Asked) (reply : Reply) → Changes (barred_course what reply)
-barred-changes (edit takes condition plan telling) (says.Refused BadPlace) = tt
-barred-changes (edit takes condition plan telling) (says.Refused NoMemory) = tt
-barred-changes (edit takes condition plan telling) (says.Refused TooLong) = tt
-barred-changes other (says.Refused TooLong) = tt
-barred-changes _ _ = tt
-
 pub effect-changes : (old : State) (command : Command) (reply : Reply) → EffectChanges (effect old command reply)
-effect-changes old command reply = from (is_barred old command)
-  where
-    from : (barred : Bool) → EffectChanges (effect_where barred old command reply)
-    from true = barred-changes (asked old.line command) reply
-    from false = allowed-changes old command reply
+effect-changes old asks.Begin (says.Mark n) = tt
+effect-changes old asks.End (says.Answer a) = tt
+effect-changes old asks.EndOne (says.Answer a) = tt
+effect-changes old (asks.Truncate len) says.Done = tt
+effect-changes old (asks.Undo n) (says.Answer a) = tt
+effect-changes old asks.Redo (says.Answer a) = tt
+effect-changes old asks.Abandon (says.Answer a) = tt
+effect-changes old asks.KeepUndone (says.Answer a) = tt
+effect-changes old (asks.Keep t) says.Done = tt
+effect-changes old asks.Part says.Done = tt
+effect-changes old asks.Reopen (says.Answer a) = tt
+effect-changes old command reply = course-changes (asked old.line command) old command reply (asks-changes old.line command)
 
 -- ---- an event of an empty text
 next-nothing : (was : Freshness) (event : Event) (es : List Entry) (b a : ℕ) → IsLone event [] → entries_of event ≡ [] → next was event es b a ≡ es
@@ -272,22 +258,7 @@ pub asked-adds : (what : Asked) (old : State) (command : Command) (reply : Reply
 asked-adds (edit takes condition plan telling) old command reply new e u at quiet i d w adds = edit-adds takes condition plan telling old reply new e u quiet d w adds
 asked-adds other old command reply new e u at quiet i d w adds = other-adds old command reply new e u at i d w adds
 
--- an edit that was not refused goes by steps
-barred-refused : (what : Asked) (reply : Reply) (old new : State) → ¬ (WasRefused reply) → Came (barred_course what reply) old new → ⊥
-barred-refused what (says.Refused f) old new w d = w tt
-barred-refused (edit takes condition plan telling) _ old new w d = d
-barred-refused other _ old new w d = d
-
-allowed-course : (old : State) (command : Command) (reply : Reply) (new : State) → IsEdit old.line command → Became (allowed old command reply) old new → Came (course_of (asked old.line command) old command reply) old new
-allowed-course old asks.Begin reply new i d = absurd i
-allowed-course old _ reply new i d = search rules
-
-pub done_allowed : (old : State) (command : Command) (reply : Reply) (new : State) → Does old command reply new → ¬ (WasRefused reply) → Became (allowed old command reply) old new
-done_allowed old command reply new d w = from (is_barred old command) d
-  where
-    from : (barred : Bool) → Became (effect_where barred old command reply) old new → Became (allowed old command reply) old new
-    from true d = absurd (barred-refused (asked old.line command) reply old new w d)
-    from false d = d
-
-pub by_course : (old : State) (command : Command) (reply : Reply) (new : State) → IsEdit old.line command → ¬ (WasRefused reply) → Does old command reply new → Came (course_of (asked old.line command) old command reply) old new
-by_course old command reply new i w d = allowed-course old command reply new i (done_allowed old command reply new d w)
+-- an edit goes by steps
+pub by_course : (old : State) (command : Command) (reply : Reply) (new : State) → IsEdit old.line command → Does old command reply new → Came (course_of (asked old.line command) old command reply) old new
+by_course old asks.Begin reply new i d = absurd i
+by_course old _ reply new i d = search rules

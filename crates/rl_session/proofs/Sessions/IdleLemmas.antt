@@ -45,7 +45,7 @@ abbrev pub IsIdle : Ring → Type 0
 IsIdle r = r.killing ≡ false
 
 -- it stays as it is at each change
-idle-stays : (event : Event) (r : Ring) → IsChange event → IsIdle r → ring_step r event ≡ r
+pub idle-stays : (event : Event) (r : Ring) → IsChange event → IsIdle r → ring_step r event ≡ r
 idle-stays (InsertChar i c) r n h = refl
 idle-stays (InsertStr i s) r n h = refl
 idle-stays (Delete i s side) r n h = ap (λ b. after_deletion b s side r) h

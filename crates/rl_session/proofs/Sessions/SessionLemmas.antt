@@ -1,17 +1,17 @@
 -- What holds whatever a call answered.
-use Rattle.rl_session.proofs.Common.{ToldOutcome, Outcome, Cut, replay_entries, Bool, false, true, inr, List, [], Result, Ok, Err, ◌≡◌, ◌∙◌, ap, arith, refl, subst, sym, append-nil, inl, ◌≤◌, ℕ, length, take_all, IsCharBoundary-start, IsUtf8-nil, Option, None, max, IsSome, Some, IfOk, IfErr, IsUtf8, Event, Start, Stop, Refusal, Line, Moved, Plan, Done, Halted, or_no_memory, Takes, nothing_more, a_copy, insert_str_plan, Told, Record, agree, replays_to, unwind, Redone, Undone, AtRest, Follows, pair_step, pair_refused, Pair, IsCharBoundary, Walks, line_back, bytes_eq-Decides, same_Some}
+use Rattle.rl_session.proofs.Common.{ToldOutcome, Outcome, Cut, replay_entries, Bool, false, true, inr, List, [], Result, Ok, Err, ◌≡◌, ◌∙◌, ap, arith, refl, subst, sym, append-nil, inl, ◌≤◌, ℕ, length, take_all, IsCharBoundary-start, IsUtf8-nil, Option, None, max, IsSome, Some, IsUtf8, Event, Start, Stop, Refusal, Line, Moved, Plan, Done, Halted, or_no_memory, Takes, nothing_more, a_copy, insert_str_plan, Told, Record, agree, replays_to, unwind, AtRest, Follows, pair_step, pair_refused, Pair, IsCharBoundary, Walks, line_back, bytes_eq-Decides, same_Some}
 use Rattle.rl_base.proofs.Ring.BoundLemmas.{killing-within}
 use Rattle.rl_base.proofs.Texts.EventLemmas.{apply-InsertStr}
-use Rattle.rl_base.specs.declared.listeners.Refusal.TheVariants as why
 use Rattle.rl_line.proofs.Records.JoinLemmas.{record_step-Start, record_step-Stop}
 use Rattle.rl_line.proofs.Plans.PlanLemmas.{first_step}
 use Rattle.rl_line.proofs.Records.ForgettingLemmas.{Walks-forgotten}
 use Rattle.rl_line.proofs.Lines.LineReadLemmas.{range-before, range-some}
-use Rattle.rl_session.proofs.Sessions.IdleLemmas.{NoneStarts, NoneStarts-insert, NoneStarts-yank, NoneStarts-removal, NoneStarts-kill, IsIdle, idle-step, idle-Told, ring-Done, ring-Halted}
+use Rattle.rl_session.proofs.Sessions.IdleLemmas.{NoneStarts, NoneStarts-edit_word, NoneStarts-insert, NoneStarts-kill, NoneStarts-removal, NoneStarts-transpose_chars, NoneStarts-yank, IsIdle, idle-step, idle-Told, ring-Done, ring-Halted}
 use Rattle.rl_session.proofs.Sessions.PairLemmas.{Halted-own, Done-changes, Halted-changes, keeps_changes}
 use Rattle.rl_line.proofs.Records.RecordLemmas.{value_of}
 use Rattle.rl_line.proofs.Records.UndoLemmas.{line_ahead-replay, line_back-unwind}
-use Rattle.rl_line.proofs.Records.WalkLemmas.{Walks-truncated, Walks-Done, Walks-Halted, Walks-Redone, Walks-Undone, Walks-ahead, Walks-back, Walks-begun, Walks-closed, Walks-reopened}
+use Rattle.rl_line.proofs.Records.UnitingLemmas.{Walks-parted, Walks-united}
+use Rattle.rl_line.proofs.Records.WalkLemmas.{Walks-truncated, Walks-Done, Walks-Halted, Walks-ahead, Walks-back, Walks-begun, Walks-closed, Walks-reopened}
 use Rattle.rl_line.proofs.Records.AbandonLemmas.{abandoned-walks}
 use Rattle.rl_line.proofs.Records.RoundLemmas.{Walks-kept}
 
@@ -101,20 +101,6 @@ AtRest-told b plan p q old new (Err w) at none h r = record {
   idle = idle-Told b _ p q (λ i. ring-Halted IsIdle idle-step plan old new p q w none (Halted-own nothing_more plan old new p q w i) r.idle) h;
 }
 
--- nothing was done, since memory is out
-Walks-same : (r now : Record) (old new : Line) → (now ≡ r) × (new ≡ old) → Walks r old.text → Walks now new.text
-Walks-same r now old new h w = subst (λ (k : Record). Walks k new.text) (sym h.0) (subst (λ (l : Line). Walks r l.text) (sym h.1) w)
-
-pub Walks-undo : (X : Type 0) (n : ℕ) (r now : Record) (old new : Line) (result : Result Bool Refusal) → IfOk result (λ a. Undone n r now old new a)
-    → IfErr result (λ w. (w ≡ why.NoMemory) × (now ≡ r) × (new ≡ old) × X) → Walks r old.text → Walks now new.text
-Walks-undo X n r now old new (Ok a) d h = Walks-Undone n r now old new a d
-Walks-undo X n r now old new (Err w) d h = Walks-same r now old new (h.1, h.2)
-
-pub Walks-redo : (X : Type 0) (r now : Record) (old new : Line) (result : Result Bool Refusal) → IfOk result (λ a. Redone r now old new a)
-    → IfErr result (λ w. (w ≡ why.NoMemory) × (now ≡ r) × (new ≡ old) × X) → Walks r old.text → Walks now new.text
-Walks-redo X r now old new (Ok a) d h = Walks-Redone r now old new a d
-Walks-redo X r now old new (Err w) d h = Walks-same r now old new (h.1, h.2)
-
 -- all entries lead to the text
 pub replays-all : (len : ℕ) (r : Record) (line : Line) → IsCharBoundary line.text line.cursor → length r.recorded ≤ len → Walks r line.text → replays_to len r line.text ≡ true
 replays-all len r line at all w =
@@ -134,8 +120,8 @@ follows_unwind r line f = grind (arith, value_of, line_back-unwind)
 pub follows_replay : (r : Record) (line : Line) → Follows line r → IsSome (replay_entries r.pending line.text)
 follows_replay r line f = grind (arith, value_of, line_ahead-replay)
 
-pub ruleset resting = (Walks-kept, abandoned-walks, Walks-forgotten, killing-within, Walks-begun, Walks-closed, Walks-reopened, Walks-truncated, replays-all)
+pub ruleset resting = (Walks-parted, Walks-united, Walks-kept, abandoned-walks, Walks-forgotten, killing-within, Walks-begun, Walks-closed, Walks-reopened, Walks-truncated, replays-all)
 
 pub ruleset places = (range-before, range-some)
 
-pub ruleset edits = (AtRest-done, AtRest-halted, AtRest-out_of_room, NoneStarts-insert, NoneStarts-yank, NoneStarts-removal, NoneStarts-kill)
+pub ruleset edits = (AtRest-done, AtRest-halted, AtRest-out_of_room, NoneStarts-insert, NoneStarts-yank, NoneStarts-removal, NoneStarts-kill, NoneStarts-transpose_chars, NoneStarts-edit_word)

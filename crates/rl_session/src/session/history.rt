@@ -2,15 +2,14 @@
 ghost use Rattle.std.specs.Prelude.{◌≡◌, List, ℕ};
 ghost use Rattle.rl_line.specs.Record.{is_saved};
 ghost use Rattle.rl_line.specs.Units.{has_change, last_of, level, redo_of};
-ghost use Rattle.rl_session.specs.Commands.{Became, Does, allowed};
+ghost use Rattle.rl_session.specs.Commands.{Does};
 ghost use Rattle.rl_session.specs.Replies.{replied};
 ghost use Rattle.rl_session.specs.State.{ChangedFrom, ReportedFrom, saved_now};
 ghost use Rattle.rl_session.specs.declared.session.Command.{Command};
 ghost use Rattle.rl_session.specs.declared.session.Reply.{Reply};
 
-use crate::session::replies::answered;
-use crate::session::{Fault, Reply, Session};
-use rl_base::{Refusal, RepeatCount};
+use crate::session::{Fault, Session};
+use rl_base::RepeatCount;
 
 impl Session {
     /// Whether an undo of one unit would find a change (`Changeset::has_undo`), so that it would answer true. It does not
@@ -55,119 +54,92 @@ impl Session {
     }
 
     #[tactic(auto, using(crate::proofs::Sessions::SessionLemmas::resting))]
-    pub(super) fn do_part(&mut self) -> Reply
-        ensures { Does self.old Command.Part result self.new }
+    pub(super) fn do_part(&mut self) -> Result<(), Fault>
+        ensures { Does self.old Command.Part (replied (λ _. Reply.Done) result) self.new }
     {
         self.pair.changes.part();
-        Reply::Done
+        Ok(())
     }
 
     #[tactic(auto, using(crate::proofs::Sessions::SessionLemmas::resting))]
-    pub(super) fn do_begin(&mut self) -> Reply
-        ensures { Does self.old Command.Begin result self.new }
+    pub(super) fn do_begin(&mut self) -> Result<usize, Fault>
+        ensures { Does self.old Command.Begin (replied Reply.Mark result) self.new }
     {
-        match self.pair.changes.begin() {
-            Ok(mark) => Reply::Mark(mark),
-            Err(_) => Reply::Refused(Fault::NoMemory),
-        }
+        Ok(self.pair.changes.begin()?)
     }
 
     #[tactic(auto, using(crate::proofs::Sessions::SessionLemmas::resting))]
-    pub(super) fn do_end(&mut self) -> Reply
-        ensures { Does self.old Command.End result self.new }
+    pub(super) fn do_end(&mut self) -> Result<bool, Fault>
+        ensures { Does self.old Command.End (replied Reply.Answer result) self.new }
     {
-        answered(self.pair.changes.end())
+        Ok(self.pair.changes.end()?)
     }
 
     #[tactic(auto, using(crate::proofs::Sessions::SessionLemmas::resting))]
-    pub(super) fn do_end_one(&mut self) -> Reply
-        ensures { Does self.old Command.EndOne result self.new }
+    pub(super) fn do_end_one(&mut self) -> Result<bool, Fault>
+        ensures { Does self.old Command.EndOne (replied Reply.Answer result) self.new }
     {
-        answered(self.pair.changes.end_one())
+        Ok(self.pair.changes.end_one()?)
     }
 
     #[tactic(auto, using(crate::proofs::Sessions::SessionLemmas::resting))]
-    pub(super) fn do_reopen(&mut self) -> Reply
-        ensures { Does self.old Command.Reopen result self.new }
+    pub(super) fn do_reopen(&mut self) -> Result<bool, Fault>
+        ensures { Does self.old Command.Reopen (replied Reply.Answer result) self.new }
     {
-        Reply::Answer(self.pair.changes.reopen())
+        Ok(self.pair.changes.reopen())
     }
 
     #[tactic(auto, using(crate::proofs::Sessions::SessionLemmas::resting))]
-    pub(super) fn do_abandon(&mut self) -> Reply
-        ensures { Does self.old Command.Abandon result self.new }
+    pub(super) fn do_abandon(&mut self) -> Result<bool, Fault>
+        ensures { Does self.old Command.Abandon (replied Reply.Answer result) self.new }
     {
         self.stands();
-        if self.options.holds && !self.pair.changes.abandon_fits(&self.line) {
-            return Reply::Refused(Fault::TooLong);
-        }
         let watch = &mut self.pair.watch;
-        answered(self.pair.changes.abandon_telling(&mut self.line, watch))
+        let done = self.pair.changes.abandon_telling(&mut self.line, watch)?;
+        Ok(done)
     }
 
-    #[tactic(auto, using(crate::proofs::Sessions::SessionLemmas::resting))]
-    pub(super) fn do_keep_undone(&mut self) -> Reply
-        ensures { Does self.old Command.KeepUndone result self.new }
+    #[tactic(auto, using(crate::proofs::Sessions::SessionLemmas::resting, crate::proofs::Sessions::SessionLemmas::follows_replay))]
+    pub(super) fn do_keep_undone(&mut self) -> Result<bool, Fault>
+        ensures { Does self.old Command.KeepUndone (replied Reply.Answer result) self.new }
     {
         self.follows();
-        answered(self.pair.changes.keep_undone())
+        Ok(self.pair.changes.keep_undone()?)
     }
 
-    // What is barred has its reply here. Inlined, as the call is.
     #[inline(always)]
-    pub(super) fn undo_held(&mut self, n: RepeatCount) -> Reply
-        ensures { Does self.old (Command.Undo n) result self.new }
-    {
-        if self.options.holds && !self.pair.changes.undo_fits(&self.line, n) {
-            return Reply::Refused(Fault::TooLong);
-        }
-        answered(self.do_undo(n))
-    }
-
-    // Its reply is made by the caller, so that the outcome stays in a register.
-    fn do_undo(&mut self, n: RepeatCount) -> Result<bool, Refusal>
-        ensures { Became (allowed self.old (Command.Undo n) (replied Reply.Answer result)) self.old self.new }
+    pub(super) fn do_undo(&mut self, n: RepeatCount) -> Result<bool, Fault>
+        ensures { Does self.old (Command.Undo n) (replied Reply.Answer result) self.new }
     {
         self.stands();
         let watch = &mut self.pair.watch;
-        self.pair.changes.undo_telling(&mut self.line, n, watch)
+        let done = self.pair.changes.undo_telling(&mut self.line, n, watch)?;
+        Ok(done)
     }
 
-    // The same of a redo.
     #[inline(always)]
-    pub(super) fn redo_held(&mut self) -> Reply
-        ensures { Does self.old Command.Redo result self.new }
-    {
-        if self.options.holds && !self.pair.changes.redo_fits(&self.line) {
-            return Reply::Refused(Fault::TooLong);
-        }
-        answered(self.do_redo())
-    }
-
-    fn do_redo(&mut self) -> Result<bool, Refusal>
-        ensures { Became (allowed self.old Command.Redo (replied Reply.Answer result)) self.old self.new }
+    pub(super) fn do_redo(&mut self) -> Result<bool, Fault>
+        ensures { Does self.old Command.Redo (replied Reply.Answer result) self.new }
     {
         self.stands();
         let watch = &mut self.pair.watch;
-        self.pair.changes.redo_telling(&mut self.line, watch)
+        let done = self.pair.changes.redo_telling(&mut self.line, watch)?;
+        Ok(done)
     }
 
     #[tactic(auto, using(crate::proofs::Sessions::SessionLemmas::resting))]
-    pub(super) fn do_truncate(&mut self, len: usize) -> Reply
-        ensures { Does self.old (Command.Truncate len) result self.new }
+    pub(super) fn do_truncate(&mut self, len: usize) -> Result<(), Fault>
+        ensures { Does self.old (Command.Truncate len) (replied (λ _. Reply.Done) result) self.new }
     {
         self.stands();
         if len >= self.pair.changes.len() {
             self.pair.changes.truncate(len);
-            return Reply::Done;
+            return Ok(());
         }
-        match self.pair.changes.replays_to(len, &self.line) {
-            Ok(true) => {
-                self.pair.changes.truncate(len);
-                Reply::Done
-            }
-            Ok(false) => Reply::Refused(Fault::NotReplaying),
-            Err(_) => Reply::Refused(Fault::NoMemory),
+        if !self.pair.changes.replays_to(len, &self.line)? {
+            return Err(Fault::NotReplaying);
         }
+        self.pair.changes.truncate(len);
+        Ok(())
     }
 }

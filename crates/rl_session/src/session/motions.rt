@@ -4,23 +4,24 @@ ghost use Rattle.std.specs.Str.{IsCharBoundary};
 ghost use Rattle.rl_line.specs.LineRanges.{IsRange};
 ghost use Rattle.rl_line.specs.Ranges.{covered};
 ghost use Rattle.rl_session.specs.Commands.{AskedFrom, Does, destination, line_place};
+ghost use Rattle.rl_session.specs.Replies.{replied};
 ghost use Rattle.rl_session.specs.State.{State};
 ghost use Rattle.rl_session.specs.declared.session.Command.{Command};
+ghost use Rattle.rl_session.specs.declared.session.Reply.{Reply};
 
-use crate::session::replies::handed_out;
 use crate::session::{Fault, Reply, Session};
 use rl_base::{Movement, Unit};
 use std::ops::Range;
 
 impl Session {
-    pub(super) fn do_set_pos(&mut self, pos: usize) -> Reply
-        ensures { Does self.old (Command.SetPos pos) result self.new }
+    pub(super) fn do_set_pos(&mut self, pos: usize) -> Result<(), Fault>
+        ensures { Does self.old (Command.SetPos pos) (replied (λ _. Reply.Done) result) self.new }
     {
         if self.line.as_str().is_char_boundary(pos) {
             self.line.set_pos(pos);
-            Reply::Done
+            Ok(())
         } else {
-            Reply::Refused(Fault::BadPlace)
+            Err(Fault::BadPlace)
         }
     }
 
@@ -87,18 +88,18 @@ impl Session {
         Ok(found)
     }
 
-    pub(super) fn do_move_by(&mut self, movement: &Movement) -> Reply
-        ensures { Does self.old (Command.Move movement.now) result self.new }
+    pub(super) fn do_move_by(&mut self, movement: &Movement) -> Result<bool, Fault>
+        ensures { Does self.old (Command.Move movement.now) (replied Reply.Answer result) self.new }
     {
         let layout = self.options.layout();
-        Reply::Answer(self.line.move_by(movement, &layout))
+        Ok(self.line.move_by(movement, &layout))
     }
 
-    pub(super) fn do_copy(&mut self, movement: &Movement) -> Reply
-        ensures { Does self.old (Command.Copy movement.now) result self.new }
+    pub(super) fn do_copy(&mut self, movement: &Movement) -> Result<Option<String>, Fault>
+        ensures { Does self.old (Command.Copy movement.now) (replied Reply.Text result) self.new }
     {
         self.line.index_lines_for(movement);
-        handed_out(self.line.copy(movement))
+        Ok(self.line.copy(movement)?)
     }
 
     pub(super) fn do_line_place(&mut self) -> Reply

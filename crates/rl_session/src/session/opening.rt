@@ -1,14 +1,16 @@
 //! Opening a session, beginning anew in it, and setting what was chosen then.
-ghost use Rattle.std.specs.Prelude.{◌≡◌, ◌<◌, ◌≤◌, [], List, ℕ, max, length, true, false, IfOk, IfErr, OnErr, OnOk};
+ghost use Rattle.std.specs.Prelude.{◌≡◌, ◌<◌, ◌≤◌, [], List, ℕ, max, length, false, IfOk, IfErr, OnErr, OnOk};
 ghost use Rattle.std.specs.Str.{IsCharBoundary};
-ghost use Rattle.rl_base.specs.KillRing.{cleared, ruled};
+ghost use Rattle.rl_base.specs.KillRing.{cleared};
 ghost use Rattle.rl_line.specs.Line.{NeedsRoom};
-ghost use Rattle.rl_session.specs.State.{Begins, ChangedFrom, FitsLimit, HoldsLimit, Opens, RefusesRestart, Replays, ReportedFrom, fresh, holding, keeping, limited, prompted, restarted, told_anew, with_mode, with_ring};
+ghost use Rattle.rl_session.specs.Forgetting.{within_bound};
+ghost use Rattle.rl_session.specs.Settings.{as_new};
+ghost use Rattle.rl_session.specs.State.{Begins, ChangedFrom, KeepsLimit, Opens, OpensWithin, RefusesRestart, Replays, ReportedFrom, fresh, restarted, set_to, settings_of, told_anew, with_ring};
 
-use crate::options::Options;
 use crate::pair::Pair;
 use crate::session::{Fault, Session};
-use rl_base::{GraphemeClusterMode, KillRing, NewKill, NoListener, Unit, Watch};
+use crate::settings::Settings;
+use rl_base::{GraphemeClusterMode, KillRing, NoListener, Watch};
 use rl_line::{Changeset, LineBuffer};
 use std::alloc::Global;
 
@@ -62,7 +64,7 @@ impl Session {
         ring_size: usize,
         mode: GraphemeClusterMode,
     ) -> Result<Self, Fault>
-        ensures opens { Opens text.now pos limit ring_size mode result }
+        ensures opens { Opens text.now pos (as_new limit ring_size mode) result }
         ensures replays { IfOk result (Replays text.now) }
         ensures begins { IfOk result (Begins text.now) }
         ensures changed { IfOk result (ChangedFrom text.now) }
@@ -70,24 +72,19 @@ impl Session {
         if !text.is_char_boundary(pos) {
             return Err(Fault::BadPlace);
         }
+        let settings = Settings::new(limit, ring_size, mode);
         match LineBuffer::with_capacity(alloc, limit) {
-            Ok(line) => Session::on(alloc, line, text, pos, ring_size, mode),
+            Ok(line) => Session::on(alloc, line, text, pos, &settings),
             Err(_) => Err(Fault::NoMemory),
         }
     }
 
-    /// The same session, with room for the text alone: the line asks for more when it needs it. So the limit may be
-    /// any number, and `usize::MAX` is no limit at all. `NoMemory` comes only if the text is not empty.
-    pub fn open(
-        alloc: Global,
-        text: &str,
-        pos: usize,
-        limit: usize,
-        ring_size: usize,
-        mode: GraphemeClusterMode,
-    ) -> Result<Self, Fault>
-        ensures opens { Opens text.now pos limit ring_size mode result }
-        ensures some { IfErr result (λ fault. fault ≡ Fault.NoMemory → 0 < length text.now) }
+    /// A session on a text, with the cursor at the byte place `pos`, and with these settings. It has room for the text alone:
+    /// the line asks for more when it needs it, so the limit may be any number. `BadPlace` comes exactly if `pos` is no
+    /// boundary of the text, `TooLong` exactly if else the text is longer than the limit, and `NoMemory` only if the text is
+    /// not empty.
+    pub fn open(alloc: Global, text: &str, pos: usize, settings: &Settings) -> Result<Self, Fault>
+        ensures opens { OpensWithin text.now pos settings.now result }
         ensures replays { IfOk result (Replays text.now) }
         ensures begins { IfOk result (Begins text.now) }
         ensures changed { IfOk result (ChangedFrom text.now) }
@@ -95,8 +92,11 @@ impl Session {
         if !text.is_char_boundary(pos) {
             return Err(Fault::BadPlace);
         }
-        let line = LineBuffer::with_limit(alloc, limit);
-        Session::on(alloc, line, text, pos, ring_size, mode)
+        if text.len() > settings.limit {
+            return Err(Fault::TooLong);
+        }
+        let line = LineBuffer::with_limit(alloc, settings.limit);
+        Session::on(alloc, line, text, pos, settings)
     }
 
     // The session on an empty line, once the text was put into it.
@@ -105,26 +105,27 @@ impl Session {
         line: LineBuffer,
         text: &str,
         pos: usize,
-        ring_size: usize,
-        mode: GraphemeClusterMode,
+        settings: &Settings,
     ) -> Result<Self, Fault>
-        requires empty { line ≡ record { text = []; cursor = 0; limit = line.limit; grow = false } }
+        requires empty { line ≡ record { text = []; cursor = 0; limit = settings.now.limit; grow = false } }
         requires place { IsCharBoundary text.now pos }
-        ensures ok { IfOk result (λ s. s ≡ fresh text.now pos line.limit ring_size mode) }
+        ensures ok { IfOk result (λ s. s ≡ fresh text.now pos settings.now) }
         ensures replays { IfOk result (Replays text.now) }
         ensures begins { IfOk result (Begins text.now) }
         ensures changed { IfOk result (ChangedFrom text.now) }
         ensures err { IfErr result (λ f. (f ≡ Fault.NoMemory) × (0 < length text.now)) }
     {
         let line = filled(line, text, pos)?;
+        let mut ring = KillRing::new(alloc, settings.ring_size);
+        ring.set_new_kill(settings.new_kill);
         let session = Session {
             line,
             pair: Pair {
-                ring: KillRing::new(alloc, ring_size),
+                ring,
                 changes: Changeset::new(alloc),
                 watch: Watch::new(),
             },
-            options: Options::new(mode),
+            options: settings.options,
             alloc,
         };
         session.stands();
@@ -134,14 +135,13 @@ impl Session {
 
     /// Begins anew with a text, with the cursor at the byte place `pos`, as an editor does with the next line: nothing is
     /// recorded yet, and the ring keeps its slots, so what was killed before can be yanked. A kill begins a new slot, and
-    /// nothing was yanked last. The limit is raised if the text is longer. What tells of changes tells of this one too:
-    /// all the old text gave way to the new one. Refused, it changes nothing: `BadPlace` comes exactly if `pos` is no
-    /// boundary of the text, `TooLong` exactly if else the text is longer than a limit that holds, and `NoMemory` only if
-    /// the text needs more room than the old one.
+    /// nothing was yanked last. What tells of changes tells of this one too: all the old text gave way to the new one.
+    /// Refused, it changes nothing: `BadPlace` comes exactly if `pos` is no boundary of the text, `TooLong` exactly if else
+    /// the text is longer than the limit, and `NoMemory` only if the text needs more room than the old one.
     pub fn restart(&mut self, text: &str, pos: usize) -> Result<(), Fault>
         ensures ok { OnOk result (IsCharBoundary text.now pos × (self.new ≡ restarted text.now pos self.old)) }
         ensures begins { OnOk result (Begins text.now self.new) }
-        ensures within { OnOk result (FitsLimit text.now self.old) }
+        ensures within { OnOk result (length text.now ≤ self.old.line.limit) }
         ensures changed { (asked : List ℕ) → ChangedFrom asked self.old → ChangedFrom asked self.new }
         ensures reported { (read : List ℕ) → ReportedFrom read self.old → ReportedFrom read self.new }
         ensures err { IfErr result (λ fault. RefusesRestart fault text.now pos self.old × (self.new ≡ self.old)) }
@@ -151,7 +151,7 @@ impl Session {
         if !text.is_char_boundary(pos) {
             return Err(Fault::BadPlace);
         }
-        if self.options.holds && text.len() > self.line.limit() {
+        if text.len() > self.line.limit() {
             return Err(Fault::TooLong);
         }
         renew(&mut self.line, text, pos, &mut self.pair.watch)?;
@@ -162,66 +162,39 @@ impl Session {
         Ok(())
     }
 
-    /// Sets the limit on the text's length, in bytes: to the text's length if that is greater. So a text that was
-    /// longer than its limit, and shrank, can have the limit back. `usize::MAX` is no limit at all.
-    pub fn set_limit(&mut self, limit: usize)
-        ensures set { self.new ≡ limited limit self.old }
+    /// What is chosen of the session, as it is now.
+    pub fn settings(&self) -> Settings
+        ensures { result ≡ settings_of self.now }
+    {
+        Settings {
+            limit: self.line.limit(),
+            ring_size: self.pair.ring.size(),
+            new_kill: self.pair.ring.new_kill(),
+            options: self.options,
+        }
+    }
+
+    /// Chooses all that may be chosen of a session, and forgets at once what is beyond the bounds. The oldest texts go that
+    /// the ring has no place for. `TooLong` comes exactly if the text is longer than the limit, and changes nothing.
+    pub fn set_settings(&mut self, settings: &Settings) -> Result<(), Fault>
+        ensures ok { OnOk result ((length self.old.line.text ≤ settings.now.limit) × (self.new ≡ within_bound (set_to settings.now self.old))) }
+        ensures limit { OnOk result (KeepsLimit self.old → KeepsLimit self.new) }
         ensures changed { (asked : List ℕ) → ChangedFrom asked self.old → ChangedFrom asked self.new }
         ensures reported { (read : List ℕ) → ReportedFrom read self.old → ReportedFrom read self.new }
+        ensures err { IfErr result (λ fault. (fault ≡ Fault.TooLong) × (settings.now.limit < length self.old.line.text) × (self.new ≡ self.old)) }
     {
-        self.line.set_limit(limit);
         self.stands();
         self.bounded();
-    }
-
-    /// Sets whether the limit holds. Where it does, whatever would make the text longer is refused (`TooLong`), at its end
-    /// or on the way of its steps, but for what looks at the limit by itself.
-    pub fn set_limit_holds(&mut self, holds: bool)
-        ensures set { self.new ≡ holding holds self.old }
-        ensures held { holds ≡ true → self.old.line.grow ≡ false → HoldsLimit self.new }
-        ensures changed { (asked : List ℕ) → ChangedFrom asked self.old → ChangedFrom asked self.new }
-        ensures reported { (read : List ℕ) → ReportedFrom read self.old → ReportedFrom read self.new }
-    {
-        self.stands();
-        self.options.holds = holds;
-    }
-
-    /// Sets whether what was undone is kept before an edit, by `keep_if_asked`.
-    pub fn set_keeps(&mut self, keeps: bool)
-        ensures set { self.new ≡ keeping keeps self.old }
-        ensures changed { (asked : List ℕ) → ChangedFrom asked self.old → ChangedFrom asked self.new }
-        ensures reported { (read : List ℕ) → ReportedFrom read self.old → ReportedFrom read self.new }
-    {
-        self.options.keeps = keeps;
-    }
-
-    /// Sets the column at which the prompt ends. `LineUp` and `LineDown` count the columns of the text's first line from
-    /// there.
-    pub fn set_prompt(&mut self, column: Unit)
-        ensures set { self.new ≡ prompted column self.old }
-        ensures changed { (asked : List ℕ) → ChangedFrom asked self.old → ChangedFrom asked self.new }
-        ensures reported { (read : List ℕ) → ReportedFrom read self.old → ReportedFrom read self.new }
-    {
-        self.options.prompt = column;
-    }
-
-    /// Sets how columns are counted.
-    pub fn set_mode(&mut self, mode: GraphemeClusterMode)
-        ensures set { self.new ≡ with_mode mode self.old }
-        ensures changed { (asked : List ℕ) → ChangedFrom asked self.old → ChangedFrom asked self.new }
-        ensures reported { (read : List ℕ) → ReportedFrom read self.old → ReportedFrom read self.new }
-    {
-        self.options.mode = mode;
-    }
-
-    /// Sets where a new kill puts its text in the ring. The texts stay.
-    pub fn set_new_kill(&mut self, rule: NewKill)
-        ensures set { self.new ≡ with_ring (ruled rule self.old.pair.ring) self.old }
-        ensures changed { (asked : List ℕ) → ChangedFrom asked self.old → ChangedFrom asked self.new }
-        ensures reported { (read : List ℕ) → ReportedFrom read self.old → ReportedFrom read self.new }
-    {
-        self.pair.ring.set_new_kill(rule);
-        self.stands();
+        if self.line.len() > settings.limit {
+            return Err(Fault::TooLong);
+        }
+        self.line.set_limit(settings.limit);
+        self.pair.ring.set_size(settings.ring_size);
+        self.pair.ring.set_new_kill(settings.new_kill);
+        self.options = settings.options;
+        self.forget();
+        self.bounded();
+        Ok(())
     }
 
     /// Drops all texts of the ring, and frees them, as where a password was killed. The next kill begins a new text.

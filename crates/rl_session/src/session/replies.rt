@@ -1,49 +1,58 @@
-//! What a session replies to the outcome of a call, which is refused only if memory is out.
+//! The reply to a command, made of what the call for it returns.
 ghost use Rattle.std.specs.Prelude.{◌≡◌};
 ghost use Rattle.rl_session.specs.Replies.{replied};
 ghost use Rattle.rl_session.specs.declared.session.Reply.{Reply};
 
 use crate::session::{Fault, Reply};
-use rl_base::Refusal;
 
 // The reply to a call that answers yes or no. Inlined, as that to an insertion is, where a reply need not be made at all.
 #[inline(always)]
-pub(super) fn answered(outcome: Result<bool, Refusal>) -> Reply
+pub(super) fn answered(outcome: Result<bool, Fault>) -> Reply
     ensures { result ≡ replied Reply.Answer outcome }
 {
     match outcome {
         Ok(answer) => Reply::Answer(answer),
-        Err(_) => Reply::Refused(Fault::NoMemory),
+        Err(why) => Reply::Refused(why),
     }
 }
 
 // The reply to an insertion.
 #[inline(always)]
-pub(super) fn inserted(outcome: Result<Option<bool>, Refusal>) -> Reply
+pub(super) fn inserted(outcome: Result<Option<bool>, Fault>) -> Reply
     ensures { result ≡ replied Reply.Inserted outcome }
 {
     match outcome {
-        Ok(answer) => Reply::Inserted(answer),
-        Err(_) => Reply::Refused(Fault::NoMemory),
+        Ok(at_end) => Reply::Inserted(at_end),
+        Err(why) => Reply::Refused(why),
     }
 }
 
 // The reply to a call that hands out a text.
-pub(super) fn handed_out(outcome: Result<Option<String>, Refusal>) -> Reply
+pub(super) fn handed_out(outcome: Result<Option<String>, Fault>) -> Reply
     ensures { result ≡ replied Reply.Text outcome }
 {
     match outcome {
         Ok(text) => Reply::Text(text),
-        Err(_) => Reply::Refused(Fault::NoMemory),
+        Err(why) => Reply::Refused(why),
     }
 }
 
 // The reply to a call that answers nothing.
-pub(super) fn done(outcome: Result<(), Refusal>) -> Reply
+pub(super) fn done(outcome: Result<(), Fault>) -> Reply
     ensures { result ≡ replied (λ _. Reply.Done) outcome }
 {
     match outcome {
         Ok(()) => Reply::Done,
-        Err(_) => Reply::Refused(Fault::NoMemory),
+        Err(why) => Reply::Refused(why),
+    }
+}
+
+// The reply to a call that says how many entries the record had.
+pub(super) fn marked(outcome: Result<usize, Fault>) -> Reply
+    ensures { result ≡ replied Reply.Mark outcome }
+{
+    match outcome {
+        Ok(entries) => Reply::Mark(entries),
+        Err(why) => Reply::Refused(why),
     }
 }

@@ -9,7 +9,7 @@ ghost use Rattle.rl_base.specs.declared.saving.SaveFault.TheVariants.{TooLong};
 ghost use Rattle.rl_base.specs.declared.saving.Width.TheVariants.{Eight};
 ghost use Rattle.rl_line.specs.Line.{Line};
 ghost use Rattle.rl_session.specs.SavedSession.{FitsSaving, IsSavedState, heading, line_numbers, mode_number, option_numbers, saved_line, saved_session, saved_state, sealed, state_numbers, truth_number, unwatched};
-ghost use Rattle.rl_session.specs.State.{ChangedFrom, Ends, HoldsLimit, State};
+ghost use Rattle.rl_session.specs.State.{ChangedFrom, Ends, KeepsLimit, State};
 ghost use Rattle.rl_session.specs.declared.options.Options.{Options};
 
 use crate::options::{Bound, Options};
@@ -70,7 +70,7 @@ impl Session {
         Ok(())
     }
 
-    fn numbers(&self) -> [u64; 11]
+    fn numbers(&self) -> [u64; 9]
         ensures numbers { result ≡ state_numbers self.now }
         ensures prompt { self.now.options.prompt < 2 ^ 16 }
     {
@@ -78,10 +78,8 @@ impl Session {
         [
             line.limit() as u64,
             line.pos() as u64,
-            truth_number(line.may_grow()),
             mode_number(options.mode),
             options.prompt as u64,
-            truth_number(options.holds),
             truth_number(options.keeps),
             options.bound.entries as u64,
             options.bound.bytes as u64,
@@ -97,7 +95,7 @@ impl Session {
         ensures loaded { (s : State) → IsSavedState s → bytes.now ≡ saved_session s → Loads (unwatched s) result }
         ensures sealed { OnOk result ((inside : List ℕ) × (bytes.now ≡ sealed inside)) }
         ensures ends { IfOk result Ends }
-        ensures held { IfOk result (λ s. s.options.holds ≡ true → HoldsLimit s) }
+        ensures held { IfOk result KeepsLimit }
         ensures changed { IfOk result (λ s. ChangedFrom s.line.text s) }
         ensures unknown { result ≡ Err Unknown ↔ ((inside : List ℕ) → bytes.now ≡ heading ++ inside → ⊥) }
     {
@@ -115,7 +113,7 @@ impl Session {
         ensures loaded { (s : State) → IsSavedState s → inside.now ≡ saved_state s → Loads (unwatched s) result }
         ensures part { IfErr result IsOfPart }
         ensures ends { IfOk result Ends }
-        ensures held { IfOk result (λ s. s.options.holds ≡ true → HoldsLimit s) }
+        ensures held { IfOk result KeepsLimit }
         ensures changed { IfOk result (λ s. ChangedFrom s.line.text s) }
     {
         let mut bytes = Unread::new(inside);
@@ -153,11 +151,11 @@ fn read_line(alloc: Global, bytes: &mut Unread) -> Result<(LineBuffer, Options),
     ensures grows_not { IfOk result (λ made. made.0.grow ≡ false) }
     ensures part { IfErr result IsOfPart }
 {
-    let mut head = [0; 11];
+    let mut head = [0; 9];
     if !bytes.numbers(Width::Eight, &mut head) {
         return Err(LoadFault::Damaged);
     }
-    let Some(text) = bytes.text(head[10]) else {
+    let Some(text) = bytes.text(head[8]) else {
         return Err(LoadFault::Damaged);
     };
     let Some(options) = options_of(head) else {
@@ -205,36 +203,34 @@ fn mode_of(number: u64) -> Option<GraphemeClusterMode>
 }
 
 // The options of these numbers, which stand after those of the line.
-fn options_of(head: [u64; 11]) -> Option<Options>
+fn options_of(head: [u64; 9]) -> Option<Options>
     ensures { (options : Options) (line : Line) (rest : List ℕ) → options.prompt < 2 ^ 16 → head ≡ line_numbers line ++ (option_numbers options ++ rest) → result ≡ Some options }
 {
-    let mode = mode_of(head[3])?;
-    let prompt = u16::try_from(head[4]).ok()?;
-    let holds = truth_of(head[5])?;
-    let keeps = truth_of(head[6])?;
+    let mode = mode_of(head[2])?;
+    let prompt = u16::try_from(head[3]).ok()?;
+    let keeps = truth_of(head[4])?;
     let bound = Bound {
-        entries: head[7] as usize,
-        bytes: head[8] as usize,
-        ring_bytes: head[9] as usize,
+        entries: head[5] as usize,
+        bytes: head[6] as usize,
+        ring_bytes: head[7] as usize,
     };
     Some(Options {
         mode,
         prompt,
         bound,
-        holds,
         keeps,
     })
 }
 
 // The line of these numbers and a text.
-fn line_of(alloc: Global, head: [u64; 11], text: &str) -> Result<LineBuffer, LoadFault>
+fn line_of(alloc: Global, head: [u64; 9], text: &str) -> Result<LineBuffer, LoadFault>
     ensures ok { IfOk result (λ made. (line : Line) (rest : List ℕ) → line.grow ≡ false → length text.now ≤ line.limit → head ≡ line_numbers line ++ rest → text.now ≡ line.text → made ≡ line) }
     ensures err { IfErr result (λ f. (line : Line) (rest : List ℕ) → line.grow ≡ false → IsCharBoundary line.text line.cursor → length text.now ≤ line.limit → head ≡ line_numbers line ++ rest → text.now ≡ line.text → f ≡ NoMemory) }
     ensures grows_not { IfOk result (λ made. made.grow ≡ false) }
     ensures part { IfErr result IsOfPart }
 {
     let (limit, pos) = (head[0] as usize, head[1] as usize);
-    if head[2] != 0 || text.len() > limit || !text.is_char_boundary(pos) {
+    if text.len() > limit || !text.is_char_boundary(pos) {
         return Err(LoadFault::Damaged);
     }
     match filled(LineBuffer::with_limit(alloc, limit), text, pos) {

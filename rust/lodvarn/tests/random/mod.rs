@@ -136,8 +136,9 @@ pub fn command(s: &mut Session, random: &mut Random) -> Result<(), Fault> {
 /// Changes an option of a session at random.
 fn change_options(s: &mut Session, random: &mut Random) -> Result<(), Fault> {
     let mut options = s.options();
-    match random.below(4) {
+    match random.below(5) {
         0 => options.limit = Some(random.below(257)),
+        4 => options.ring_size = random.below(9),
         1 => options.prompt = random.count(),
         2 => options.keeps_undone = random.below(2) > 0,
         _ => {

@@ -1,16 +1,23 @@
 -- `View::of` keeps where the text stands and how long it is.
-use Rattle.rl_ffi.proofs.WalkWords.{List, [], ◌∷◌, refl, Val, vstruct, vcons, vnil, ftrue, flft, ‵, ◌⊛◌, ◌$◌, ◌∵◌, !, qed, done, move, keep, join, split, fjoin, fpack, feq_i, suffices, whole, sub, agg, and_then, enter, fld, no_more, of_opd, returns, stop, alloc_all, pass_all, free_all, look_at, get, get_in, sets, yes, Valss, RawPtr, block_ptr, ptr_val, plain, nothing, within, Stays, says, stay_dropped, Goes-dropped, walk_of, ends_at}
-use Rattle.std.proofs.Common.{length, w64}
+use base.Fml.{ftrue, flft}
+use types.Kit.{‵, ◌⊛◌, ◌$◌, ◌∵◌, !, qed, done, move, keep, join, split, fjoin, fpack, feq_i, suffices}
+use types.Part.{whole, sub, agg}
+use denote.Exit.{yes}
+use denote.RattleType.{Valss}
+use denote.RawPtr.{RawPtr, block_ptr, ptr_val}
+use denote.Struct.Struct.{within}
+use denote.Triple.Walked.{Stays, says, stay_dropped, Goes-dropped, walk_of, ends_at}
+use Rattle.std.proofs.Common.{List, [], ◌∷◌, refl, length, w64}
 use Rattle.std.proofs.raw_atomic.Walks.{proved}
 use mir.Syntax.{named}
-use mir.Val.{Fits, vint}
-use types.Run.{addr, from, hop}
-use types.ByLocal.{look_in_at}
+use mir.Val.{Val, vstruct, vcons, vnil, Fits, vint}
+use types.Run.{and_then, enter, fld, no_more, of_opd, returns, stop, addr, from, hop}
+use types.ByLocal.{alloc_all, pass_all, free_all, look_at, get, get_in, sets, look_in_at}
 use denote.Builtin.{u8, usize}
 use denote.Plain.{uint_Makes}
-use denote.Signature.{shr_slice_of}
+use denote.Signature.{plain, shr_slice_of}
 use denote.Slice.{ShrSlice, shr_slice_vals, shr_slice_Tells}
-use denote.Steps.{owned}
+use denote.Steps.{nothing, owned}
 use denote.Struct.Declared.{shape}
 use Rattle.rl_ffi.specs.contracts.view.View as view
 use Rattle.rl_ffi.specs.contracts.view.View.of as f

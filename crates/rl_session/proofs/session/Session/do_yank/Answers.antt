@@ -1,7 +1,7 @@
 use Rattle.rl_base.specs.KillRing.{yank}
 use Rattle.rl_session.proofs.Common.{◌∙◌, ap, refl, sym, Ring, State, room_by_step, with_ring}
 use Rattle.rl_session.proofs.Sessions.IdleLemmas.{NoneStarts-lent, Outcome-beside, idle-yanked}
-use Rattle.rl_session.proofs.Sessions.ReplyLemmas.{Yank-replied}
+use Rattle.rl_session.proofs.Sessions.ReplyLemmas.{Yank-replied, told-returned}
 use Rattle.rl_session.proofs.Sessions.SessionLemmas.{AtRest-edit}
 use Rattle.rl_session.proofs.session.Session.do_yank.Goals as goal
 
@@ -20,4 +20,4 @@ returns c =
     let out = rw c.replace-ring.ensures.value at c.yank_into-outcome.ensures in
     let empty = ap (λ (k : Ring). k.killing) (c.replace-ring.ensures.after ∙ c.new.ensures) in
     let heard = Outcome-beside now.ring (idle-yanked old.pair.ring _ out.ring c.self.invariant.idle) _ old.line now.line _ now.pair _ (NoneStarts-lent old.line (yank old.pair.ring) c.args.n) empty out.line in
-    rw (← c.self.view_is) (Yank-replied c.args.n (with_ring now.ring old) old new _ (ap (λ k. with_ring k old) (sym out.ring)) c.inserted.ensures refl heard)
+    rw (← c.self.view_is) (Yank-replied c.args.n (with_ring now.ring old) old new _ (ap (λ k. with_ring k old) (sym out.ring)) (told-returned _ _ _ c.map_err.ensures.cases) refl heard)

@@ -1,7 +1,7 @@
 use Rattle.rl_base.specs.KillRing.{yank_pop}
 use Rattle.rl_session.proofs.Common.{◌∙◌, ap, refl, sym, Ring, State, room_by_step, with_ring}
 use Rattle.rl_session.proofs.Sessions.IdleLemmas.{NoneStarts-popped, Outcome-beside, idle-popped}
-use Rattle.rl_session.proofs.Sessions.ReplyLemmas.{Pop-replied}
+use Rattle.rl_session.proofs.Sessions.ReplyLemmas.{Pop-replied, told-returned}
 use Rattle.rl_session.proofs.Sessions.SessionLemmas.{AtRest-edit}
 use Rattle.rl_session.proofs.session.Session.do_yank_pop.Goals as goal
 
@@ -20,4 +20,4 @@ returns c =
     let out = rw c.replace-ring.ensures.value at c.pop_into-outcome.ensures in
     let empty = ap (λ (k : Ring). k.killing) (c.replace-ring.ensures.after ∙ c.new.ensures) in
     let heard = Outcome-beside now.ring (idle-popped old.pair.ring _ out.ring c.self.invariant.idle) _ old.line now.line _ now.pair _ (NoneStarts-popped old.line (yank_pop old.pair.ring)) empty out.line in
-    rw (← c.self.view_is) (Pop-replied (with_ring now.ring old) old new _ (ap (λ k. with_ring k old) (sym out.ring)) (rw (← c.self.view_is) at c.stands_yanked.ensures.yes c.if-not-stands_yanked.false) c.inserted.ensures refl heard)
+    rw (← c.self.view_is) (Pop-replied (with_ring now.ring old) old new _ (ap (λ k. with_ring k old) (sym out.ring)) (rw (← c.self.view_is) at c.stands_yanked.ensures.yes c.if-not-stands_yanked.false) (told-returned _ _ _ c.map_err.ensures.cases) refl heard)

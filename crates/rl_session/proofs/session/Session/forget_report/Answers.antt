@@ -6,8 +6,8 @@ returns-clause-nothing c = rw (← c.self.view_is) (reads_nothing (record { line
 
 pub returns-clause-with_texts : goal.returns-clause-with_texts
 returns-clause-with_texts c =
-    rw (c.forget_report.ensures, ← c.self.view_is) (reads_texts (record { line = c.self.inside.line; pair = c.self.inside.pair; options = c.self.inside.options }))
+    rw (c.forget_report.ensures.forgotten, ← c.self.view_is) (reads_texts (record { line = c.self.inside.line; pair = c.self.inside.pair; options = c.self.inside.options }))
 
 pub returns-clause-whole : goal.returns-clause-whole
 returns-clause-whole c =
-    rw (c.forget_report.ensures, ← c.self.view_is) (reads_whole (record { line = c.self.inside.line; pair = c.self.inside.pair; options = c.self.inside.options }))
+    rw (c.forget_report.ensures.forgotten, ← c.self.view_is) (reads_whole (record { line = c.self.inside.line; pair = c.self.inside.pair; options = c.self.inside.options }))

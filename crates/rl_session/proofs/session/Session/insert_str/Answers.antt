@@ -1,6 +1,6 @@
 use Rattle.rl_session.proofs.Common.{refl}
-use Rattle.rl_session.proofs.Sessions.StepLemmas.{step_done}
+use Rattle.rl_session.proofs.Sessions.PerformLemmas.{bars_not, done}
 use Rattle.rl_session.proofs.session.Session.insert_str.Goals as goal
 
 pub returns : goal.returns
-returns c = λ text e. step_done _ _ c.reset_ring.ensures (c.do_insert_str-reply.ensures text e) refl c.ends.ensures
+returns c = λ text e. done _ _ _ _ _ _ _ _ c.forget.ensures (c.do_insert_str-done.ensures text e) refl c.reset_ring.ensures c.in_ok-keep_first.ensures.ok (bars_not _ _ _ c.if-insert_str_is_too_long.false (c.insert_str_is_too_long.ensures text e)) refl

@@ -1,4 +1,4 @@
-use Rattle.rl_session.proofs.Common.{◌∙◌, ap, sym, subst, refl, IsUtf8, Ring, Line}
+use Rattle.rl_session.proofs.Common.{◌≡◌, ◌∙◌, ap, arith, length, max, sym, subst, refl, IsUtf8, Ring, Line}
 use Rattle.rl_session.proofs.Sessions.RestartLemmas.{Walks-nothing}
 use Rattle.rl_session.proofs.Sessions.WatchLemmas.{changed_restarted, reported_restarted}
 use Rattle.rl_session.proofs.session.Session.restart.Goals as goal
@@ -11,7 +11,9 @@ invariant_of-self-2 c = record {
 
 pub returns-clause-ok : goal.returns-clause-ok
 returns-clause-ok c =
-    (c.if-not-is_char_boundary.ensures.test.0 refl, rw (← c.self.view_is, c.in_ok-renew.ensures.line, c.in_ok-renew.ensures.told, c.reset.ensures, c.new.ensures) refl)
+    let old = c.self.inside.line in
+    let limit : max old.limit (length c.args.text.now) ≡ old.limit = omega (arith, c.if-text-limit.false, c.limit.ensures.limit) in
+    (c.if-not-is_char_boundary.ensures.test.0 refl, rw (← c.self.view_is, c.in_ok-renew.ensures.line, c.in_ok-renew.ensures.told, c.reset.ensures, c.new.ensures, limit) refl)
 
 pub returns-clause-changed : goal.returns-clause-changed
 returns-clause-changed c = λ asked from. changed_restarted asked c.args.text.now c.args.pos c.args.self.now _ (returns-clause-ok c).1 c.stands-2.ensures c.bounded-2.ensures from

@@ -1,19 +1,8 @@
-use Rattle.rl_base.proofs.Ring.BoundLemmas.{IsRing-within, killing-within}
 use Rattle.rl_line.proofs.Records.ForgettingLemmas.{left-replays}
 use Rattle.rl_line.proofs.Records.RecordLemmas.{replay-IsUtf8}
-use Rattle.rl_session.proofs.Common.{◌∙◌, gone, within_bound, State, Stands}
+use Rattle.rl_session.proofs.Common.{gone}
+use Rattle.rl_session.proofs.Runs.CallLemmas.{changed-forgets, reported-forgets}
 use Rattle.rl_session.proofs.session.forgetting.what_is_left_replays.Goals as goal
-
-still : (s : State) → Stands s → Stands (within_bound s)
-still s h =
-    let bytes = s.options.bound.ring_bytes in
-    record {
-      utf8 = h.utf8;
-      cursor = h.cursor;
-      within = h.within;
-      ring = IsRing-within bytes s.pair.ring h.ring;
-      idle = killing-within bytes s.pair.ring ∙ h.idle;
-    }
 
 pub returns-clause-replays : goal.returns-clause-replays
 returns-clause-replays c = λ start s from.
@@ -27,7 +16,7 @@ returns-clause-replays c = λ start s from.
     }
 
 pub returns-clause-changed : goal.returns-clause-changed
-returns-clause-changed c = λ asked s from. record { stands = still s from.stands; bounded = from.bounded; covers = from.covers }
+returns-clause-changed c = changed-forgets
 
 pub returns-clause-reported : goal.returns-clause-reported
-returns-clause-reported c = λ read s from. record { stands = still s from.stands; bounded = from.bounded; text = from.text; leads = from.leads }
+returns-clause-reported c = reported-forgets

@@ -1,4 +1,0 @@
-mod HandleSteps
-mod ReportLogLemmas
-mod PartsSteps
-mod WalkWords

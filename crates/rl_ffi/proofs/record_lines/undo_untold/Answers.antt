@@ -1,9 +1,0 @@
-use Rattle.std.proofs.Common.{refl}
-use Rattle.rl_line.proofs.Records.HeardLemmas.{room_back-change}
-use Rattle.rl_line.specs.Units.{last_of}
-use Rattle.rl_ffi.proofs.record_lines.undo_untold.Goals as goal
-
-pub returns-in-Err-clause-err : goal.returns-in-Err-clause-err
-returns-in-Err-clause-err c =
-    let e = c.in-Err.ensures.err in
-    (refl, room_back-change (last_of c.args.n c.args.changes.now.recorded) c.args.line.now.text e.3, e.1, e.2)

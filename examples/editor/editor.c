@@ -1,0 +1,561 @@
+/* A line editor for a terminal over Lodvarn: the Emacs keys of GNU readline, UTF-8, several rows. Each accepted text
+ * is printed as "=> text". C-d on an empty text ends the editor, C-c drops the text, and C-z stops the job.
+ *
+ *     edit [FILE]    edits FILE: Enter begins a row, C-x C-s writes FILE, and C-c ends the editor
+ *
+ * The session is written with FILE, to .FILE.undo beside it. As long as it has the text of FILE, the next run goes on
+ * with it: with what may be undone and redone, and with the kill ring. */
+#define _DEFAULT_SOURCE
+#include "../prompt/kept.h"
+#include "lodvarn.h"
+#include <errno.h>
+#include <signal.h>
+#include <stdio.h>
+#include <stdlib.h>
+#include <string.h>
+#include <sys/ioctl.h>
+#include <sys/select.h>
+#include <termios.h>
+#include <unistd.h>
+
+enum {
+    LIMIT = 65536, /* bytes that a text may have */
+    WAIT = 200     /* milliseconds to wait for the rest of a key */
+};
+
+static const char prompt[] = "> ";
+static const uint16_t prompt_columns = 2;
+
+/* A screen of that many columns, where a tab is drawn as a blank. */
+static lodvarn_screen screen_of(uint16_t columns) {
+    return (lodvarn_screen){.columns = columns, .prompt = prompt_columns, .mode = LODVARN_UNICODE};
+}
+
+/* The screen. Prompt and text make rows, as lodvarn_cell counts them, up to the row last. Those from top to bottom are
+ * shown on a screen of that size. */
+struct view {
+    size_t top, bottom, last;
+    uint16_t columns, height;
+};
+
+/* A place of the text and where it stands. */
+struct spot { size_t place, row, column; };
+
+struct editor {
+    lodvarn *session;
+    struct termios before; /* the terminal's modes outside of the editor */
+    sigset_t unblocked;    /* the signals that are blocked while the editor waits */
+    int is_raw, is_over, rings;
+    char *text; /* as it was drawn last */
+    size_t len, size;
+    struct view shown;  /* of no height if nothing is shown */
+    struct spot cursor; /* the terminal's, in rows of the text */
+    unsigned char input[4096];
+    size_t input_len, input_at;
+    char pasted[LIMIT], output[65536];
+    const char *path; /* of the file that is edited, or NULL */
+    char kept[4104];  /* that of its session. What is too long here is so for the system */
+};
+
+/* Moves the terminal's cursor to a cell. Only relative moves lead to its row, since what was there before the editor
+ * began stands above. */
+static void go_to(struct editor *e, size_t row, size_t column) {
+    if (row < e->cursor.row) printf("\x1b[%zuA", e->cursor.row - row);
+    if (row > e->cursor.row) printf("\x1b[%zuB", row - e->cursor.row);
+    printf("\x1b[%zuG", column + 1);
+    e->cursor.row = row;
+}
+
+static void forget_screen(struct editor *e) {
+    e->shown = (struct view){0, 0, 0, 0, 0};
+    e->cursor = (struct spot){0, 0, 0};
+}
+
+/* The terminal's modes. */
+
+/* Lets each byte come as it is typed, and a paste between marks. */
+static void enter_raw(struct editor *e) {
+    struct termios raw = e->before;
+    raw.c_iflag &= ~(tcflag_t)(BRKINT | ICRNL | INPCK | ISTRIP | IXON);
+    raw.c_lflag &= ~(tcflag_t)(ECHO | ICANON | IEXTEN | ISIG);
+    raw.c_cc[VMIN] = 1;
+    raw.c_cc[VTIME] = 0;
+    tcsetattr(0, TCSADRAIN, &raw);
+    fputs("\x1b[?2004h", stdout);
+    forget_screen(e);
+    e->is_raw = 1;
+}
+
+/* Leaves the cursor after what is shown, and the modes as they were before. */
+static void leave_raw(struct editor *e) {
+    if (!e->is_raw) return;
+    go_to(e, e->shown.bottom, 0);
+    fputs("\r\n\x1b[?2004l", stdout);
+    fflush(stdout);
+    tcsetattr(0, TCSADRAIN, &e->before);
+    e->is_raw = 0;
+}
+
+static void end_without_memory(struct editor *e) {
+    leave_raw(e);
+    fputs("edit: out of memory\n", stderr);
+    exit(1);
+}
+
+/* What the signals said: which one ends the editor, or 0, and whether it goes on after it was stopped. A change of the
+ * screen's size says nothing here, and only ends the wait. */
+static volatile sig_atomic_t ended_by, goes_on;
+
+static void note(int number) {
+    if (number == SIGCONT) goes_on = 1;
+    else if (number != SIGWINCH) ended_by = number;
+}
+
+/* Blocks the signals that the editor hears, which come only while it waits. */
+static void hear_signals(struct editor *e) {
+    static const int heard[] = {SIGWINCH, SIGCONT, SIGTERM, SIGINT, SIGHUP};
+    sigset_t blocked;
+    sigemptyset(&blocked);
+    for (size_t i = 0; i < sizeof heard / sizeof *heard; i++) {
+        sigaddset(&blocked, heard[i]);
+        signal(heard[i], note);
+    }
+    sigprocmask(SIG_BLOCK, &blocked, &e->unblocked);
+}
+
+/* The drawing. */
+
+/* Keeps the text, since what the session lends is gone after the next edit. */
+static void read_text(struct editor *e) {
+    lodvarn_view text;
+    lodvarn_text(e->session, &text);
+    if (text.len >= e->size) {
+        free(e->text);
+        e->text = malloc(e->size = 2 * text.len + 64);
+        if (!e->text) end_without_memory(e);
+    }
+    memcpy(e->text, text.at, e->len = text.len);
+}
+
+/* Begins the next row. Before that it erases what is left of the last one, if that is not full. */
+static void begin_row(struct editor *e, struct spot *at, const struct view *view) {
+    int was_shown = view->top <= at->row && at->row <= view->bottom;
+    if (was_shown && at->column < view->columns) fputs("\x1b[K", stdout);
+    if (was_shown && at->row < view->bottom) {
+        fputs("\r\n", stdout);
+        e->cursor.row = at->row + 1;
+    }
+    at->row++;
+    at->column = 0;
+}
+
+/* Draws a cluster, or begins the row after a newline. A tab is a blank. The terminal may measure a cluster of
+ * several characters as the sum of their widths. So the cursor is placed after it, and at the right edge it is not
+ * wrapped. */
+static void draw_cluster(struct editor *e, const char *bytes, lodvarn_cluster it, struct spot *at,
+                         const struct view *view) {
+    size_t sum = 0, len = it.to - it.from;
+    if (*bytes == '\n' || at->column + it.columns > view->columns) begin_row(e, at, view);
+    if (*bytes == '\n') return;
+    at->column += it.columns;
+    if (at->row < view->top || view->bottom < at->row) return;
+    if (at->column >= view->columns) lodvarn_width(LODVARN_WC_WIDTH, bytes, len, &sum);
+    if (sum > it.columns) fputs("\x1b[?7l", stdout);
+    fwrite(*bytes == '\t' ? " " : bytes, 1, len, stdout);
+    if (sum > it.columns) fputs("\x1b[?7h", stdout);
+    if (len > 1 && at->column < view->columns) printf("\x1b[%zuG", at->column + 1);
+}
+
+/* Draws the text from a spot up to a place, and erases what is left of the row there, or of all at the text's end. */
+static void draw(struct editor *e, struct spot at, size_t end, const struct view *view) {
+    if (view->bottom < at.row) return;
+    if (at.row < view->top) go_to(e, view->top, 0);
+    else go_to(e, at.row, at.column);
+    if (at.place == 0) {
+        if (view->top == 0) fputs(prompt, stdout);
+        at.column = prompt_columns;
+    }
+    for (lodvarn_cluster it; at.place < end && lodvarn_cluster_at(e->session, at.place, &it) > 0; at.place = it.to)
+        draw_cluster(e, e->text + at.place, it, &at, view);
+    if (end == e->len && at.column >= view->columns) begin_row(e, &at, view);
+    if (at.row < view->top || view->bottom < at.row || at.column >= view->columns) return;
+    /* What is erased from the screen's first cell on would go into the scrollback of some terminals. */
+    int takes_below = end == e->len && (at.row > view->top || at.column > 0);
+    fputs(takes_below ? "\x1b[J" : "\x1b[K", stdout);
+}
+
+/* Where to begin if the text has changed from a place on: a cluster before, since what comes may join that one, and not
+ * at the left edge of a row that is wrapped, since what comes may fit in the row above. */
+static struct spot spot_before(struct editor *e, size_t place, uint16_t columns) {
+    lodvarn_screen screen = screen_of(columns);
+    lodvarn_position cell = {0, 0};
+    lodvarn_cluster it;
+    do {
+        if (lodvarn_cluster_before(e->session, place, &it) <= 0 || it.from == 0) return (struct spot){0, 0, 0};
+        place = it.from;
+        lodvarn_cell(&screen, place, e->text, place, &cell);
+    } while (cell.column == 0 && e->text[place - 1] != '\n');
+    return (struct spot){place, cell.line, cell.column};
+}
+
+/* What of the text should be shown on a screen of that size, and the spot of the cursor. */
+static struct view view_of(struct editor *e, struct winsize size, struct spot *cursor) {
+    lodvarn_screen screen = screen_of(size.ws_col);
+    lodvarn_position at = {0, 0}, last = {0, 0};
+    size_t pos = lodvarn_pos(e->session);
+    lodvarn_cell(&screen, pos, e->text, e->len, &at);
+    lodvarn_cell(&screen, e->len, e->text, e->len, &last);
+    *cursor = (struct spot){pos, at.line, at.column};
+    size_t top = at.line < size.ws_row ? 0 : at.line - size.ws_row + 1;
+    size_t bottom = last.line - top < size.ws_row ? last.line : top + size.ws_row - 1;
+    return (struct view){top, bottom, last.line, size.ws_col, size.ws_row};
+}
+
+/* How many rows lower the cursor is once the terminal has got narrower. Most terminals then wrap each row that no
+ * longer fits. A wider one joins none, since each row was begun by a newline. */
+static size_t rows_wrapped(const struct editor *e, uint16_t columns) {
+    lodvarn_screen before = screen_of(e->shown.columns), now = screen_of(columns);
+    size_t wrapped = 0;
+    for (size_t row = e->shown.top; row <= e->cursor.row; row++) {
+        lodvarn_position start = {row, 0}, end = {row + 1, 0};
+        size_t from = 0, to = 0, on = 0, pos = e->cursor.place;
+        lodvarn_place_at(&before, start, e->text, e->len, &from);
+        lodvarn_place_at(&before, end, e->text, e->len, &to);
+        /* The cursor stands on a cluster, with which it may be wrapped. */
+        lodvarn_first_cluster(e->text + pos, e->len - pos, &on);
+        if (row == e->cursor.row && pos + on < to) to = pos + on;
+        if (to > from && e->text[to - 1] == '\n') to--;
+        now.prompt = row ? 0 : prompt_columns;
+        lodvarn_cell(&now, to - from, e->text + from, to - from, &end);
+        wrapped += end.line - (end.line && !end.column);
+    }
+    return wrapped;
+}
+
+/* Draws all if other rows are shown than before. Else it draws from the first change on: to the end, or if there
+ * are as many rows as before, to the end of the line in which the last change ends. */
+static void redraw(struct editor *e) {
+    lodvarn_splice change;
+    struct winsize size;
+    struct spot cursor;
+    if (ioctl(1, TIOCGWINSZ, &size) || !size.ws_col || !size.ws_row) size = (struct winsize){24, 80, 0, 0};
+    if (size.ws_col < e->shown.columns) e->cursor.row += rows_wrapped(e, size.ws_col);
+    int has_changed = lodvarn_take_change(e->session, &change) > 0;
+    read_text(e);
+    struct view view = view_of(e, size, &cursor);
+    if (view.top != e->shown.top || view.columns != e->shown.columns || view.height != e->shown.height) {
+        e->cursor.row = e->cursor.row - e->shown.top + view.top;
+        go_to(e, view.top, 0);
+        /* Erases the first row, and then what is below it, for the reason in draw. */
+        fputs("\x1b[K\x1b" "7\x1b[B\x1b[J\x1b" "8", stdout);
+        draw(e, (struct spot){0, 0, 0}, e->len, &view);
+    } else if (has_changed) {
+        const char *newline = NULL;
+        if (view.last == e->shown.last) newline = memchr(e->text + change.new_to, '\n', e->len - change.new_to);
+        draw(e, spot_before(e, change.from, view.columns), newline ? (size_t)(newline - e->text) : e->len, &view);
+    }
+    go_to(e, cursor.row, cursor.column);
+    e->cursor.place = cursor.place;
+    if (e->rings) putchar('\a');
+    e->rings = 0;
+    fflush(stdout);
+    e->shown = view;
+}
+
+/* The input. All that waits is read at once and drawn once: the editor draws only if it has to wait for a byte. */
+
+enum { END = -1, LATE = -2, FOR_EVER = -1 };
+
+/* Waits for input, that many milliseconds or for ever, and hears the signals that are not in the mask. Returns above 0
+ * if there is input, or its end, 0 if none came, and below 0 if a signal did. */
+static int await_input(int milliseconds, const sigset_t *mask) {
+    struct timespec time = {milliseconds / 1000, milliseconds % 1000 * 1000000L};
+    fd_set terminal;
+    FD_ZERO(&terminal);
+    FD_SET(0, &terminal);
+    int ready = pselect(1, &terminal, NULL, NULL, milliseconds == FOR_EVER ? NULL : &time, mask);
+    return ready < 0 && errno != EINTR ? 1 : ready;
+}
+
+/* The next byte, END at the end of input or of the editor, or LATE if none comes in time. */
+static int next_byte(struct editor *e, int milliseconds) {
+    if (e->input_at == e->input_len) {
+        int ready = await_input(0, NULL);
+        while (ready <= 0 && !ended_by) {
+            redraw(e);
+            ready = await_input(milliseconds, &e->unblocked);
+            if (ready == 0) return LATE;
+            if (goes_on && !ended_by) enter_raw(e);
+            goes_on = 0;
+        }
+        ssize_t len = ended_by ? 0 : read(0, e->input, sizeof e->input);
+        if (len <= 0) return END;
+        e->input_len = (size_t)len;
+        e->input_at = 0;
+    }
+    return e->input[e->input_at++];
+}
+
+/* Lets the last byte be read again. */
+static void put_back(struct editor *e) { e->input_at--; }
+
+struct character {
+    uint32_t number;
+    size_t len;
+    char bytes[4];
+};
+
+/* Reads the rest of the character that begins with this byte. Returns 0 if the bytes are not UTF-8, or a control
+ * character. */
+static int read_character(struct editor *e, int byte, int milliseconds, struct character *c) {
+    static const uint32_t least[] = {0, 0x20, 0xa0, 0x800, 0x10000};
+    size_t len = byte < 0x7f ? 1 : byte < 0xc2 ? 0 : byte < 0xe0 ? 2 : byte < 0xf0 ? 3 : byte < 0xf5 ? 4 : 0;
+    *c = (struct character){len > 1 ? (uint32_t)byte & (0x7fu >> len) : (uint32_t)byte, 1, {(char)byte, 0, 0, 0}};
+    while (c->len < len) {
+        int next = next_byte(e, milliseconds);
+        if ((next & ~0x3f) != 0x80) {
+            if (next >= 0) put_back(e);
+            return 0;
+        }
+        c->number = c->number << 6 | ((uint32_t)next & 0x3f);
+        c->bytes[c->len++] = (char)next;
+    }
+    return len > 0 && c->number >= least[len] && c->number < 0x110000 && c->number >> 11 != 0xd800 >> 11;
+}
+
+/* What keys do. The number comes from the table of keys. The bell rings if nothing went in, or a call was refused. */
+
+static void insert(struct editor *e, uint32_t c) { e->rings |= lodvarn_insert(e->session, c, 1) <= 0; }
+
+static void delete_or_end(struct editor *e, uint32_t n) {
+    lodvarn_view text;
+    lodvarn_text(e->session, &text);
+    if (text.len == 0) e->is_over = 1;
+    else e->rings |= lodvarn_delete(e->session, n) < 0;
+}
+
+static void yank(struct editor *e, uint32_t older) {
+    e->rings |= (older ? lodvarn_yank_pop(e->session) : lodvarn_yank(e->session, 1)) <= 0;
+}
+
+enum { CHARS, WORDS };
+
+static void change(struct editor *e, uint32_t what) {
+    int answer = what == CHARS ? lodvarn_transpose_chars(e->session)
+        : what == WORDS ? lodvarn_transpose_words(e->session, 1) : lodvarn_change_case(e->session, what);
+    e->rings |= answer < 0;
+}
+
+static void undo(struct editor *e, uint32_t again) {
+    e->rings |= (again ? lodvarn_redo(e->session) : lodvarn_undo(e->session, 1)) < 0;
+}
+
+/* Adds bytes to what is pasted. Where they are more than a text may have, only their number is kept. */
+static void add_pasted(struct editor *e, const char *bytes, size_t count, size_t *len) {
+    if (*len + count <= LIMIT) memcpy(e->pasted + *len, bytes, count);
+    *len += count;
+}
+
+/* Puts in a paste as one text, without its control characters. Terminals send its newlines as "\r". What begins like the
+ * mark of its end, and is not, is text too. */
+static void paste(struct editor *e, uint32_t unused) {
+    static const char mark[] = "\x1b[201~";
+    struct character c;
+    size_t len = 0, marked = 0;
+    (void)unused;
+    for (int byte, last = 0; mark[marked] && (byte = next_byte(e, FOR_EVER)) >= 0; last = byte) {
+        if (byte == mark[marked]) {
+            marked++;
+            continue;
+        }
+        if (marked > 1) add_pasted(e, mark + 1, marked - 1, &len);
+        marked = byte == mark[0];
+        if (byte == '\r' || (byte == '\n' && last != '\r')) add_pasted(e, "\n", 1, &len);
+        else if (byte == '\t') add_pasted(e, "\t", 1, &len);
+        else if (read_character(e, byte, FOR_EVER, &c)) add_pasted(e, c.bytes, c.len, &len);
+    }
+    if (!mark[marked]) e->rings |= len > LIMIT || lodvarn_paste(e->session, e->pasted, len, 1) <= 0;
+}
+
+static void clear_screen(struct editor *e, uint32_t unused) {
+    (void)unused;
+    fputs("\x1b[H", stdout);
+    forget_screen(e);
+}
+
+/* Stops the job as the terminal's own C-z does, until it is continued. */
+static void stop(struct editor *e, uint32_t stopping) {
+    sigset_t blocked;
+    redraw(e);
+    leave_raw(e);
+    sigprocmask(SIG_SETMASK, &e->unblocked, &blocked);
+    kill(0, (int)stopping);
+    sigprocmask(SIG_SETMASK, &blocked, NULL);
+    goes_on = 0;
+    if (!ended_by) enter_raw(e);
+}
+
+/* Opens the session of the file, or begins one with its text: UTF-8, without control characters but for tabs and
+ * newlines. Returns whether it could. */
+static int open_file(struct editor *e, lodvarn_options options) {
+    const char *slash = strrchr(e->path, '/'), *name = slash ? slash + 1 : e->path;
+    lodvarn_view kept = {"", 0};
+    size_t len = 0;
+    char *text = kept_read(e->path, &len);
+    int can_open = text || errno == ENOENT;
+    for (size_t i = 0; can_open && i < len; i++) {
+        unsigned char byte = (unsigned char)text[i], next = i + 1 < len ? (unsigned char)text[i + 1] : ' ';
+        can_open = byte < ' ' ? strchr("\t\n", byte) && byte : byte != 0x7f && (byte != 0xc2 || next >= 0xa0);
+    }
+    if (options.limit < len) options.limit = len;
+    snprintf(e->kept, sizeof e->kept, "%.*s.%s.undo", (int)(name - e->path), e->path, name);
+    if (can_open && (e->session = kept_load(e->kept, options))) lodvarn_text(e->session, &kept);
+    if (kept.len != len || (len && memcmp(kept.at, text, len))) lodvarn_close(&e->session);
+    if (can_open && !e->session) lodvarn_open(&e->session, &options, text, len);
+    free(text);
+    return e->session != NULL;
+}
+
+static void write_file(struct editor *e, uint32_t unused) {
+    lodvarn_view text;
+    (void)unused;
+    lodvarn_text(e->session, &text);
+    int is_written = e->path && kept_write(e->path, 0666, text.len ? text.at : "", text.len);
+    if (is_written) lodvarn_set_saved(e->session);
+    e->rings |= !is_written || !kept_save(e->kept, e->session);
+}
+
+/* Shows the text up to its end, prints it if it is accepted, and begins the next one, with the kill ring as it is. A
+ * file goes on, or the editor ends. */
+static void end_text(struct editor *e, uint32_t is_accepted) {
+    if (e->path && is_accepted) insert(e, '\n');
+    e->is_over = e->path && !is_accepted;
+    if (e->path) return;
+    lodvarn_move(e->session, lodvarn_to_text_end());
+    redraw(e);
+    if (is_accepted) printf("\n=> %.*s\n", (int)e->len, e->text);
+    else fputs("^C\n", stdout);
+    if (lodvarn_restart(e->session, "", 0) < 0) end_without_memory(e);
+    forget_screen(e);
+}
+
+static lodvarn_movement char_back(void) { return lodvarn_chars_back(1); }
+static lodvarn_movement char_forward(void) { return lodvarn_chars_forward(1); }
+static lodvarn_movement line_up(void) { return lodvarn_lines_up(1); }
+static lodvarn_movement line_down(void) { return lodvarn_lines_down(1); }
+static lodvarn_movement word_back(void) { return lodvarn_words_back(LODVARN_EMACS, 1); }
+static lodvarn_movement word_end(void) { return lodvarn_words_forward(LODVARN_EMACS, LODVARN_AFTER_END, 1); }
+static lodvarn_movement big_word_back(void) { return lodvarn_words_back(LODVARN_BIG, 1); }
+
+/* What keys send, readline's name for what they do, and a call with its movement, or a function with its number. What
+ * readline has no name for is said in several words. The ring keeps what is killed, but not what a kill by characters
+ * deletes. */
+static const struct key {
+    const char *bytes[3], *name;
+    int (*call)(lodvarn *, lodvarn_movement);
+    lodvarn_movement (*by)(void);
+    void (*does)(struct editor *, uint32_t);
+    uint32_t number;
+} keys[] = {
+    {{"\x01", "\x1b[H", "\x1b[1~"}, "beginning-of-line", .call = lodvarn_move, .by = lodvarn_to_line_start},
+    {{"\x02", "\x1b[D"}, "backward-char", .call = lodvarn_move, .by = char_back},
+    {{"\x03"}, "drop the text", .does = end_text},
+    {{"\x04"}, "delete-char", .does = delete_or_end, .number = 1},
+    {{"\x1b[3~"}, "delete-char", .call = lodvarn_kill, .by = char_forward},
+    {{"\x05", "\x1b[F", "\x1b[4~"}, "end-of-line", .call = lodvarn_move, .by = lodvarn_to_line_end},
+    {{"\x06", "\x1b[C"}, "forward-char", .call = lodvarn_move, .by = char_forward},
+    {{"\x08", "\x7f"}, "backward-delete-char", .call = lodvarn_kill, .by = char_back},
+    {{"\n", "\r"}, "accept-line", .does = end_text, .number = 1},
+    {{"\x0b"}, "kill-line", .call = lodvarn_kill, .by = lodvarn_to_line_end},
+    {{"\x0c"}, "clear-screen", .does = clear_screen},
+    {{"\x0e", "\x1b[B"}, "to the line below", .call = lodvarn_move, .by = line_down},
+    {{"\x10", "\x1b[A"}, "to the line above", .call = lodvarn_move, .by = line_up},
+    {{"\x14"}, "transpose-chars", .does = change, .number = CHARS},
+    {{"\x15"}, "unix-line-discard", .call = lodvarn_kill, .by = lodvarn_to_line_start},
+    {{"\x17"}, "unix-word-rubout", .call = lodvarn_kill, .by = big_word_back},
+    {{"\x19"}, "yank", .does = yank},
+    {{"\x1a"}, "stop the job", .does = stop, .number = SIGTSTP},
+    {{"\x1f", "\x18\x15"}, "undo", .does = undo},
+    {{"\x18\x13"}, "write the file", .does = write_file},
+    {{"\x1b" "b", "\x1b[1;5D"}, "backward-word", .call = lodvarn_move, .by = word_back},
+    {{"\x1b" "f", "\x1b[1;5C"}, "forward-word", .call = lodvarn_move, .by = word_end},
+    {{"\x1b" "d"}, "kill-word", .call = lodvarn_kill, .by = word_end},
+    {{"\x1b\x7f"}, "backward-kill-word", .call = lodvarn_kill, .by = word_back},
+    {{"\x18\x7f"}, "backward-kill-line", .call = lodvarn_kill, .by = lodvarn_to_line_start},
+    {{"\x1b" "c"}, "capitalize-word", .does = change, .number = LODVARN_CAPITALIZE},
+    {{"\x1b" "l"}, "downcase-word", .does = change, .number = LODVARN_LOWERCASE},
+    {{"\x1b" "u"}, "upcase-word", .does = change, .number = LODVARN_UPPERCASE},
+    {{"\x1b" "t"}, "transpose-words", .does = change, .number = WORDS},
+    {{"\x1b" "y"}, "yank-pop", .does = yank, .number = 1},
+    {{"\x1b" "_"}, "redo a change", .does = undo, .number = 1},
+    {{"\x1b" "<"}, "to the start of the text", .call = lodvarn_move, .by = lodvarn_to_text_start},
+    {{"\x1b" ">"}, "to the end of the text", .call = lodvarn_move, .by = lodvarn_to_text_end},
+    {{"\x1b\r"}, "insert a newline", .does = insert, .number = '\n'},
+    {{"\x1b[200~"}, "bracketed-paste-begin", .does = paste},
+};
+
+/* The key of exactly these bytes, or one that begins with them. */
+static const struct key *key_of(const char *bytes, size_t len, int whole) {
+    for (size_t i = 0; i < sizeof keys / sizeof *keys; i++)
+        for (size_t k = 0; k < 3 && keys[i].bytes[k]; k++)
+            if (!strncmp(keys[i].bytes[k], bytes, len) && whole == !keys[i].bytes[k][len]) return &keys[i];
+    return NULL;
+}
+
+/* Skips the rest of a key that does nothing here, such as F5. An escape in the middle of it begins another key. */
+static void pass_over(struct editor *e, const char *bytes, size_t len) {
+    int byte = bytes[len - 1], ends = len > 2;
+    if (len > 1 && byte == 0x1b) put_back(e);
+    if (len < 2 || byte == 0x1b || (bytes[1] != '[' && bytes[1] != 'O')) return;
+    for (; byte >= 0 && !(ends && 0x40 <= byte && byte <= 0x7e); ends = 1) byte = next_byte(e, WAIT);
+}
+
+/* Reads a character and inserts it, or a key, and does what it says. What is cut short or not UTF-8 is skipped. Returns
+ * 0 if the editor should end. */
+static int take_key(struct editor *e) {
+    struct character c;
+    char bytes[8];
+    size_t len = 0;
+    int byte = next_byte(e, FOR_EVER);
+    if (byte >= 0x20 && byte != 0x7f) {
+        if (read_character(e, byte, WAIT, &c)) insert(e, c.number);
+        return 1;
+    }
+    while (byte >= 0) {
+        bytes[len++] = (char)byte;
+        const struct key *key = key_of(bytes, len, 1);
+        if (key && key->call) e->rings |= key->call(e->session, key->by()) < 0;
+        else if (key) key->does(e, key->number);
+        else if (len == sizeof bytes || !key_of(bytes, len, 0)) pass_over(e, bytes, len);
+        else {
+            byte = next_byte(e, bytes[0] == 0x1b ? WAIT : FOR_EVER);
+            continue;
+        }
+        break;
+    }
+    return byte != END && !e->is_over;
+}
+
+int main(int argc, char **argv) {
+    static struct editor e;
+    if (tcgetattr(0, &e.before)) return perror("edit"), 1;
+    lodvarn_options options = LODVARN_OPTIONS;
+    options.limit = LIMIT;
+    options.prompt = prompt_columns;
+    e.path = argc > 1 ? argv[1] : NULL;
+    if (e.path ? !open_file(&e, options) : lodvarn_open(&e.session, &options, "", 0) < 0)
+        return fprintf(stderr, "edit: can't open %s\n", e.path ? e.path : "a session"), 1;
+    setvbuf(stdout, e.output, _IOFBF, sizeof e.output);
+    hear_signals(&e);
+    enter_raw(&e);
+    while (take_key(&e)) {}
+    if (!ended_by) redraw(&e);
+    leave_raw(&e);
+    lodvarn_close(&e.session);
+    free(e.text);
+    if (!ended_by) return 0;
+    /* The process ends by the signal, so that the shell knows. */
+    signal(ended_by, SIG_DFL);
+    sigprocmask(SIG_SETMASK, &e.unblocked, NULL);
+    raise(ended_by);
+}

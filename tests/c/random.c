@@ -1,0 +1,221 @@
+/* random SEED LINES SCRIPT ANSWERS: makes a script of random lines, runs each by the typed calls, and writes the
+ * script, and what the calls returned in the form in which a script prints it. */
+#include "chance.h"
+#include "see.h"
+#include "typed.h"
+#include <stdarg.h>
+
+static char line[1024];
+
+static void add(const char *format, ...) {
+    size_t len = strlen(line);
+    va_list given;
+    va_start(given, format);
+    vsnprintf(line + len, sizeof line - len, format, given);
+    va_end(given);
+}
+
+/* A count of 0 means something in a script alone. */
+static unsigned count(void) {
+    static const unsigned counts[] = {1, 1, 1, 1, 2, 2, 3, 5, 65535};
+    return ONE_OF(counts);
+}
+
+static unsigned length(struct typed *t) {
+    lodvarn_view text;
+    lodvarn_text(t->s, &text);
+    return (unsigned)text.len;
+}
+
+/* Mostly a place of the text, now and then one past its end. */
+static unsigned place(struct typed *t) { return below(length(t) + 2); }
+
+static void add_char(void) {
+    static const char *const chars[] = {
+        "a", "b", "c", "Z", "7", "_", ".", "/", "\\s", "\\s", "\\n", "\\t", "\\r", "\\\\", "é", "ß", "δ", "漢", "ǆ",
+        "\\u{301}", "\\u{200d}", "\\u{1f469}", "\\u{1f680}", "\\u{fe0f}", "\\u{1f1e9}", "\\u{1f1ea}", "\\u{3000}",
+        "\\u{1100}", "\\u{1161}", "\\u{0}", "\\u{10ffff}",
+    };
+    add("%s", ONE_OF(chars));
+}
+
+static void add_text(void) {
+    static const char *const texts[] = {
+        "word", "one two", "a\\nb", "\\s\\sx", "foo_bar", "ÉTÉ", "\\u{1f44b}\\u{1f3ff}",
+    };
+    for (unsigned i = below(4); i > 0; i--) {
+        if (below(2)) add_char();
+        else add("%s", ONE_OF(texts));
+    }
+}
+
+static const char *const kinds[] = {"big", "emacs", "vi"};
+static const char *const ats[] = {"start", "before", "after"};
+static const char *const searches[] = {"f", "t", "F", "T"};
+
+static void add_movement(void) {
+    static const char *const plain[] = {"line", "home", "eol", "first", "nonblank", "buf", "bob", "eob"};
+    static const char *const counted[] = {"bchar", "fchar", "up", "down", "linesup", "lines"};
+    switch (below(8)) {
+    case 0: case 1: add(" %s", ONE_OF(plain)); break;
+    case 2: case 3: add(" %s %u", ONE_OF(counted), count()); break;
+    case 4: add(" bword %u %s", count(), ONE_OF(kinds)); break;
+    case 5: case 6: add(" fword %u %s ", count(), ONE_OF(ats)); add("%s", ONE_OF(kinds)); break;
+    default: add(" find %u %s ", count(), ONE_OF(searches)); add_char();
+    }
+}
+
+/* A line that starts over. */
+static void add_start(void) {
+    static const unsigned limits[] = {0, 3, 20, 100, 300}, rings[] = {0, 1, 2, 5};
+    static const char *const modes[] = {"unicode", "wcwidth", "nozwj"};
+    switch (below(4)) {
+    case 0: add("limit %u", ONE_OF(limits)); break;
+    case 1: add("ring %u", ONE_OF(rings)); break;
+    case 2: add("mode %s", ONE_OF(modes)); break;
+    default: add("text "); add_text();
+    }
+}
+
+/* A line that inserts or replaces something. */
+static void add_insertion(struct typed *t) {
+    unsigned from = place(t);
+    switch (below(8)) {
+    case 0: add("paste %u ", count()); add_text(); break;
+    case 1: add("str %u ", from); add_text(); break;
+    case 2: add("rep %u %u ", from, from + below(4)); add_text(); break;
+    case 3:
+        if (below(8)) { add("indent %u", below(4)); add_movement(); }
+        else { add("update %u ", below(6)); add_text(); }
+        break;
+    default: add("ins %u ", count()); add_char();
+    }
+}
+
+/* A line that deletes something. */
+static void add_deletion(struct typed *t) {
+    static const char *const whole[] = {"killline", "killline", "discline", "discline", "killbuf", "discbuf"};
+    unsigned from = place(t);
+    switch (below(11)) {
+    case 0: add("range %u %u", from, from + below(4)); break;
+    case 10: add("killrange %u %u %s", from, from + below(4), below(2) ? "f" : "b"); break;
+    case 1: add("del %u", count()); break;
+    case 2: add("back %u", count()); break;
+    case 3: add("%s", ONE_OF(whole)); break;
+    case 4: add("prevword %u %s", count(), ONE_OF(kinds)); break;
+    case 5: add("nextword %u %s ", count(), ONE_OF(ats)); add("%s", ONE_OF(kinds)); break;
+    case 6: add("to %u %s ", count(), ONE_OF(searches)); add_char(); break;
+    case 7: add("dedent %u", below(4)); add_movement(); break;
+    default: add("kill"); add_movement();
+    }
+}
+
+/* A yank-pop, if it surely has room: without room a script deletes what was yanked, and lodvarn_yank_pop changes
+ * nothing. */
+static void add_yank_pop(struct typed *t) {
+    lodvarn_view older = {NULL, 0};
+    lodvarn_options options = LODVARN_OPTIONS;
+    lodvarn_ring_text(t->s, lodvarn_ring_count(t->s) > 1, &older);
+    lodvarn_get_options(t->s, &options);
+    add(length(t) + older.len <= options.limit ? "yankpop" : "where");
+}
+
+/* Whether a yank was popped. A call makes one unit of both, and puts a new kill elsewhere than a script. So another
+ * yank-pop may come, and then a text begins anew. */
+static int popped;
+
+/* An undo that goes the same way in a script, which does not stay in a group. */
+static void add_undo(struct typed *t) {
+    if (!lodvarn_level(t->s)) add("undo %u", count() % 9);
+    else add(lodvarn_can_undo(t->s) ? "undo 1" : "where");
+}
+
+/* Any other line. */
+static void add_other(struct typed *t) {
+    static const char *const plain[] = {"tchars", "begin", "begin", "end", "endone", "endone", "part", "redo",
+                                        "redo", "reopen", "abandon", "keepundone", "keepundone", "where"};
+    static const char *const cases[] = {"cap", "low", "up"};
+    switch (below(15)) {
+    case 14: add_yank_pop(t); break;
+    case 13: add("keep "); add_text(); break;
+    case 0: add("pos %u", place(t)); break;
+    case 1: add("move"); add_movement(); break;
+    case 2: add("copy"); add_movement(); break;
+    case 3: add("case %s", ONE_OF(cases)); break;
+    case 4: add("twords %u", count()); break;
+    case 5: add("yank %u", 1 + below(2)); break;
+    case 6: add_undo(t); break;
+    case 7: add("trunc %u", below((unsigned)lodvarn_entries(t->s) + 2)); break;
+    default: add("%s", ONE_OF(plain));
+    }
+}
+
+/* A line for the session as it is: a text that grew long is replaced. */
+static void make_line(struct typed *t) {
+    line[0] = 0;
+    if (popped && lodvarn_last_was_yank(t->s) && below(2)) { add_yank_pop(t); return; }
+    if (popped || length(t) > 400) { add("text "); add_text(); return; }
+    unsigned which = below(100);
+    if (lodvarn_last_was_yank(t->s) && which < 50) add_yank_pop(t);
+    else if (which < 2) add_start();
+    else if (which < 38) add_insertion(t);
+    else if (which < 62) add_deletion(t);
+    else add_other(t);
+}
+
+/* Whether the line is an edit of several changes, but a yank-pop. */
+static int is_several(void) {
+    static const char *const words[] = {"update ", "tchars", "twords ", "case ", "indent ", "dedent "};
+    for (size_t i = 0; i < COUNT(words); i++)
+        if (!strncmp(line, words[i], strlen(words[i]))) return 1;
+    return 0;
+}
+
+/* Writes what was printed to a temporary file, if there is a file for it, and closes that. */
+static void hand_on(FILE *printed, FILE *to) {
+    rewind(printed);
+    for (int c; to && (c = getc(printed)) != EOF;) putc(c, to);
+    fclose(printed);
+}
+
+/* Runs the line, and writes it and what it prints. If a call made a group of its changes, they stand in one in the
+ * script, and one that stands alone is parted there from what was before. */
+static void run_line(struct typed *t, FILE *script, FILE *answers) {
+    size_t entries = lodvarn_entries(t->s);
+    popped = strncmp(line, "text ", 5) && (popped || (!strcmp(line, "yankpop") && lodvarn_last_was_yank(t->s)));
+    if (!is_several()) {
+        fprintf(script, "%s\n", line);
+        typed_line(t, line, answers);
+        return;
+    }
+    FILE *before = tmpfile(), *said = tmpfile();
+    must(before && said);
+    typed_state(t, before);
+    typed_line(t, line, said);
+    size_t more = lodvarn_entries(t->s) - entries;
+    fprintf(script, more > 1 ? "begin\n%s\nendone\n" : more ? "part\n%s\n" : "%s\n", line);
+    if (more > 1) fprintf(answers, "mark:%zu", entries);
+    else if (more) fputs("ok", answers);
+    hand_on(before, more ? answers : NULL);
+    hand_on(said, answers);
+    if (more > 1) fputs("true", answers), typed_state(t, answers);
+}
+
+int main(int argc, char **argv) {
+    if (argc != 5) { fputs("random SEED LINES SCRIPT ANSWERS\n", stderr); return 2; }
+    begin_chance(strtoull(argv[1], NULL, 10));
+    long lines = strtol(argv[2], NULL, 10), disagree = 0;
+    FILE *script = fopen(argv[3], "w"), *answers = fopen(argv[4], "w");
+    if (!script || !answers) { perror("fopen"); return 2; }
+    struct typed t;
+    typed_begin(&t);
+    for (long i = 0; i < lines; i++) {
+        make_line(&t);
+        run_line(&t, script, answers);
+        if (typed_reads_agree(&t)) continue;
+        printf("the reads disagree with the text after line %ld: %s\n", i + 1, line);
+        disagree++;
+    }
+    lodvarn_close(&t.s);
+    return fclose(script) || fclose(answers) || disagree;
+}

@@ -1,0 +1,399 @@
+/* Refuses each request of the library for memory in turn: the call says so, the session is sound, and undo leads back
+ * to the text that it began with. A call whose comment names no NO_MEMORY makes none, once the table of the text's
+ * lines is there. Nothing takes more than it needs, and a session that is closed gives back all. To be linked with
+ * -Wl,--wrap=malloc,--wrap=realloc,--wrap=free. Its last line is 'N passed, M failed', where each request, each such
+ * call and each check of what is taken counts one. */
+#include "see.h"
+#include <malloc.h>
+
+#define WORD_BACK lodvarn_words_back(LODVARN_EMACS, 1)
+/* The next of the calls that a function makes, one each time. Those of several steps may stop between two: an edit that
+ * keeps what was undone first, or one of several changes, which makes them a group. */
+#define CALL(call) if (which-- == 0) return (call)
+#define KEEPS(call) if (which-- == 0) return several = 1, (call)
+#define STEPS(call) if (which-- == 0) return several = 1, was_refused_before = was_refused, grouped(call)
+#define NONE ((lodvarn *)(uintptr_t)0x5a5a5a50)
+
+enum { NO_MORE = INT_MIN };
+
+static lodvarn *s;
+static size_t left = SIZE_MAX; /* requests before the one that is refused */
+static int was_refused, was_refused_before;
+static int several;         /* whether the last call has several steps */
+static size_t greatest;     /* the greatest request */
+static size_t requests;     /* how many there were */
+static size_t held, blocks; /* the bytes that are held, and in how many blocks */
+static size_t peak;         /* the most bytes that were held, with what was asked for */
+
+void *__real_malloc(size_t size);
+void *__real_realloc(void *at, size_t size);
+void __real_free(void *at);
+void *__wrap_malloc(size_t size);
+void *__wrap_realloc(void *at, size_t size);
+void __wrap_free(void *at);
+
+static int refuses(size_t size) {
+    requests++;
+    if (size > greatest) greatest = size;
+    if (held + size > peak) peak = held + size;
+    if (left-- > 0) return 0;
+    was_refused = 1;
+    return 1;
+}
+
+static void *taken(void *at) {
+    if (at) held += malloc_usable_size(at), blocks++;
+    return at;
+}
+
+void *__wrap_malloc(size_t size) { return refuses(size) ? NULL : taken(__real_malloc(size)); }
+
+void *__wrap_realloc(void *at, size_t size) {
+    size_t before = at ? malloc_usable_size(at) : 0;
+    void *now = refuses(size) ? NULL : __real_realloc(at, size);
+    if (now && at) held -= before, blocks--;
+    return taken(now);
+}
+
+void __wrap_free(void *at) {
+    if (at) held -= malloc_usable_size(at), blocks--;
+    __real_free(at);
+}
+
+static const char start[] = "ab cd";
+
+static void open_it(size_t ring_size) {
+    lodvarn_options options = LODVARN_OPTIONS;
+    options.ring_size = ring_size;
+    must(lodvarn_open(&s, &options, start, 5) > 0);
+}
+
+/* What opens is closed again; an error leaves the pointer, which is not read. */
+static int closes(lodvarn *opened, int answer) {
+    if (answer < 0) return opened == NONE ? answer : NO_MORE;
+    lodvarn_close(&opened);
+    return answer;
+}
+
+static int opens(void) {
+    lodvarn *opened = NONE;
+    int answer = lodvarn_open(&opened, NULL, start, 5);
+    return closes(opened, answer);
+}
+
+static char saved[1 << 14];
+static size_t saved_len;
+
+static int loads(void) {
+    lodvarn *opened = NONE;
+    int answer = lodvarn_load(&opened, saved, saved_len);
+    return closes(opened, answer);
+}
+
+static int keeps_undone(void) {
+    lodvarn_options options = LODVARN_OPTIONS;
+    must(lodvarn_get_options(s, &options) > 0);
+    options.keeps_undone = true;
+    return lodvarn_set_options(s, &options);
+}
+
+/* What an edit of several changes returned; NO_MEMORY too if it was refused the marks of their group. */
+static int grouped(int answer) {
+    if (answer <= 0 || was_refused == was_refused_before) return answer;
+    return lodvarn_reopen_group(s) > 0 && lodvarn_end_group(s) > 0 ? answer : LODVARN_NO_MEMORY;
+}
+
+/* The calls that may take memory, one after the other. */
+static int step(unsigned which) {
+    CALL(opens());
+    CALL(lodvarn_watch(s, 3, 40));
+    CALL(lodvarn_insert(s, 'e', 3));
+    CALL(lodvarn_backspace(s, 1));
+    CALL(lodvarn_begin_group(s));
+    CALL(lodvarn_paste(s, "x y", 3, 2));
+    CALL(lodvarn_set_pos(s, 3));
+    STEPS(lodvarn_change_case(s, LODVARN_UPPERCASE));
+    CALL(lodvarn_end_all_groups(s));
+    CALL(lodvarn_kill(s, WORD_BACK));
+    CALL(lodvarn_kill(s, WORD_BACK));
+    CALL(lodvarn_yank(s, 2));
+    STEPS(lodvarn_yank_pop(s));
+    STEPS(lodvarn_transpose_words(s, 1));
+    STEPS(lodvarn_transpose_chars(s));
+    CALL(lodvarn_insert_at(s, 0, "ab\n", 3));
+    STEPS(lodvarn_indent(s, lodvarn_whole_text(), 40, LODVARN_INDENT));
+    STEPS(lodvarn_indent(s, lodvarn_whole_text(), 3, LODVARN_DEDENT));
+    CALL(lodvarn_replace(s, range(0, 4), "cd\ne", 4));
+    CALL(lodvarn_delete_range(s, range(0, 1)));
+    CALL(lodvarn_delete(s, 1));
+    CALL(lodvarn_set_pos(s, 4));
+    CALL(lodvarn_delete_by(s, lodvarn_words_back(LODVARN_VI, 1)));
+    CALL(lodvarn_undo(s, 2));
+    CALL(lodvarn_redo(s));
+    CALL(lodvarn_keep_undone(s));
+    STEPS(lodvarn_set_text(s, 3, "one two", 7));
+    CALL(lodvarn_delete_by(s, lodvarn_words_forward(LODVARN_BIG, LODVARN_AFTER_END, 1)));
+    CALL(lodvarn_delete_by(s, lodvarn_search_for(LODVARN_BACK_TO, 'o', 1)));
+    CALL(lodvarn_set_text(s, 3, "one two", 7));
+    CALL(lodvarn_delete_by(s, lodvarn_to_line_end()));
+    CALL(lodvarn_delete_by(s, lodvarn_to_text_start()));
+    CALL(lodvarn_paste(s, "kept and killed", 15, 1));
+    CALL(lodvarn_kill_range(s, range(2, 5), LODVARN_FORWARD));
+    CALL(lodvarn_kill_range(s, range(0, 2), LODVARN_BACKWARD));
+    CALL(lodvarn_keep(s, "kept", 4));
+    CALL(lodvarn_begin_group(s));
+    CALL(lodvarn_begin_group(s));
+    CALL(lodvarn_set_pos(s, 3));
+    CALL(lodvarn_kill(s, lodvarn_to_first_nonblank()));
+    CALL(lodvarn_insert(s, 'x', 1));
+    CALL(lodvarn_end_group(s));
+    CALL(lodvarn_end_group(s));
+    CALL(lodvarn_reopen_group(s));
+    CALL(lodvarn_abandon_group(s));
+    CALL(lodvarn_begin_group(s));
+    CALL(lodvarn_replace(s, range(0, 1), "é", 2));
+    CALL(lodvarn_end_group(s));
+    CALL(lodvarn_undo(s, 3));
+    CALL(keeps_undone());
+    CALL(lodvarn_delete_range(s, range(0, 0))); /* all that it does is to keep what was undone */
+    CALL(lodvarn_undo(s, 2));
+    KEEPS(lodvarn_paste(s, "x y", 3, 2));
+    CALL(lodvarn_undo(s, 3));
+    KEEPS(lodvarn_begin_group(s));
+    CALL(lodvarn_save(s, saved, sizeof saved, &saved_len));
+    CALL(loads());
+    return NO_MORE;
+}
+
+/* The one that leaves nothing to undo. */
+static int step_of_restart(unsigned which) {
+    CALL(lodvarn_restart(s, "one\ntwo\nthree\nfour\nfive\nsix\nseven\neight\nnine\nten", 48));
+    CALL(lodvarn_restart(s, start, 5));
+    return NO_MORE;
+}
+
+/* The text is UTF-8 and keeps to the limit, and the cursor is a place of it. */
+static int stands(void) {
+    static const lodvarn_screen screen = {80, 0, 8, LODVARN_UNICODE, 0, 0};
+    lodvarn_options now = LODVARN_OPTIONS;
+    lodvarn_position cell;
+    lodvarn_view text;
+    return lodvarn_text(s, &text) == LODVARN_DONE && lodvarn_get_options(s, &now) == LODVARN_DONE
+        && text.len <= now.limit && lodvarn_cell(&screen, lodvarn_pos(s), text.at, text.len, &cell) == LODVARN_DONE;
+}
+
+/* The session as a text, but its ring, which may have kept a text. */
+static void print_state(char *to, size_t cap) {
+    lodvarn_options now = LODVARN_OPTIONS;
+    lodvarn_view text;
+    must(lodvarn_text(s, &text) > 0 && lodvarn_get_options(s, &now) > 0);
+    snprintf(to, cap, "%.*s %zu %zu %zu %zu %d", (int)text.len, text.at, lodvarn_pos(s), now.limit, lodvarn_entries(s),
+             lodvarn_level(s), lodvarn_can_redo(s));
+}
+
+/* After everything is undone the text is the first one. */
+static int leads_back(void) {
+    lodvarn_view text;
+    lodvarn_end_all_groups(s);
+    while (lodvarn_entries(s) > 0 && lodvarn_undo(s, 65535) != LODVARN_NO_MEMORY) {}
+    return lodvarn_text(s, &text) == LODVARN_DONE && is(text, start);
+}
+
+/* How the last run of calls ended. */
+static char ended[1024];
+
+/* How many calls said that memory is out if the request of that number is refused. A call of one step leaves all as it
+ * was then. If there is no such request each call finds something to do. */
+static int refused_at(int (*calls)(unsigned), size_t request, int *holds) {
+    char before[sizeof ended], after[sizeof ended];
+    int refused = 0, idle = 0, answer;
+    open_it(3);
+    was_refused = 0;
+    left = request;
+    print_state(before, sizeof before);
+    for (unsigned i = 0; several = 0, (answer = calls(i)) != NO_MORE; i++) {
+        print_state(after, sizeof after);
+        refused += answer == LODVARN_NO_MEMORY;
+        idle += answer <= 0;
+        *holds = *holds && stands() && (answer != LODVARN_NO_MEMORY || several || !strcmp(before, after));
+        strcpy(before, after);
+    }
+    left = SIZE_MAX;
+    *holds = *holds && leads_back() && (was_refused || !idle);
+    strcpy(ended, before);
+    lodvarn_close(&s);
+    return refused;
+}
+
+/* Refuses each request by itself. One call says so, or all is as if nothing was refused: a text does without the table
+ * by which its lines are looked up. */
+static void refuse_each(const char *what, int (*calls)(unsigned)) {
+    char plain[sizeof ended];
+    int holds = 1;
+    see(what, !refused_at(calls, SIZE_MAX, &holds) && holds);
+    strcpy(plain, ended);
+    size_t request = 0;
+    do {
+        int refused = refused_at(calls, request, &holds);
+        holds = holds && (refused == was_refused || !strcmp(ended, plain));
+        if (!see(what, holds)) printf("  request %zu, said by %d calls\n", request, refused);
+        holds = 1;
+        request++;
+    } while (was_refused);
+}
+
+/* A script that ends because a request is refused still tells how much it printed: whole lines, or none. */
+static int script_tells_its_length(size_t request) {
+    static const char script[] = "text a\ntext b\n", whole[] = "ok 1 a\nok 1 b\n";
+    char out[64];
+    size_t len = sizeof out + 1;
+    was_refused = 0;
+    left = request;
+    int answer = lodvarn_script(script, sizeof script - 1, out, sizeof out, &len);
+    left = SIZE_MAX;
+    if (len > sizeof out) return 0;
+    if (answer == LODVARN_NO_MEMORY) return was_refused && len < sizeof whole - 1 && !memcmp(out, whole, len);
+    int same = len == sizeof whole - 1 && !memcmp(out, whole, len);
+    return answer == LODVARN_DONE && same != was_refused;
+}
+
+/* The calls whose comments name no NO_MEMORY, one after the other. */
+static int frugal_step(unsigned which) {
+    static const char text[] = "e\u0301 \U0001F468\u200D\U0001F469\n日本";
+    static const lodvarn_screen screen = {2, 0, 8, LODVARN_UNICODE, 0, 0};
+    enum { LEN = sizeof text - 1 };
+    lodvarn_options options = LODVARN_OPTIONS;
+    lodvarn_view view;
+    lodvarn_range covered;
+    lodvarn_position position = {1, 1};
+    lodvarn_cluster cluster;
+    lodvarn_splice splice;
+    lodvarn_report report;
+    char out[64];
+    size_t n, column = LODVARN_OWN_COLUMN;
+    CALL(lodvarn_set_pos(s, 1));
+    CALL(lodvarn_move(s, lodvarn_words_forward(LODVARN_VI, LODVARN_AT_START, 1)));
+    CALL(lodvarn_move(s, lodvarn_search_for(LODVARN_BACK_TO, 'a', 1)));
+    CALL(lodvarn_move(s, lodvarn_lines_up(1)));
+    CALL(lodvarn_copy(s, lodvarn_whole_text(), out, sizeof out, &n));
+    CALL(lodvarn_part(s));
+    CALL(lodvarn_take_change(s, &splice));
+    CALL(lodvarn_next_report(s, &report));
+    CALL(lodvarn_forget_report(s));
+    CALL(lodvarn_unwatch(s));
+    CALL(lodvarn_text(s, &view));
+    CALL(lodvarn_slice(s, range(1, 2), &view));
+    CALL(-!(lodvarn_pos(s) && lodvarn_count_lines(s) && lodvarn_entries(s)));
+    CALL(-!(lodvarn_can_undo(s) && !lodvarn_can_redo(s) && !lodvarn_level(s) && !lodvarn_last_was_yank(s)));
+    CALL(-!(lodvarn_ring_count(s) && lodvarn_count_reports(s) && lodvarn_version() && lodvarn_answer_name(0)));
+    CALL(lodvarn_ring_text(s, 0, &view));
+    CALL(lodvarn_clear_ring(s));
+    CALL(lodvarn_set_saved(s));
+    CALL(-(int)lodvarn_is_saved(s));
+    CALL(lodvarn_find_line(s, 1, &covered));
+    CALL(lodvarn_find_cursor(s, &position));
+    CALL(lodvarn_line_at(s, 1, &n));
+    CALL(lodvarn_cluster_at(s, 1, &cluster));
+    CALL(lodvarn_cluster_before(s, 1, &cluster));
+    CALL(lodvarn_covers(s, 1, lodvarn_lines_up(1), &covered));
+    CALL(lodvarn_destination(s, 1, lodvarn_to_first_nonblank(), &n));
+    CALL(lodvarn_get_options(s, &options));
+    options.ring_size = SIZE_MAX;
+    options.limit = LODVARN_NO_LIMIT;
+    options.max_entries = options.max_bytes = 0;
+    CALL(lodvarn_set_options(s, &options));
+    CALL(lodvarn_width(LODVARN_UNICODE, text, LEN, &n));
+    CALL(lodvarn_width(LODVARN_WC_WIDTH, text, LEN, &n));
+    CALL(lodvarn_width(LODVARN_NO_ZWJ, text, LEN, &n));
+    CALL(lodvarn_first_cluster(text, LEN, &n));
+    CALL(lodvarn_last_cluster(text, LEN, &n));
+    CALL(lodvarn_cell(&screen, LEN, text, LEN, &position));
+    CALL(lodvarn_place_at(&screen, position, text, LEN, &n));
+    CALL(lodvarn_rows(&screen, text, LEN, NULL, 0, &n));
+    CALL(lodvarn_clusters(LODVARN_UNICODE, text, LEN, &cluster, 1, &n));
+    CALL(lodvarn_moved(&(lodvarn_splice){0, 1, 2}, 1, LODVARN_AFTER, &n));
+    CALL(lodvarn_row_above(s, &screen, 1, &column, &n));
+    CALL(lodvarn_row_below(s, &screen, 1, &column, &n));
+    return NO_MORE;
+}
+
+/* What the call of that number returns while every request is refused. There is a change and a report to tell, a ring
+ * with one text, and the table by which the text's lines are looked up. */
+static int frugal_answer(unsigned which) {
+    open_it(3);
+    must(lodvarn_keep(s, "kept", 4) > 0 && lodvarn_watch(s, 3, 40) > 0 && lodvarn_paste(s, "\nab", 3, 1) > 0);
+    must(lodvarn_count_lines(s) == 2);
+    was_refused = 0;
+    left = 0;
+    int answer = frugal_step(which);
+    left = SIZE_MAX;
+    lodvarn_close(&s);
+    return answer;
+}
+
+static void frugal_calls_take_nothing(void) {
+    int answer;
+    for (unsigned i = 0; (answer = frugal_answer(i)) != NO_MORE; i++)
+        if (!see("a call without a request", answer >= 0 && !was_refused)) printf("  call %u returns %d\n", i, answer);
+}
+
+/* A great text, as a line of a script, and what comes of it. */
+enum { GREAT = 1000000 };
+static char great[GREAT + 6], come[GREAT + 64];
+
+static int closes_a_group(void) {
+    return lodvarn_begin_group(s) > 0 && lodvarn_insert(s, 'a', 1) > 0 && lodvarn_end_group(s) > 0;
+}
+
+/* No call took memory before it is needed, more of it than is needed, or for longer. */
+static void see_taken(const char *what, int holds) {
+    if (!see(what, holds)) printf("  %zu requests, the greatest %zu, %zu held\n", requests, greatest, peak);
+    greatest = requests = peak = 0;
+}
+
+static void little_is_taken(void) {
+    size_t len;
+    memset(great, 'a', sizeof great);
+    memcpy(great, "text ", 5);
+    great[sizeof great - 1] = '\n';
+    greatest = requests = peak = 0;
+    open_it(GREAT);
+    see_taken("nothing is taken for what may come", greatest < 4096);
+    see_taken("the end of a group", closes_a_group() && greatest < 4096);
+    see_taken("a queue", lodvarn_watch(s, 3, 40) == LODVARN_DONE && requests == 2);
+    see_taken("a great text", lodvarn_insert_at(s, 0, great, GREAT) > 0 && greatest < GREAT * 3 / 2);
+    see_taken("a great kill", lodvarn_kill(s, lodvarn_whole_text()) > 0 && greatest < GREAT * 3 / 2);
+    lodvarn_close(&s);
+    int answer = lodvarn_script(great, sizeof great, come, sizeof come, &len);
+    see_taken("a great line of a script", answer == LODVARN_DONE && peak < GREAT * 9 / 2 && !held);
+}
+
+/* An empty session has two blocks, its own and that of what it holds. What is done with it takes more, and its end
+ * gives back all. */
+#define GIVES_BACK(use)                                                                       \
+    do {                                                                                      \
+        requests = 0;                                                                         \
+        SEE(lodvarn_open(&s, NULL, NULL, 0) == LODVARN_DONE && blocks == 2 && requests == 2); \
+        SEE((use) > 0 && blocks > 2);                                                         \
+        lodvarn_close(&s);                                                                    \
+        SEE(!blocks && !held);                                                                \
+    } while (0)
+
+static void all_is_given_back(void) {
+    GIVES_BACK(lodvarn_watch(s, 4, 64));
+    GIVES_BACK(lodvarn_insert(s, '\n', 9));
+    GIVES_BACK(lodvarn_keep(s, "kept", 4));
+    GIVES_BACK(lodvarn_restart(s, "a\nb", 3));
+}
+
+int main(void) {
+    size_t request = 0;
+    frugal_calls_take_nothing();
+    little_is_taken();
+    all_is_given_back();
+    refuse_each("a refused request of a session", step);
+    refuse_each("a refused request of a restart", step_of_restart);
+    do see("a refused request of a script", script_tells_its_length(request++));
+    while (was_refused);
+    return sum();
+}

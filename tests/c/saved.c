@@ -1,0 +1,179 @@
+/* saved [FILES [SEED]]: makes so many files by random changes of saved sessions, and loads them. Half have their
+ * checksum mended, so that all else in them has to be checked. What is loaded must hold as a session. All bytes that
+ * are passed end where no more memory is, but on Windows. Its last line is 'N passed, M failed'. */
+#define _DEFAULT_SOURCE
+#include "chance.h"
+#include "see.h"
+#include "typed.h"
+
+enum { HEADING = 8, SUM = 16, ROOM = 1 << 16, PAGE = 4096, MOST = 400 };
+static const char *const scripts[] = {
+    "text one",
+    "limit 40;ring 2;text one two three;kill bword 1 emacs;pos 0;kill fword 1 after emacs;yank 1;yankpop",
+    "text \\u{1f469}\\u{200d}\\u{1f680} é\\n漢;pos 0;ins 2 \\u{1f680};rep 0 4 x;back 1;undo 2",
+    "text a b;begin;ins 1 é;begin;kill home;str 0 \\u{1f1e9}\\u{1f1ea};undo 1",
+    "mode nozwj;ring 1;text a\\nb;begin;tchars;endone;ins 1 x;ins 1 y;undo 1;redo;case up;undo 3;keepundone",
+    "text one two;begin;twords 1;end;begin;ins 1 z;end;undo 2",
+};
+static struct file { unsigned char bytes[ROOM]; size_t len; } files[COUNT(scripts)], file;
+static char *end; /* of the memory */
+static size_t loaded;
+
+/* The numbers of MD5 (RFC 1321). */
+static const uint32_t sines[] = {
+    0xd76aa478, 0xe8c7b756, 0x242070db, 0xc1bdceee, 0xf57c0faf, 0x4787c62a, 0xa8304613, 0xfd469501, 0x698098d8,
+    0x8b44f7af, 0xffff5bb1, 0x895cd7be, 0x6b901122, 0xfd987193, 0xa679438e, 0x49b40821, 0xf61e2562, 0xc040b340,
+    0x265e5a51, 0xe9b6c7aa, 0xd62f105d, 0x02441453, 0xd8a1e681, 0xe7d3fbc8, 0x21e1cde6, 0xc33707d6, 0xf4d50d87,
+    0x455a14ed, 0xa9e3e905, 0xfcefa3f8, 0x676f02d9, 0x8d2a4c8a, 0xfffa3942, 0x8771f681, 0x6d9d6122, 0xfde5380c,
+    0xa4beea44, 0x4bdecfa9, 0xf6bb4b60, 0xbebfbc70, 0x289b7ec6, 0xeaa127fa, 0xd4ef3085, 0x04881d05, 0xd9d4d039,
+    0xe6db99e5, 0x1fa27cf8, 0xc4ac5665, 0xf4292244, 0x432aff97, 0xab9423a7, 0xfc93a039, 0x655b59c3, 0x8f0ccc92,
+    0xffeff47d, 0x85845dd1, 0x6fa87e4f, 0xfe2ce6e0, 0xa3014314, 0x4e0811a1, 0xf7537e82, 0xbd3af235, 0x2ad7d2bb,
+    0xeb86d391,
+};
+static const unsigned turns[] = {7, 12, 17, 22, 5, 9, 14, 20, 4, 11, 16, 23, 6, 10, 15, 21};
+static const unsigned steps[] = {1, 5, 3, 7}, starts[] = {0, 1, 5, 0};
+
+/* Ends the file by the MD5 of what stands before it. */
+static void mend(void) {
+    static unsigned char padded[ROOM + 128];
+    size_t len = file.len - SUM, whole = (len + 72) / 64 * 64;
+    uint32_t sum[] = {0x67452301, 0xefcdab89, 0x98badcfe, 0x10325476}, words[16];
+    uint64_t bits = 8 * (uint64_t)len;
+    memset(padded, 0, whole), memcpy(padded, file.bytes, len), memcpy(padded + whole - 8, &bits, 8);
+    padded[len] = 0x80;
+    for (size_t at = 0; at < whole; at += 64) {
+        uint32_t a = sum[0], b = sum[1], c = sum[2], d = sum[3];
+        memcpy(words, padded + at, 64);
+        for (unsigned i = 0; i < 64; i++) {
+            unsigned round = i / 16, turn = turns[4 * round + i % 4];
+            uint32_t mixed = round == 0 ? (b & c) | (~b & d) : round == 1 ? (d & b) | (~d & c)
+                : round == 2 ? b ^ c ^ d : c ^ (b | ~d);
+            mixed += a + sines[i] + words[(steps[round] * i + starts[round]) % 16];
+            a = d, d = c, c = b, b += mixed << turn | mixed >> (32 - turn);
+        }
+        sum[0] += a, sum[1] += b, sum[2] += c, sum[3] += d;
+    }
+    memcpy(file.bytes + len, sum, SUM);
+}
+
+/* Makes a file of a session. Returns whether it could. */
+static int save(lodvarn *s, struct file *to) {
+    int answer = lodvarn_save(s, NULL, 0, &to->len);
+    if (answer == LODVARN_TOO_SMALL && to->len < ROOM) answer = lodvarn_save(s, end - to->len, to->len, &to->len);
+    if (answer > 0) memcpy(to->bytes, end - to->len, to->len);
+    return answer == LODVARN_DONE;
+}
+
+static int is_same(const struct file *it) { return it->len == file.len && !memcmp(it->bytes, file.bytes, it->len); }
+
+static void make_file(const char *script, struct file *to, FILE *nowhere) {
+    char lines[256];
+    struct typed t;
+    typed_begin(&t);
+    for (char *line = strtok(strcpy(lines, script), ";"); line; line = strtok(NULL, ";"), lodvarn_set_saved(t.s))
+        typed_line(&t, line, nowhere);
+    must(save(t.s, to));
+    file = *to;
+    mend();
+    SEE(is_same(to));
+    lodvarn_close(&t.s);
+}
+
+/* Changes a bit, a byte, a number, or a part of the file: that goes, or is one of another file. */
+static void change(void) {
+    static const uint64_t numbers[] = {0, 1, 2, 3, 4, 7, 40, 'a', 0x80, 0xc3, 65536, UINT32_MAX, UINT64_MAX};
+    static const size_t sizes[] = {1, 4, 8};
+    const struct file *other = &ONE_OF(files);
+    size_t at = below((unsigned)file.len - 7), len = 1 + below(40), went = below(2) ? len : 0, came = below(2) * len;
+    unsigned char *byte = file.bytes + at;
+    unsigned which = below(6);
+    if (which == 0) *byte ^= (unsigned char)(1 << below(8));
+    else if (which == 1) *byte = (unsigned char)(*byte + (below(2) ? 1 : -1));
+    else if (which < 4) memcpy(byte, &ONE_OF(numbers), ONE_OF(sizes));
+    else if (file.len - at >= went) {
+        memmove(byte + came, byte + went, file.len - at - went);
+        memcpy(byte, other->bytes + below((unsigned)other->len - 40), came);
+        file.len += came - went;
+    }
+}
+
+/* Whether text and ring are UTF-8, and the cursor stands between two characters. */
+static int is_whole(lodvarn *s) {
+    lodvarn_view it = {"", 0};
+    size_t pos = lodvarn_pos(s), len;
+    int holds = lodvarn_text(s, &it) > 0 && pos <= it.len && (pos == it.len || (it.at[pos] & 0xc0) != 0x80);
+    for (size_t i = 0; (holds = holds && lodvarn_first_cluster(it.at, it.len, &len) >= 0); i++)
+        if (lodvarn_ring_text(s, i, &it) <= 0) break;
+    return holds;
+}
+
+static int undo(lodvarn *s) { return lodvarn_undo(s, 1); }
+
+/* The limit may refuse what is done. */
+static int is_fine(int answer) { return answer >= 0 || answer == LODVARN_NO_ROOM; }
+
+/* A file may say that more was yanked than stands before its cursor. Only the call that would replace it sees that. */
+static int is_popped(int answer) { return is_fine(answer) || answer == LODVARN_BAD_YANK_SIZE; }
+
+/* Whether the session stays whole, up to where the call does no more. */
+static int goes_on(lodvarn *s, int (*call)(lodvarn *)) {
+    int answer = LODVARN_DONE;
+    for (int n = 0; n < MOST && answer > 0 && is_whole(s); n++) answer = call(s);
+    return answer <= 0 && is_fine(answer);
+}
+
+/* Whether a session that was loaded is saved as bytes that give it again, can be undone and redone, and edited. */
+static int goes_well(lodvarn *s) {
+    static struct file again;
+    lodvarn *second = NULL;
+    int holds = save(s, &file) && lodvarn_load(&second, end - file.len, file.len) > 0 && save(second, &again)
+        && is_same(&again) && goes_on(s, undo) && goes_on(s, lodvarn_redo) && goes_on(s, undo)
+        && is_popped(lodvarn_yank_pop(second)) && is_fine(lodvarn_keep_undone(second))
+        && is_fine(lodvarn_kill(second, lodvarn_words_back(LODVARN_BIG, 1))) && is_fine(lodvarn_yank(second, 1))
+        && is_fine(lodvarn_abandon_group(second)) && goes_on(second, undo) && goes_on(second, lodvarn_redo);
+    lodvarn_close(&second);
+    return holds;
+}
+
+/* Whether the file is refused with the answer that its heading asks for, or loaded, and goes well. It may be loaded
+ * only if its checksum was mended, or it is as it was. */
+static int is_met(const struct file *from, int is_mended) {
+    lodvarn *s = NULL;
+    int is_changed = !is_same(from), is_known = !memcmp(file.bytes, from->bytes, HEADING);
+    memcpy(end - file.len, file.bytes, file.len);
+    int answer = lodvarn_load(&s, end - file.len, file.len);
+    if (answer < 0) return is_changed && !s && answer == (is_known ? LODVARN_DAMAGED : LODVARN_UNKNOWN_FORMAT);
+    loaded += (size_t)is_changed;
+    int is_well = (!is_changed || is_mended) && goes_well(s);
+    lodvarn_close(&s);
+    return is_well;
+}
+
+#ifdef _WIN32
+static char *room(void) { return malloc(ROOM); }
+#else
+#include <sys/mman.h>
+static char *room(void) {
+    char *at = mmap(NULL, ROOM + PAGE, PROT_READ | PROT_WRITE, MAP_PRIVATE | MAP_ANONYMOUS, -1, 0);
+    return at == MAP_FAILED || mprotect(at + ROOM, PAGE, PROT_NONE) ? NULL : at;
+}
+#endif
+
+int main(int argc, char **argv) {
+    size_t count = argc > 1 ? strtoul(argv[1], NULL, 10) : 1000000;
+    FILE *nowhere = tmpfile();
+    char *from = room();
+    must(nowhere && from);
+    end = from + ROOM;
+    for (size_t i = 0; i < COUNT(files); i++) make_file(scripts[i], &files[i], nowhere);
+    begin_chance(argc > 2 ? strtoull(argv[2], NULL, 10) : 7);
+    for (size_t i = 0; i < count; i++) {
+        const struct file *from = &files[i / 2 % COUNT(files)];
+        memcpy(file.bytes, from->bytes, file.len = from->len);
+        for (unsigned n = 1 + below(3); n; n--) change();
+        if (i % 2) mend();
+        if (!SEE(is_met(from, i % 2))) printf("  of file %zu\n", i);
+    }
+    SEE(loaded >= count / 50);
+    return fclose(nowhere), sum();
+}

@@ -1,0 +1,30 @@
+"""Prints what is in a saved session, one a line, without the library: python3 tests/python/read_saved.py FILE"""
+
+import hashlib
+import io
+import struct
+import sys
+
+KINDS = "begin end insertion insertion deletion deletion replacement replacement".split()
+
+
+def read(saved):
+    """Hands out text, cursor, slots and entries. These have place, cursor before and after, and what went and came."""
+    if saved[:8] != b"lodvarn\1" or saved[-16:] != hashlib.md5(saved[:-16]).digest():
+        raise ValueError("this is no saved session, or a damaged one")
+    rest = io.BytesIO(saved[8:-16])
+    _, cursor, *_, size = struct.unpack("<9Q", rest.read(72))
+    yield "text", rest.read(size).decode()
+    yield "cursor", cursor  # Places count bytes of UTF-8.
+    for _ in range(struct.unpack("<7Q", rest.read(56))[6]):
+        yield "slot", rest.read(int.from_bytes(rest.read(4), "little")).decode()
+    count, recorded, *_ = struct.unpack("<6Q", rest.read(48))
+    for number in range(count):
+        kind, *places, went, came = struct.unpack("<6I", rest.read(24))
+        name = "undone " * (number >= recorded) + KINDS[kind]
+        yield name, *places, rest.read(went).decode(), rest.read(came).decode()
+
+
+if __name__ == "__main__":
+    for it, *values in read(open(sys.argv[1], "rb").read()):
+        print(it, *map(repr, values))

@@ -1,0 +1,1078 @@
+"""What the package for Python makes of the library: the worked scripts by its calls, and what it has of its own."""
+
+import copy
+import hashlib
+import inspect
+import pickle
+import random
+import re
+import subprocess
+import sys
+import tempfile
+import threading
+import unittest
+import weakref
+from contextlib import suppress
+from functools import partial
+from itertools import islice, product
+from pathlib import Path
+from unittest import mock
+
+HERE = Path(__file__).resolve().parent
+TOP = HERE.parents[1]
+sys.path[:0] = [str(TOP / "python"), str(TOP / "tests")]
+
+import lodvarn  # noqa: E402
+from lodvarn import (  # noqa: E402
+    Case, Direction, Mode, Movement, Report, ReportKind, Screen, Search, Session, Side, Splice, Stop, Word, lib,
+)
+from read_saved import read  # noqa: E402
+from rows import TESTS, has_calls, rows_of  # noqa: E402
+from typed import MOVEMENTS, NAMES, WORDS, Typed, do  # noqa: E402
+
+FAMILY = "\U0001f468\u200d\U0001f469\u200d\U0001f467"
+BACK, LINE, START, END = Movement.words_back(Word.EMACS), *(MOVEMENTS[it][1]() for it in ("line", "home", "eol"))
+MAKERS = [it for name, it in inspect.getmembers(Movement, inspect.ismethod) if name[0] != "_"]
+
+
+def opened(text, pos, **options):
+    """A session with the cursor at that place."""
+    session = Session(text, **options)
+    session.pos = pos
+    return session
+
+
+class Scripts(unittest.TestCase):
+    def stands(self, session, text, pos):
+        """The session has that text and cursor."""
+        self.assertEqual((session.text, session.pos), (text, pos))
+
+
+class Rows(unittest.TestCase):
+    def test_the_worked_scripts(self):
+        rows = [row for file in sorted(TESTS.glob("*.rt")) for row in rows_of(file.read_text())]
+        self.assertGreater(len(rows), 150)
+        for what, script, wanted in rows:
+            with self.subTest(what=what):
+                self.assertEqual(lodvarn.run_script(script), wanted)
+                if has_calls(script, wanted):
+                    typed = Typed()
+                    self.assertEqual("".join(map(typed.run, script.decode().splitlines())), wanted.decode())
+
+
+class Places(Scripts):
+    def test_the_text_is_parted_at_the_cursor(self):
+        for text, pos, before, after, shown in [
+            ("", 0, "", "", "<Session ''|''>"),
+            ("aé漢\n", 3, "aé漢", "\n", "<Session 'aé漢'|'\\n'>"),
+            ("aé\0漢", 0, "", "aé\0漢", "<Session ''|'aé\\x00漢'>"),
+            (FAMILY + "é", 5, FAMILY, "é", f"<Session {FAMILY!r}|'é'>"),
+            ("éx" * 2500, 3000, "éx" * 1500, "éx" * 1000, f"<Session ...{'éx' * 10!r}|{'éx' * 10!r}...>"),
+        ]:
+            with self.subTest(text=text[:50]), opened(text, pos) as session:
+                self.assertEqual((session.text, session.before, session.after), (text, before, after))
+                self.assertEqual((session.pos, len(session), bool(session), str(session)), (pos, len(text), True, text))
+                self.assertEqual((repr(session), session.slice(0, pos)), (shown, before))
+
+    def test_each_place_is_an_index(self):
+        rng = random.Random(7)
+        for length in [0, 1, 15, 16, 119, 120, 121, 239, 240, 241, 480, 700]:
+            text = "".join(rng.choice("aé漢\U0001f468") for _ in range(length))
+            given, session = text.encode(), Session(text)
+            for index in range(length + 1):
+                place = len(text[:index].encode())
+                self.assertEqual(lib.place_in(given, len(given), index), place)
+                self.assertEqual(lib.chars_in(given, place), index)
+                session.pos = index
+                self.assertEqual((session.pos, session.before), (index, text[:index]))
+            for none in (-1, length + 1, 2**63 - 1, 2**64):
+                self.assertRaises(lodvarn.BadPlaceError, setattr, session, "pos", none)
+
+    def test_what_is_told_are_indexes(self):
+        text = "é日 cd\n  é漢x\n" + FAMILY
+        session = opened(text, 10)
+        for told, wanted in [
+            (session.covers(LINE), "  é漢x"),
+            (session.covers(BACK), "é漢"),
+            (session.find_line(0), "é日 cd"),
+            (session.find_line(2), FAMILY),
+            (session.find_line(3), None),
+            (session.covers(Movement.search_for(Search.TO, "z")), None),
+            (session.covers(LINE, 1), "é日 cd"),
+            (session.covers(BACK, 2), "é日"),
+            (session.covers(BACK, 0), None),
+        ]:
+            self.assertEqual(told and text[slice(*told)], wanted)
+        self.assertEqual([session.destination(BACK, it) for it in (None, 2, 0, 6)], [8, 0, None, 3])
+        self.assertIsNone(session.destination(LINE))
+        self.assertEqual([session.cluster_at(it) for it in (1, 12, 17)], [(1, 2, 2), (12, 17, 2), None])
+        self.assertEqual([session.cluster_before(it) for it in (2, 17, 0)], [(1, 2, 2), (12, 17, 2), None])
+        self.assertEqual([session.line_at(it) for it in (0, 5, 6, 11, 12, 17)], [0, 0, 1, 1, 2, 2])
+        self.assertEqual((session.find_cursor(), session.count_lines(), session.pos), ((1, 5), 3, 10))
+
+    def test_what_is_given_are_indexes(self):
+        session = opened("é日c", 1)
+        for call, given, text, pos in [
+            (session.insert_at, (1, "漢"), "é漢日c", 1),
+            (session.replace, (1, 3, "ab"), "éabc", 3),
+            (session.delete_range, (0, 1), "abc", 0),
+            (session.set_text, (2, "éé漢"), "éé漢", 2),
+            (session.kill_range, (0, 2, Direction.BACKWARD), "漢", 0),
+            (session.kill_range, (0, 1), "", 0),
+        ]:
+            call(*given)
+            self.stands(session, text, pos)
+        self.assertEqual(session.ring, ["éé漢"])
+
+    def test_a_place_has_a_cell_and_a_cell_a_place(self):
+        for screen, text, place, wanted in [
+            (Screen(10, 2), "ab\ncd", 5, (1, 2)),
+            (Screen(4), "abc漢", 4, (1, 2)),
+            (Screen(10, 2), FAMILY, 5, (0, 4)),
+            (Screen(10, 2, mode=Mode.WC_WIDTH), FAMILY, 5, (0, 8)),
+            (Screen(columns=20, prompt=3, tab=4), "漢\n\t", 3, (1, 4)),
+        ]:
+            with self.subTest(text=text, screen=screen):
+                self.assertEqual(lodvarn.cell(screen, place, text), wanted)
+                self.assertEqual(lodvarn.place_at(screen, wanted, text), place)
+        self.assertEqual(lodvarn.place_at(Screen(10), (2**64 - 1, 0), "漢字"), 2)
+
+    def test_motions_by_rows_keep_the_column(self):
+        with Session("漢字é\n\na") as session:
+            screen = Screen(4, continuation=2)
+            self.assertEqual(session.row_above(screen), (4, 3))
+            self.assertEqual(session.row_above(screen, 1, 2), (3, 1))
+            session.pos = 0
+            self.assertEqual(session.row_below(screen, 1), (3, 1))
+            self.assertIsNone(session.row_below(screen, n=9))
+
+    def test_a_text_is_cut_into_clusters(self):
+        self.assertEqual(lodvarn.clusters("e\u0301漢x"), [("e\u0301", 1), ("漢", 2), ("x", 1)])
+        self.assertEqual(lodvarn.clusters("\x01\n", Mode.WC_WIDTH), [("\x01", 0), ("\n", 0)])
+        self.assertEqual(lodvarn.clusters(""), [])
+        shorter = type("Shorter", (str,), {"__len__": lambda it: 0})
+        self.assertEqual(lodvarn.clusters(shorter("ab")), [("a", 1), ("b", 1)])
+
+    def test_rows_begin_at_places(self):
+        for screen, text, wanted in [
+            (Screen(10), "", [0]),
+            (Screen(3, 2), "é漢字\nb", [0, 1, 2, 4]),
+            (Screen(4, continuation=3, controls=2), "\x01\x01\nab", [0, 2, 4]),
+        ]:
+            with self.subTest(text=text, screen=screen):
+                self.assertEqual(lodvarn.rows(screen, text), wanted)
+
+    def test_texts_are_measured(self):
+        self.assertEqual([lodvarn.width(FAMILY, it) for it in Mode], [2, 6, 6])
+        for text, first, last in [("", "", ""), ("e\u0301x", "e\u0301", "x"), ("x" + FAMILY, "x", FAMILY)]:
+            self.assertEqual((lodvarn.first_cluster(text), lodvarn.last_cluster(text)), (first, last))
+
+
+class Values(Scripts):
+    def test_options_are_read_and_set(self):
+        given = {"limit_bytes": None, "ring_size": 60, "mode": Mode.UNICODE, "prompt": 0}
+        given.update(max_entries=None, max_bytes=None, max_ring_bytes=None, keeps_undone=False)
+        session = Session()
+        self.assertEqual({name: getattr(session, name) for name in given}, given)
+        chosen = [("limit_bytes", 0), ("ring_size", 1), ("mode", Mode.NO_ZWJ), ("prompt", 3), ("max_entries", 0)]
+        chosen += [("max_bytes", 1), ("max_ring_bytes", 2), ("keeps_undone", True)]
+        for name, value in chosen:
+            given[name] = value
+            setattr(session, name, value)
+            self.assertEqual({name: getattr(session, name) for name in given}, given)
+        given.update(limit_bytes=9, ring_size=2, mode=Mode.WC_WIDTH, max_entries=5)
+        session = Session("abc", **given)
+        self.assertEqual({name: getattr(session, name) for name in given}, given)
+
+    def test_a_movement_is_a_value(self):
+        self.assertEqual({BACK, Movement.words_back(Word.EMACS, 1)}, {BACK})
+        self.assertNotEqual(Movement.search_for(Search.TO, "a"), Movement.search_for(Search.TO, "b"))
+        self.assertNotEqual(BACK, Movement.words_back(Word.VI))
+        self.assertRaises(AttributeError, setattr, LINE, "name", "")
+        self.assertIn("'words_back'", repr(BACK))
+        session = opened("xé é", 2)
+        for movement in (LINE, BACK, Movement.search_for(Search.TO, "é")):
+            for other in (copy.copy(movement), copy.deepcopy(movement), pickle.loads(pickle.dumps(movement))):
+                self.assertEqual((other, session.covers(other)), (movement, session.covers(movement)))
+
+    def test_the_ring_and_the_record_are_read(self):
+        session = Session("x")
+        self.assertEqual((session.ring, session.ring_count, session.ring_text()), ([], 0, None))
+        for text in ["a", "", "é"]:
+            session.keep(text)
+        self.assertEqual((session.ring, session.ring_count), (["é", "", "a"], 3))
+        self.assertEqual([session.ring_text(it) for it in (0, 1, 2, 3, 2**64 - 1)], ["é", "", "a", None, None])
+        self.assertTrue(session.yank() and session.last_was_yank and session.can_undo and not session.can_redo)
+        session.undo()
+        self.assertEqual((session.last_was_yank, session.can_undo, session.can_redo), (False, False, True))
+        session.begin_group()
+        self.assertEqual((session.entries, session.level), (1, 1))
+
+    def test_a_kill_goes_after_the_newest(self):
+        session = Session()
+        for text in "abcd":
+            session.keep(text)
+        self.assertTrue(session.yank() and session.yank_pop() and session.yank_pop())
+        session.keep("e")
+        self.assertEqual(session.ring, list("edcba"))
+        for it in (Session.load(session.save()), session):
+            it.ring_size = 2
+            self.assertEqual(it.ring, list("ed"))
+        session.clear_ring()
+        self.assertEqual((session.ring, session.yank(), session.text), ([], False, "b"))
+
+    def test_scripts(self):
+        longer = type("Longer", (bytes,), {"__len__": lambda it: 10**9})
+        for script, wanted in [(b"", b""), (bytearray(b"\xff"), b"bad\n"), (longer(b"\xff"), b"bad\n")]:
+            self.assertEqual(lodvarn.run_script(script), wanted)
+        self.assertEqual(lodvarn.run_script(b"text \n" + b"ins 1 a\n" * 99).count(b"\n"), 100)
+
+
+class Groups(Scripts):
+    def test_a_saved_text_comes_back(self):
+        session = Session()
+        self.assertFalse(session.is_saved)
+        session.insert("é")
+        session.set_saved()
+        self.assertTrue(session.is_saved)
+        session.insert("b")
+        self.assertFalse(session.is_saved)
+        session.undo()
+        self.assertEqual((session.text, session.is_saved), ("é", True))
+        session.undo()
+        session.insert("é")
+        self.assertEqual((session.text, session.is_saved), ("é", False))
+
+    def test_a_group_is_one_undo(self):
+        for fault in (None, KeyError):
+            session = Session("")
+            with suppress(KeyError), session.group():
+                session.insert("a")
+                with session.group():
+                    session.paste("b c")
+                    self.assertEqual(session.level, 2)
+                    if fault:
+                        raise fault
+            self.assertEqual((session.text, session.level, session.undo(), session.text), ("ab c", 0, True, ""))
+
+    def test_an_edit_is_one_undo(self):
+        def yank_and_pop(session):
+            session.yank()
+            return session.yank_pop() and session.yank_pop()
+
+        for edit, left in [
+            (lambda it: it.set_text(1, "漢字"), "漢字"),
+            (Session.transpose_chars, "nét wo"),
+            (Session.transpose_words, "two né"),
+            (lambda it: it.change_case(Case.UPPERCASE), "né TWO"),
+            (lambda it: it.indent(Movement.whole_text(), 40), " " * 40 + "né two"),
+            (yank_and_pop, "né 日two"),
+        ]:
+            session = Session("né two")
+            for text in ("日", "x", "yz"):
+                session.keep(text)
+            session.pos = 3
+            edit(session)
+            with self.subTest(left=left):
+                self.assertEqual((session.text, session.undo()), (left, True))
+                self.stands(session, "né two", 3)
+                self.assertEqual((session.entries, session.redo(), session.text), (0, True, left))
+
+    def test_an_undo_stays_in_its_group(self):
+        session = Session("")
+        session.insert("é")
+        with session.group():
+            session.paste("日")
+            session.transpose_chars()
+            self.assertEqual((session.undo(9), session.text, session.undo(9), session.level), (True, "é", False, 1))
+            session.redo()
+        self.assertEqual((session.text, session.undo(), session.text), ("é日", True, "é"))
+
+    def test_a_group_goes_on(self):
+        session = Session("one")
+        for letter in "ab":
+            with session.group(reopen=True):
+                session.insert(letter)
+        self.assertEqual((session.text, session.undo(), session.text), ("oneab", True, "one"))
+        session.insert("-")
+        with session.group(reopen=True):
+            session.insert("c")
+        self.assertEqual((session.text, session.undo(), session.text, session.level), ("one-c", True, "one-", 0))
+
+    def test_a_group_is_abandoned(self):
+        session = Session("né two")
+        with session.group():
+            session.kill(BACK)
+            with session.group():
+                session.paste("日本")
+            self.assertTrue(session.abandon_group())
+        self.stands(session, "né two", 6)
+        self.assertEqual((session.level, session.entries, session.can_redo, session.ring), (0, 0, False, ["two"]))
+        self.assertFalse(session.abandon_group())
+
+    def test_what_was_undone_is_kept(self):
+        session = Session("né")
+        self.assertFalse(session.keep_undone())
+        with session.group():
+            session.paste("日本")
+        session.undo()
+        self.assertTrue(session.keep_undone())
+        self.stands(session, "né", 2)
+        self.assertEqual((session.level, session.entries, session.can_redo), (0, 6, False))
+        session.insert("!")
+        session.undo(2)
+        self.stands(session, "né日本", 4)
+        session.undo()
+        self.stands(session, "né", 2)
+        self.assertEqual((session.entries, session.undo()), (0, False))
+
+    def test_edits_keep_what_was_undone(self):
+        def type_in_group(session):
+            with session.group(reopen=True):
+                session.insert("b")
+
+        for edit, kept, forgotten in [
+            (lambda it: it.insert("b"), ["", "é-", ""], [""]),
+            (type_in_group, ["", "é-", ""], [""]),
+            (lambda it: it.delete(), ["é-", ""], []),
+            (lambda it: it.undo(), [], []),
+        ]:
+            for keeps, wanted in [(True, kept), (False, forgotten)]:
+                session, seen = Session(keeps_undone=keeps), []
+                session.paste("é-")
+                session.undo()
+                session = copy.copy(session)
+                edit(session)
+                while session.undo():
+                    seen.append(session.text)
+                self.assertEqual((seen, session.keeps_undone), (wanted, keeps))
+
+    def test_it_hides_no_exception(self):
+        session = Session("")
+        with mock.patch.object(Session, "end_group", side_effect=lodvarn.NoMemoryError):
+            with self.assertRaises(KeyError), session.group():
+                raise KeyError
+            with self.assertRaises(lodvarn.NoMemoryError), session.group():
+                pass
+
+    def test_it_ends_what_was_begun_in_it_alone(self):
+        for what, inside, level in [
+            ("a group", lambda it: it.begin_group(), 1),
+            ("two, with a change", lambda it: (it.begin_group(), it.begin_group(), it.insert("b")), 1),
+            ("all are ended", lambda it: it.end_all_groups(), 0),
+            ("it is abandoned", lambda it: it.abandon_group(), 1),
+            ("an undo stays in it", lambda it: (it.insert("b"), it.undo(3)), 1),
+            ("what was undone in it is kept", lambda it: (it.insert("b"), it.undo(), it.keep_undone()), 1),
+            ("it is forgotten", lambda it: it.truncate(2), 1),
+            ("all is begun anew", lambda it: it.restart("x"), 0),
+        ]:
+            session = Session("ab")
+            session.begin_group()
+            session.insert("-")
+            with self.subTest(what=what):
+                with session.group():
+                    inside(session)
+                self.assertEqual(session.level, level)
+
+    def test_a_session_may_be_closed_in_it(self):
+        session = Session("")
+        with session.group():
+            session.close()
+        with self.assertRaises(lodvarn.ClosedError), session.group():
+            self.fail("it was entered")
+
+
+class Noted(Session):
+    """A session that has an attribute of its own."""
+
+    note: object = None
+
+
+def edited(kind=Session):
+    """A session with a ring of two texts, an open group, and a change that was undone."""
+    options = {"limit_bytes": 100, "ring_size": 3, "mode": Mode.NO_ZWJ, "prompt": 2, "max_entries": 50}
+    session = kind("né two", **options, max_bytes=99, max_ring_bytes=98, keeps_undone=True)
+    session.kill(BACK)
+    session.keep("日本")
+    session.set_saved()
+    session.yank()
+    session.begin_group()
+    session.insert("é")
+    session.replace(0, 1, "漢 ")
+    session.undo()
+    return session
+
+
+# What a saved session has, as read_saved.py prints it.
+PRINTED = """text 'né 日本é'
+cursor 12
+slot 'two'
+slot '日本'
+deletion 4 7 4 'two' ''
+insertion 4 4 10 '' '日本'
+begin 0 0 0 '' ''
+insertion 10 10 12 '' 'é'
+undone replacement 0 12 4 'n' '漢 '
+"""
+
+
+class Saved(Scripts):
+    def are_equal(self, one, other):
+        """All that two sessions tell is the same, but for what is called on a change."""
+        for name, it in vars(Session).items():
+            if isinstance(it, property) and name != "on_change":
+                self.assertEqual(getattr(one, name), getattr(other, name), name)
+        self.assertEqual(one.save(), other.save())
+
+    def test_it_comes_back_and_goes_on(self):
+        for last in (Session.part, Session.yank, lambda it: it.kill(START), lambda it: it.insert("a")):
+            session = edited()
+            last(session)
+            loaded = Session.load(session.save())
+            self.are_equal(loaded, session)
+            for call, *given in [
+                (Session.yank_pop,), (Session.redo,), (Session.kill, START), (Session.yank,), (Session.undo, 2),
+                (Session.insert, "b"), (Session.redo,), (Session.abandon_group,), (Session.undo, 9), (Session.redo,),
+                (Session.paste, "x" * 95),
+            ]:
+                with self.subTest(last=last, call=call):
+                    replies = []
+                    for it in (session, loaded):
+                        try:
+                            replies.append(call(it, *given))
+                        except lodvarn.NoRoomError as fault:
+                            replies.append(str(fault))
+                    self.assertEqual(*replies)
+                    self.are_equal(loaded, session)
+
+    def test_it_counts_characters(self):
+        session = opened("é漢é", 1)
+        session.insert("字")
+        loaded = Session.load(session.save())
+        self.stands(loaded, "é字漢é", 2)
+        self.assertIsNone(loaded.take_change())
+        loaded.undo()
+        self.assertEqual((loaded.take_change(), session.take_change()), (Splice(1, 2, 1), Splice(1, 1, 2)))
+        loaded.watch()
+        loaded.insert("é")
+        self.assertEqual(list(loaded.changes()), [report(ReportKind.CHAR_INSERTED, 1, "", "é", 1, 2)])
+
+    def test_what_is_long_comes_back(self):
+        session = Session("é漢" * 5000)
+        session.kill(Movement.whole_text())
+        session.paste(FAMILY, 999)
+        for saved in (session.save(), bytearray(session.save()), memoryview(session.save())):
+            self.are_equal(Session.load(saved), session)
+
+    def test_what_is_none_is_refused(self):
+        saved = edited().save()
+        other = saved[:-16].replace("日本é".encode(), "本日é".encode(), 1)  # The record does not lead to that text.
+        self.assertRaises(lodvarn.DamagedError, Session.load, other + hashlib.md5(other).digest())
+        for at in range(len(saved)):
+            flipped = saved[:at] + bytes([saved[at] ^ 32]) + saved[at + 1 :]
+            for damaged in (saved[:at], flipped):
+                with self.assertRaises(ValueError) as raised:
+                    Session.load(damaged)
+                self.assertIs(type(raised.exception), lodvarn.UnknownFormatError if at < 8 else lodvarn.DamagedError)
+                self.assertRaises(ValueError, list, read(damaged))
+
+    def test_pickle_and_copy_make_another(self):
+        by_pickle = [partial(pickle.dumps, protocol=it) for it in range(pickle.HIGHEST_PROTOCOL + 1)]
+        for take in [copy.copy, copy.deepcopy, *by_pickle]:
+            session = edited(Noted)
+            session.watch()
+            session.redo()
+            session.on_change, session.note = print, ["a"]
+            other = take(session)
+            other = pickle.loads(other) if isinstance(other, bytes) else other
+            with self.subTest(take=take):
+                self.are_equal(other, session)
+                self.assertEqual((type(other), other.note), (Noted, ["a"]))
+                self.assertEqual(other.note is session.note, take is copy.copy)
+                self.assertEqual((other.count_reports(), session.count_reports()), (0, 1))
+                self.assertEqual((other.on_change, session.on_change), (None, print))
+                other.undo()
+                self.stands(session, "漢 é 日本é", 2)
+                session.close()
+                self.stands(other, "né 日本é", 6)
+                self.assertRaises(lodvarn.ClosedError, take, session)
+
+    def test_plain_python_reads_it(self):
+        session = edited()
+        with tempfile.NamedTemporaryFile() as file:
+            file.write(session.save())
+            file.flush()
+            program = [sys.executable, "-I", HERE / "read_saved.py", file.name]
+            said = subprocess.run(program, stdout=subprocess.PIPE, check=True, env={"PYTHONIOENCODING": "utf-8"}).stdout
+        self.assertEqual(said.decode(), PRINTED)
+
+    def test_what_is_read_is_what_the_library_tells(self):
+        session = edited()
+        (_, text), (_, cursor), *parts = read(session.save())
+        self.assertEqual((text, cursor), (session.text, len(session.before.encode())))
+        self.assertEqual([it for name, *it in parts if name == "slot"], [[it] for it in reversed(session.ring)])
+        entries = [it for it in parts if it[0] != "slot"]
+        undone = [it for it in entries if it[0].startswith("undone")]
+        self.assertEqual(len(entries) - len(undone), session.entries)
+        changes = [(session.redo, at, went, came, pos) for _, at, _, pos, went, came in undone]
+        changes += [(session.undo, at, came, went, pos) for _, at, pos, _, went, came in reversed(entries)]
+        given = text.encode()
+        for call, at, old, new, pos in changes:
+            is_mark = not old and not new
+            # No undo leaves the group that is open.
+            self.assertTrue(session.abandon_group() if is_mark else call())
+            self.assertEqual(given[at : at + len(old.encode())].decode(), old)
+            given = given[:at] + new.encode() + given[at + len(old.encode()) :]
+            self.assertEqual((session.text, len(session.before.encode())), (given.decode(), cursor if is_mark else pos))
+            cursor = pos
+        self.assertEqual((session.text, session.undo()), ("né two", False))
+
+
+# Of each type of an argument what is right, what is a TypeError, and what is out of its range.
+ARGUMENTS = {
+    "int": (1, [None, "1", 1.0], [-1, 2**64]),
+    "Optional[int]": (1, ["1", 1.0], [-1, 2**64]),
+    "tuple[int, int]": ((0, 0), [None, ("1", 0), (0, 1.0)], [(-1, 0), (0, 2**64)]),
+    "str": ("a", [None, b"a", 97], []),
+    "bytes": (b"", [None, "a"], []),
+    "bool": (True, [], []),
+    "Movement": (LINE, [None, 100, Word.VI, ("whole_line", ())], []),
+    "Word": (Word.VI, [None, 22, Mode.UNICODE], []),
+    "Stop": (Stop.AT_START, [None, 30, Word.VI], []),
+    "Search": (Search.TO, [None, 40, Word.VI], []),
+    "Case": (Case.UPPERCASE, [None, 60, Word.VI], []),
+    "Direction": (Direction.FORWARD, [None, 50, Word.VI], []),
+    "Mode": (Mode.UNICODE, [None, 10, Word.VI], []),
+    "Screen": (Screen(9), [None, 9, (9, 0, 0, Mode.UNICODE)], []),
+}
+SET = {name: it for name, it in vars(Session).items() if isinstance(it, property) and it.fset}
+
+
+def kinds(call):
+    """The types of the arguments that a call takes, each by its name."""
+    return {name: it.annotation for name, it in inspect.signature(call).parameters.items()}
+
+
+def right(call):
+    """Right arguments of a call, each by its name."""
+    return {name: ARGUMENTS[kind][0] for name, kind in kinds(call).items()}
+
+
+def wrong(kind):
+    """What is wrong for an argument of that type, each with what it raises."""
+    _, others, out_of_range = ARGUMENTS[kind]
+    return [(it, TypeError) for it in others] + [(it, ValueError) for it in out_of_range]
+
+
+def asked(session):
+    """All that may be asked of a session but what a closed one has, each as a call by its name."""
+    for name in dir(Session):
+        member = getattr(Session, name)
+        if isinstance(member, property):
+            yield name, partial(getattr, session, name)
+        elif name == "group":
+            yield name, session.group().__enter__
+        elif name.strip("_") in ("enter", "len", "str", "reduce", name) and name not in ("close", "load"):
+            call = getattr(session, name)
+            yield name, partial(call, **right(call))
+    for name, member in SET.items():
+        yield name, partial(setattr, session, name, member.fget(Session("ab")))
+
+
+class Faults(Scripts):
+    def refuses(self, fault, session, call, *given, **named):
+        """The call raises the fault, and leaves text, cursor and record."""
+        before = (session.text, session.pos, session.entries)
+        with self.subTest(call=call, given=given, named=named), self.assertRaises(fault) as raised:
+            call(*given, **named)
+        if fault is ValueError:
+            self.assertIsInstance(raised.exception, lodvarn.LodvarnError)
+        self.assertEqual((session.text, session.pos, session.entries), before)
+
+    def test_what_is_refused_raises(self):
+        session = opened("aé", 2, limit_bytes=3)
+        session.kill(START)
+        self.refuses(lodvarn.NotReplayingError, session, session.truncate, 0)
+        session.yank()
+        for call, given in [
+            (session.insert, ("é",)), (session.paste, ("c", 2)), (session.yank, ()), (session.set_text, (0, "é漢")),
+            (session.insert_at, (2, "x")), (session.replace, (0, 1, "é")), (session.indent, (LINE, 1)),
+            (session.restart, ("éé",)), (setattr, (session, "limit_bytes", 2)),
+        ]:
+            self.refuses(lodvarn.NoRoomError, session, call, *given)
+        self.refuses(lodvarn.NoRoomError, session, Session, "éé", limit_bytes=3)
+        for given in [(2**63,), (1, 2**63)]:
+            self.refuses(lodvarn.NoMemoryError, session, session.watch, *given)
+        session.watch()
+        self.refuses(lodvarn.IsWatchedError, session, session.watch)
+        for call, given in [
+            (session.set_text, (2, "é")), (session.insert_at, (3, "x")), (session.replace, (2, 1, "x")),
+            (session.cluster_at, (3,)), (session.cluster_before, (3,)), (session.line_at, (3,)),
+            (session.covers, (LINE, 3)), (session.destination, (START, 3)), (session.slice, (0, 2**64)),
+            (lodvarn.cell, (Screen(9), 2, "é")),
+        ]:
+            self.refuses(lodvarn.BadPlaceError, session, call, *given)
+        for call, given in [
+            (session.insert, ("\ud800",)), (session.undo, (65536,)), (session.move, (Movement.chars_back(65536),)),
+            (session.delete_by, (LINE,)), (session.watch, (0,)), (session.indent, (LINE, 256)),
+            *((lodvarn.cell, (Screen(*it), 0, "")) for it in [(0,), (65536,), (9, 65536), (9, 0, -1)]),
+        ]:
+            self.refuses(lodvarn.NoSuchNumberError, session, call, *given)
+        for call in (session.paste, session.keep, session.restart, lodvarn.width):
+            self.refuses(UnicodeEncodeError, session, call, "\ud800")
+        self.assertTrue(issubclass(lodvarn.NoMemoryError, MemoryError) and issubclass(lodvarn.ClosedError, ValueError))
+
+    def test_an_error_of_a_later_library_raises(self):
+        self.assertRaisesRegex(lodvarn.LodvarnError, "^move: unknown$", lodvarn._seen, lib.py_move, -99)
+
+    def test_wrong_arguments_are_refused(self):
+        session = Session("ab")
+        names = [name for name, it in vars(Session).items() if inspect.isfunction(it) and name[0] != "_"]
+        calls = [getattr(session, name) for name in names]
+        calls += [*MAKERS, *(getattr(lodvarn, name) for name in lodvarn.__all__ if name.islower())]
+        calls += [Session, Session.load]
+        for call in calls:
+            for name, kind in kinds(call).items():
+                for it, fault in wrong(kind):
+                    self.refuses(fault, session, call, **{**right(call), name: it})
+        self.refuses(TypeError, session, session.insert, "ab")
+        self.refuses(TypeError, session, lodvarn.cell, Screen(9, mode=10), 0, "")
+        self.refuses(TypeError, session, Session, "ab", 9)
+
+    def test_wrong_options_are_refused(self):
+        session = Session("ab")
+        for name in sorted(set(SET) - {"pos", "on_change"}):
+            before = getattr(session, name)
+            for it, fault in wrong(Session.__annotations__[name]):
+                self.refuses(fault, session, setattr, session, name, it)
+            self.assertEqual(getattr(session, name), before)
+        self.refuses(ValueError, session, setattr, session, "prompt", 65536)
+
+    def test_a_closed_session_says_so(self):
+        session, names = Session("ab"), set()
+        session.close()
+        session.close()
+        for name, ask in asked(session):
+            names.add(name)
+            with self.subTest(name=name):
+                self.assertRaises(lodvarn.ClosedError, ask)
+        self.assertLess({"kill", "text", "group", "__len__", "insert", "save", "__reduce__"}, names)
+        self.assertEqual((repr(session), bool(session)), ("<Session closed>", True))
+
+    def test_a_session_that_is_opened_again_is_let_go_before(self):
+        session = Session("ab")
+        first = weakref.ref(session._it)
+        self.assertRaises(UnicodeEncodeError, session.__init__, "\ud800")
+        self.stands(session, "ab", 2)
+        session.__init__("c")
+        self.stands(session, "c", 1)
+        self.assertIsNone(first())
+
+    def test_what_never_opened_is_let_go(self):
+        for _ in range(100):
+            self.assertRaises(UnicodeEncodeError, Session, "\ud800")
+            self.assertRaises(lodvarn.ClosedError, len, Session.__new__(Session))
+
+
+def report(kind, at, old, new, pos_before, pos_after):
+    """A report with its texts."""
+    return Report(kind, at, len(old), len(new), pos_before, pos_after, old, new)
+
+
+STARTED = report(ReportKind.KILL_STARTED, 0, "", "", 0, 0)
+STOPPED = report(ReportKind.KILL_STOPPED, 0, "", "", 0, 0)
+
+
+class Changes(Scripts):
+    def tells(self, session, *wanted):
+        """Those reports wait, and no others."""
+        self.assertEqual(session.count_reports(), len(wanted))
+        self.assertEqual(list(session.changes()), list(wanted))
+
+    def test_what_changed_is_one_splice(self):
+        session = opened("é漢é", 1)
+        self.assertIsNone(session.take_change())
+        session.insert("字")
+        self.assertEqual((session.take_change(), session.take_change()), (Splice(1, 1, 2), None))
+        session.undo()
+        session.replace(0, 2, "x")
+        self.assertEqual(session.take_change(), Splice(0, 3, 1))
+
+    def test_a_place_moves_by_a_change(self):
+        for change, *rows in [
+            (Splice(1, 1, 3), (0, 0, 0), (1, 1, 3), (2, 4, 4)),
+            (Splice(1, 4, 1), (1, 1, 1), (2, 1, 1), (5, 2, 2)),
+            (Splice(1, 4, 3), (1, 1, 1), (2, 1, 3), (4, 3, 3)),
+        ]:
+            for place, *wanted in rows:
+                self.assertEqual([change.moved(place, it) for it in Side], wanted, (change, place))
+        session, mark = opened("é漢字é", 1), 3
+        session.watch()
+        for wanted, call, *given in [
+            (4, session.insert, "é"), (3, session.replace, 0, 2, "x"), (4, session.undo),
+            (1, session.delete_range, 1, 4), (1, session.undo),
+        ]:
+            call(*given)
+            for it in session.changes():
+                mark = it.moved(mark)
+            self.assertEqual(mark, wanted)
+        for refused, change, *given in [
+            (lodvarn.BadPlaceError, Splice(2, 1, 2), 0), (lodvarn.BadPlaceError, Splice(2, 2, 1), 0),
+            (lodvarn.BadPlaceError, Splice(0, 0, 1), 2**64 - 1), (lodvarn.NoSuchNumberError, Splice(0, 0, 1), -1),
+            (TypeError, Splice(0, 0, 1), 0, Direction.FORWARD),
+        ]:
+            self.assertRaises(refused, change.moved, *given)
+
+    def test_reports_count_characters(self):
+        kind, session = ReportKind, opened("éb", 1)
+        session.watch()
+        back, ahead = report(kind.DELETED_BACKWARD, 0, "é", "", 1, 0), report(kind.DELETED_FORWARD, 0, "漢x", "", 0, 0)
+        for call, given, wanted in [
+            (session.insert, ("é",), [report(kind.CHAR_INSERTED, 1, "", "é", 1, 2)]),
+            (session.paste, ("漢c",), [report(kind.TEXT_INSERTED, 2, "", "漢c", 2, 4)]),
+            (session.backspace, (2,), [report(kind.DELETED_BACKWARD, 2, "漢c", "", 4, 2)]),
+            (session.replace, (1, 3, "漢x"), [report(kind.REPLACED, 1, "éb", "漢x", 2, 3)]),
+            (session.insert_at, (0, "漢字"), [report(kind.TEXT_INSERTED, 0, "", "漢字", 3, 2)]),
+            (session.delete_range, (0, 2), [report(kind.DELETED_FORWARD, 0, "漢字", "", 2, 0)]),
+            (setattr, (session, "pos", 1), []),
+            (session.kill, (START,), [STARTED, back, STOPPED]),
+            (session.kill, (END,), [STARTED, ahead, STOPPED]),
+            (session.yank, (), [report(kind.TEXT_INSERTED, 0, "", "é漢x", 0, 3)]),
+            (session.undo, (), [report(kind.REPLACED, 0, "é漢x", "", 3, 0)]),
+            (session.copy, (LINE,), []),
+        ]:
+            with self.subTest(call=call, given=given):
+                call(*given)
+                self.tells(session, *wanted)
+
+    def test_several_that_wait_count_in_the_texts_then(self):
+        kind, session = ReportKind, Session("日本")
+        session.watch()
+        session.insert_at(0, "漢字x")
+        session.delete_range(1, 3)
+        session.set_text(1, "éé")
+        self.tells(
+            session,
+            report(kind.TEXT_INSERTED, 0, "", "漢字x", 2, 2), report(kind.DELETED_FORWARD, 1, "字x", "", 2, 1),
+            report(kind.DELETED_FORWARD, 0, "漢日本", "", 1, 0), report(kind.TEXT_INSERTED, 0, "", "éé", 0, 1),
+        )
+
+    def test_reports_may_have_no_texts(self):
+        kind, session = ReportKind, Session("é漢é")
+        session.watch(2, 0)
+        for call, given, wanted in [
+            (session.insert, ("日",), (kind.CHAR_INSERTED, 3, 0, 1, 3, 4)),
+            (session.backspace, (2,), (kind.DELETED_BACKWARD, 2, 2, 0, 4, 2)),
+            (session.set_text, (1, "abc"), (kind.FOLDED, 0, 2, 3, 2, 1)),
+        ]:
+            call(*given)
+            self.tells(session, Report(*wanted, None, None))
+
+    def test_a_watch_ends_and_begins(self):
+        session = Session("")
+        for number in (1, 2):
+            session.watch(number)
+            session.insert("é")
+            session.unwatch()
+            self.tells(session)
+        session.watch(2)
+        waiting = session.changes()
+        session.insert("d")
+        self.assertEqual(next(waiting), report(ReportKind.CHAR_INSERTED, 2, "", "d", 2, 3))
+        session.close()
+        self.assertRaises(lodvarn.ClosedError, list, waiting)
+
+
+def interrupt():
+    """Does what the handler of a signal may."""
+    raise KeyboardInterrupt
+
+
+def disturbed(at, call, by=interrupt):
+    """Calls, and does something else before the step of that number which the package takes. Whether it has so many."""
+
+    def trace(frame, event, _):
+        """Counts the steps."""
+        nonlocal at
+        if frame.f_code.co_filename != lodvarn.__file__:
+            return None
+        frame.f_trace_opcodes = True
+        at -= event == "opcode"
+        if event == "opcode" and at == -1:
+            by()
+        return trace
+
+    sys.settrace(trace)
+    try:
+        call()
+    except KeyboardInterrupt:
+        pass
+    finally:
+        sys.settrace(None)
+    return at < 0
+
+
+class OnChange(Scripts):
+    def test_each_command_tells(self):
+        session, seen = opened("ab", 1), []
+        self.assertIsNone(session.on_change)
+        session.on_change = call = seen.append
+        self.assertIs(session.on_change, call)
+        inserted = report(ReportKind.CHAR_INSERTED, 1, "", "c", 1, 2)
+        session.insert("c")
+        session.part()
+        session.kill(END)
+        self.assertEqual(seen, [inserted, STARTED, report(ReportKind.DELETED_FORWARD, 2, "b", "", 2, 2), STOPPED])
+        session.on_change = None
+        session.insert("d")
+        self.assertEqual((len(seen), len(list(session.changes()))), (4, 1))
+
+    def test_it_tells_of_a_command_that_is_refused_halfway(self):
+        session, seen = Session("ab"), []
+        session.on_change = seen.append
+
+        def py_halfway(it, c, n):
+            """Takes one step, and then finds no memory."""
+            lib.py_insert(it, c, n)
+            return lib.LODVARN_NO_MEMORY
+
+        with mock.patch.object(lodvarn, "_insert", py_halfway):
+            self.assertRaises(lodvarn.NoMemoryError, session.insert, "c")
+        self.assertEqual(seen, [report(ReportKind.CHAR_INSERTED, 2, "", "c", 2, 3)])
+
+    def test_what_it_raises_comes_out_of_the_command(self):
+        session, seen = Session("ab"), []
+        session.on_change = mock.Mock(side_effect=KeyError)
+        self.assertRaises(KeyError, session.set_text, 2, "cd")
+        self.stands(session, "cd", 2)
+        session.on_change = seen.append
+        # A read tells nothing, though a report waits. What it was given before is not given again.
+        self.assertEqual((session.text, session.covers(LINE), seen), ("cd", (0, 2), []))
+        session.pos = 0
+        self.assertEqual(seen, [report(ReportKind.TEXT_INSERTED, 0, "", "cd", 0, 2)])
+        session.on_change = lambda it: session.on_change(it)
+        self.assertRaises(RecursionError, session.insert, "e")
+
+    def loses_none(self, is_through, at, session, seen):
+        """What was told leads from the text of before to that of the session, each change once."""
+        text = "é"
+        for it in seen:
+            text = text[: it.at] + it.new_text + text[it.at + it.old_len :]
+        self.assertEqual(text, session.text, f"at step {at}")
+        return is_through
+
+    def by_on_change(self, at):
+        """Stops commands at a step. Whether they were through by then."""
+        session, seen = Session("é"), []
+        session.on_change = seen.append
+        is_through = not disturbed(at, lambda: (session.insert("b"), session.set_text(1, "漢字")))
+        session.part()
+        return self.loses_none(is_through, at, session, seen)
+
+    def by_changes(self, at):
+        """Stops at a step what asks for changes."""
+        session, seen = Session("é"), []
+        session.watch()
+        session.set_text(1, "漢字")
+        is_through = not disturbed(at, lambda: seen.extend(session.changes()))
+        seen.extend(session.changes())
+        return self.loses_none(is_through, at, session, seen)
+
+    def test_a_signal_loses_no_report(self):
+        for stop in (self.by_on_change, self.by_changes):
+            self.assertGreater(next(at for at in range(9999) if stop(at)), 50)
+
+    def by_a_finalizer(self, size, takes, at):
+        """Edits at a step of what edits and reads, and takes some reports. Whether all was through by then."""
+        session, grown, come = Session(), [], "z" * size
+        session.watch()
+
+        def take(most=None):
+            """Takes reports, and notes by how much each made the text longer."""
+            grown.extend(it.new_len - it.old_len for it in islice(session.changes(), most))
+
+        def use():
+            """Edits, and takes and reads what there is."""
+            session.insert("a")
+            take()
+            self.assertTrue(session.text in ("a", "a" + come, come + "a"), f"at step {at}")
+
+        is_through = not disturbed(at, use, lambda: (session.paste(come), take(takes)))
+        take()
+        self.assertEqual(sum(grown), len(session), f"at step {at}")
+        return is_through
+
+    def test_a_finalizer_may_edit_between_any_two_steps(self):
+        for size, takes in product((2, 100000), (0, 1)):
+            self.assertGreater(next(at for at in range(9999) if self.by_a_finalizer(size, takes, at)), 50)
+
+    def test_it_may_do_commands(self):
+        for reports in (1, 64):
+            session, mirror = Session(""), []
+            session.watch(reports)
+
+            def close(it):
+                """Puts a parenthesis after each that opens."""
+                new = session.slice(it.at, it.at + it.new_len) if it.new_text is None else it.new_text
+                mirror[it.at : it.at + it.old_len] = new
+                if it.new_text == "(":
+                    session.insert(")")
+                    session.pos = it.pos_after
+
+            session.on_change = close
+            session.insert("(")
+            session.insert("(")
+            session.insert("é")
+            self.stands(session, "((é))", 3)
+            self.assertEqual("".join(mirror), session.text)
+
+    def test_it_may_end_the_watch(self):
+        session, seen = Session(""), []
+
+        def rewatch(it):
+            """Watches anew, with a report of its own."""
+            seen.append(it.new_text)
+            if it.new_text == "a":
+                session.unwatch()
+                session.watch(2)
+                lib.py_insert(session._it, "b", 1)
+
+        session.on_change = rewatch
+        session.insert("a")
+        self.assertEqual(seen, ["a", "b"])
+        session.on_change = lambda it: session.close()
+        session.insert("c")
+        self.assertRaises(lodvarn.ClosedError, session.insert, "d")
+
+
+PIECES = ["", "a", "é", "漢字", "one two", FAMILY, "e\u0301", "\n", "  x\n\ty", "Ωμέγα ß", "0\0_-."]
+
+
+def some(rng, session, letter):
+    """An argument for a letter of the words: now and then a place that may be none."""
+    if letter == "M":
+        letters, make = MOVEMENTS[rng.choice(list(MOVEMENTS))]
+        return make(*(some(rng, session, it) for it in letters))
+    if letter in NAMES:
+        return rng.choice(list(NAMES[letter][0]))
+    if letter == "Q":
+        return rng.randrange(99) if rng.random() < 0.05 else rng.randint(0, len(session))
+    return {"T": rng.choice(PIECES) * rng.randrange(3), "C": rng.choice("ab1é漢 \n-"), "K": rng.randrange(40)}.get(
+        letter, rng.choice([0, 1, 1, 1, 2, 3])
+    )
+
+
+class Mirrors(Scripts):
+    # The seed of the commands, and how many found no memory, and of these had changed the text.
+    seed, refused, halfway = 7, 0, 0
+
+    def follow_reports(self, mirror, session):
+        """Makes the changes of all reports in a text, which is the session's then. The kinds, and where the cursor went
+        by the last of a change."""
+        told = []
+        while session.count_reports():
+            try:
+                told.extend(session.changes())
+            except lodvarn.NoMemoryError:
+                self.refused += 1
+        for it in told:
+            come = session.slice(it.at, it.at + it.new_len) if it.new_text is None else it.new_text
+            self.assertIn(it.old_text, ("".join(mirror[it.at : it.at + it.old_len]), None))
+            mirror[it.at : it.at + it.old_len] = come
+        self.assertEqual("".join(mirror), session.text)
+        return {it.kind for it in told}, [it.pos_after for it in told if it.old_len or it.new_len][-1:]
+
+    def follow_splice(self, mirror, session):
+        """Makes the change that `take_change` tells in a text, which is the session's then."""
+        if splice := session.take_change():
+            mirror[splice.start : splice.old_end] = session.slice(splice.start, splice.new_end)
+        self.assertEqual("".join(mirror), session.text)
+
+    def do(self, rng, session):
+        """Does a random command, which may be refused for what it is given, or for want of memory."""
+        before = session.text
+        word = rng.choice([*WORDS, "ins", "ins", "ins", "paste", "str", "yank", "undo", "redo"])
+        try:
+            do(session, word, [some(rng, session, it) for it in WORDS[word][0]])
+            if rng.random() < 0.03:
+                session.max_bytes = session.max_ring_bytes = rng.choice([None, 300])
+                session.keeps_undone = rng.random() < 0.5
+                session.restart(rng.choice(PIECES))
+        except (lodvarn.NoSuchNumberError, lodvarn.NoMemoryError) as fault:
+            self.refused += isinstance(fault, MemoryError)
+            self.halfway += isinstance(fault, MemoryError) and session.text != before
+
+    def leads_to_the_text(self, session, patience, kinds):
+        """Two texts follow the reports, read every `patience` commands or sooner, and what changed, over random
+        commands. These kinds of reports are told."""
+        by_reports, by_splices, told, wait, rng = [], [], set(), 1, random.Random(self.seed)
+        for _ in range(20000):
+            self.do(rng, session)
+            wait -= 1
+            if not wait:
+                new, places = self.follow_reports(by_reports, session)
+                told |= new
+                if patience == 1:
+                    self.assertIn(session.pos, places or [session.pos])
+                wait = rng.randint(1, patience)
+            if rng.random() < 0.5:
+                self.follow_splice(by_splices, session)
+        self.assertEqual(told, kinds)
+
+    def test_queues_of_one_of_four_with_short_texts_and_of_many_reports(self):
+        told = set(ReportKind)
+        for room, patience, kinds in [
+            ((1,), 1, told - {ReportKind.KILL_STARTED, ReportKind.KILL_STOPPED}),
+            ((4, 64), 3, told),
+            ((1000,), 30, told - {ReportKind.FOLDED}),
+        ]:
+            session = Session("", limit_bytes=200)
+            session.watch(*room)
+            self.leads_to_the_text(session, patience, kinds)
+
+
+class Module(unittest.TestCase):
+    def test_all_is_exported(self):
+        public = {name for name, it in vars(lodvarn).items() if getattr(it, "__module__", "") == "lodvarn"}
+        self.assertEqual(set(lodvarn.__all__), {name for name in public if not name.startswith("_")})
+
+    def test_each_call_of_the_header_is_used(self):
+        header, source = (TOP / "include/lodvarn.h").read_text(), Path(lodvarn.__file__).read_text()
+        own = (TOP / "python/session.c").read_text()
+        calls = set(re.findall(r"^(?:int|bool|size_t|uint32_t|void|const char) \*?(lodvarn_\w+)\(", header, re.M))
+        used = set(re.findall(r"\blib\.(\w+)", source))
+        made = {f"lodvarn_{it[3:]}" for it in used if it.startswith("py_")}
+        # A copy is read, as what is covered, and ends a run of kills.
+        left = {"lodvarn_version", "lodvarn_copy"}
+        self.assertEqual(calls - used - made - set(re.findall(r"\blodvarn_\w+", own)), left)
+
+    def test_the_library_has_the_version_of_the_package_or_a_later_one(self):
+        number = lib.lodvarn_version()
+        its, own = [number >> 16, number >> 8 & 255, number & 255], [*map(int, lodvarn.__version__.split("."))]
+        self.assertTrue(its[:2] == own[:2] and its >= own)
+        self.assertTrue(sys.modules["lodvarn._lodvarn"].__file__.endswith(".abi3.so"))
+
+    def test_a_call_keeps_the_lock_of_the_interpreter(self):
+        gate, seen = threading.Lock(), []
+        self.addCleanup(sys.setswitchinterval, sys.getswitchinterval())
+        sys.setswitchinterval(99)
+        with gate:
+            thread = threading.Thread(target=lambda: (gate.acquire(), seen.append(1)))
+            thread.start()
+        lodvarn.run_script(b"text a\n" + b"paste 99 a\nback 99\n" * 2000)
+        self.assertEqual(seen, [])
+        thread.join()
+        self.assertEqual(seen, [1])
+
+
+def main():
+    """Runs the tests of the started program, says how many passed, and ends it. A class that cannot begin fails."""
+    result = unittest.main(exit=False).result
+    run = max(result.testsRun, 1)
+    failed = min(len(result.failures) + len(result.errors), run)
+    print(f"{run - failed} passed, {failed} failed")
+    sys.exit(failed != 0)
+
+
+if __name__ == "__main__":
+    main()

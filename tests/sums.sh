@@ -1,0 +1,111 @@
+# What the test programs in bash share. Each begins with:  set -u; . "$(dirname "$0")/../tests/sums.sh"
+#
+# $top is the top of the repository, and $work a folder that is gone at the end. A program that sets an EXIT trap of its
+# own removes $work in it.
+#
+#   add WHAT WORDS..     runs the words, and says and counts what they gave: the sum 'N passed, M failed' that they
+#                        print last, or all of cargo's, or 1 if they print none and end well. Shows what they print if
+#                        something failed, and fails then. The words run in a subshell
+#   show WHAT WORDS..    add for a test program: shows what it prints as it prints it, and wants a sum of it
+#   not_run WHY          says that something was left out
+#   start add WHAT ..    runs it beside the rest, or a function that adds several
+#   await_started        waits for all that was started, and shows what each printed
+#   finish               prints the sum of all as the last line, and ends the program: well if all passed
+#   is_built CRATE       whether the program that rt builds of a crate is there, and no older than its sources
+#   built CRATE          prints the path of that program, and builds it before if it is not
+#   with "COMMAND.." add WHAT ..   does that, but where $quick is set only if these commands are there, and else says it
+#   say_usage            prints the lines of the program's head that begin with three spaces, and ends it with status 2
+top=$(cd "$(dirname "${BASH_SOURCE[0]}")/.." && pwd)
+work=$(mktemp -d)
+lanes=()
+trap 'rm -rf "$work"' EXIT
+export PYTHONDONTWRITEBYTECODE=1
+
+# Prints the two numbers of the sum in a file, or nothing. A last line with a sum stands for those before it.
+sum_of() {
+    awk '/^[0-9]+ passed, [0-9]+ failed/ { last = $1 " " $3 + 0 }
+        /^test result: .* passed; .* failed;/ { good += $4; bad += $6; all = good " " bad }
+        END { if (last all != "") print last != "" ? last : all }' "$1"
+}
+
+add() {
+    local what=$1 begun=$SECONDS status=0 good= bad=0 log=$work/log.$BASHPID
+    shift
+    if [[ -n ${shown-} ]]; then
+        ("$@") 2>&1 | tee "$log"
+        status=${PIPESTATUS[0]}
+    else
+        ("$@") > "$log" 2>&1 || status=$?
+    fi
+    read -r good bad < <(sum_of "$log")
+    if [[ -z $good && -n ${shown-} ]]; then echo "$what: no sum was printed"; fi
+    if [[ -z $good && -z ${shown-} && $status == 0 ]]; then good=1; fi
+    good=${good:-0} bad=${bad:-0}
+    if [[ $bad == 0 && ($status != 0 || $good == 0) ]]; then bad=1; fi
+    if [[ $bad != 0 && -z ${shown-} ]]; then cat "$log"; fi
+    echo "$what: $good passed, $bad failed, $((SECONDS - begun)) s"
+    echo "$good $bad" >> "$work/sums"
+    [[ $bad == 0 ]]
+}
+
+show() {
+    local shown=yes
+    echo "== $1"
+    add "$@"
+}
+
+not_run() {
+    echo "NOT RUN: $*"
+}
+
+start() {
+    local lane=$work/lane.${#lanes[@]}
+    { "$@"; touch "$lane.ended"; } > "$lane" 2>&1 &
+    lanes+=("$lane $!")
+}
+
+# A lane that did not come to its end fails.
+await_started() {
+    local lane process
+    for lane in "${lanes[@]}"; do
+        read -r lane process <<< "$lane"
+        wait "$process"
+        cat "$lane"
+        [[ -e $lane.ended ]] || add "end of a lane" false
+    done
+    lanes=()
+}
+
+finish() {
+    awk '{ good += $1; bad += $2 }
+        END { print good + 0 " passed, " bad + 0 " failed"; exit bad != 0 || !good }' "$work/sums"
+    exit
+}
+
+is_built() {
+    local program=$top/crates/$1/out/$1
+    [[ -e $program && -z $(find "$top"/crates/{rl_base,rl_line,rl_session,"$1"}/src -name '*.rt' -newer "$program") ]]
+}
+
+built() {
+    local folder=$top/crates/$1 given=/dev/null
+    if [[ -f $folder/stdin ]]; then given=$folder/stdin; fi
+    is_built "$1" || (cd "$folder" && rt run < "$given" > /dev/null) || return
+    echo "$folder/out/$1"
+}
+
+with() {
+    local command
+    for command in $1; do
+        if [[ -n ${quick-} ]] && ! command -v "$command" > /dev/null; then
+            not_run "$3, since there is no $command"
+            return
+        fi
+    done
+    "${@:2}"
+}
+
+say_usage() {
+    sed -n '/^#/!q; s/^#   //p' "$0" >&2
+    exit 2
+}
