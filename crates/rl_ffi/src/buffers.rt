@@ -3,7 +3,7 @@ ghost use Rattle.std.specs.Prelude.{◌≡◌, ◌≤◌, Some, length};
 ghost use Rattle.rl_ffi.specs.Buffers.{put, written};
 ghost use Rattle.rl_ffi.specs.Calls.{WritesText};
 
-use crate::answers::{Answer};
+use crate::answers::Answer;
 
 // Writes the whole text to the start of the buffer.
 pub(crate) fn put(text: &[u8], out: &mut [u8])

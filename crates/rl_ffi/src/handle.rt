@@ -95,4 +95,5 @@ macro_rules! given {
     };
 }
 
-pub(crate) use {given, of};
+pub(crate) use given;
+pub(crate) use of;

@@ -10,7 +10,7 @@ ghost use Rattle.rl_session.specs.State.{State};
 ghost use Rattle.rl_ffi.specs.Calls.{Finds, Tells, Writes};
 ghost use Rattle.rl_ffi.specs.Reads.{LeadsFrom, Lends, TellsCluster, TellsClusterBefore, TellsCoversFrom, TellsLineAt, TellsSlice, cursor_position, range_shape};
 
-use crate::answers::{Answer};
+use crate::answers::Answer;
 use crate::handle::{Handle, of};
 use crate::numbers::movement_of;
 use crate::shapes::{CCluster, CMovement, CPosition, CRange};

@@ -3,7 +3,7 @@ ghost use Rattle.std.specs.Prelude.{◌≡◌};
 ghost use Rattle.rl_ffi.specs.Calls.{Answers, Tells};
 ghost use Rattle.rl_ffi.specs.Saved.{OpensSaved, Saves};
 
-use crate::answers::{Answer};
+use crate::answers::Answer;
 use crate::buffers::hand_out;
 use crate::handle::{Handle, of};
 use crate::opening::open;
