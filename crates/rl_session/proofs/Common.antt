@@ -42,7 +42,7 @@ pub use Rattle.rl_line.specs.Motions.{Moved}
 pub use Rattle.rl_line.specs.Plan.{Cut, Grows, Outcome, Takes, a_copy, nothing_more, or_no_memory, refusal_of, room_by_step}
 pub use Rattle.rl_line.specs.Transpositions.{word_end, word_start}
 pub use Rattle.rl_line.specs.declared.change.Freshness.{Freshness}
-pub use Rattle.rl_session.specs.Commands.{Asked, Became, Came, Course, CutShort, Does, Edited, Effect, KeepsRing, Telling, WatchHears, answers, asked, by_steps, course_of, deletion_of, edit, edit_course, edits, effect, goes, hands_out, inserts, is_done, is_vain_yank, lends, lent_plan, never, other, other_course, popped, popped_plan, pops, puts_again, puts_begin, puts_end, puts_ends, readied, settled, shortens, stays, takes_back, tells, told_as, when, with_changes, gives_up}
+pub use Rattle.rl_session.specs.Commands.{Asked, Became, Came, Course, CutShort, Does, Edited, Effect, KeepsRing, Telling, WatchHears, answers, asked, by_steps, course_of, deletion_of, edit, edit_course, edits, effect, goes, hands_out, inserts, is_done, is_vain_yank, lends, lent_plan, never, on_record, other, other_course, popped, popped_plan, pops, puts_again, readied, settled, stays, takes_back, tells, told_as, when, with_changes, gives_up}
 pub use Rattle.rl_session.specs.Forgetting.{HoldsOn, gone, within_bound}
 pub use Rattle.rl_session.specs.Grammar.{AmountMovement, CountAtWord, CountSearch, CountWord, Do, Meaning, Means, Names, NamesAction, NamesAt, NamesDirection, NamesMode, NamesSearch, NamesWord, NewText, RangeDirection, RangeText, Same, Says, Set, ahead, back, back_onto, back_till, backward, bchar, before, begin, big, bob, buf, bword, cap, cased, copy, dedent, del, discbuf, discline, down, emacs, end, endone, eob, eol, fchar, find, first, fword, home, indent, ins, keep, kill, killbuf, killline, killrange, limit, line_place, low, mode, move, nextword, no_text, nonblank, nozwj, part, paste, pastes, pos, prevword, puts_in, range, redo, reopen, abandon, keepundone, rep, replaces, ring, same, start, str, tchars, text, till, to, trunc, twords, undo, unicode, up, update, updates, upper, vi, wcwidth, whole, yankpop, linesdown, linesup}
 pub use Rattle.rl_session.specs.History.{AllRedone, AllStandInGroup, ClosesGroup, History, Holds, IsEdit, MayStandInGroup, Placed, PlacedBack, StandsAfter, WasHeld, WasRefused}

@@ -10,7 +10,6 @@ use Rattle.rl_line.proofs.Records.UnitLemmas.{AllGood, IsMatched-append, cut_mor
 use Rattle.rl_line.proofs.Records.WalkLemmas.{Walk-append, Walk-end_one, Walk-IsUtf8}
 use Rattle.rl_base.proofs.Texts.SwapLemmas.{apply-IsUtf8}
 use Rattle.rl_line.proofs.Records.MarkLemmas.{replay-end_one}
-use Rattle.rl_line.proofs.Records.OriginLemmas.{Kept}
 use Rattle.rl_line.proofs.Records.KeepLemmas.{ends_past}
 use Rattle.rl_line.proofs.Records.GroupLemmas.{Inside}
 use Rattle.rl_line.specs.Record.{parted}
@@ -213,9 +212,6 @@ replays-round es text u h =
     let there = replays-closed es text end ahead in
     replay-append c (turned_all c) text ∙ ap (option_and_then (replay_entries (turned_all c))) there
     ∙ replay-unwind (turned_all c) text end u (unwind-turned c text ∙ there)
-
-pub Kept-kept : (r : Record) (line : Line) → IsUtf8 line.text → IsSome (replay_entries r.pending line.text) → Kept r (kept_undone r) line line
-Kept-kept r line u h = kept-either (λ k. Kept r k line line) r (record { origin_is = λ start e. e; utf8 = u }) (record { origin_is = λ start e. unwind-round r line.text u h ∙ e; utf8 = u })
 
 pub saved-kept : (es : List Entry) (r : Record) → IsMatched r.pending → StaysSaved es r → StaysSaved es (kept_undone r)
 saved-kept es r m s =
