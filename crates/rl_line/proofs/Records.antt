@@ -31,7 +31,6 @@ pub mod RetraceLemmas
 pub mod AbandonLemmas
 pub mod KeepLemmas
 pub mod RoundLemmas
-pub mod CallLemmas
 pub mod UnitingLemmas
 pub mod UnitLawLemmas
 pub mod ForgettingLemmas

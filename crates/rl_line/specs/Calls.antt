@@ -5,7 +5,7 @@ use Rattle.rl_line.specs.Undo.{texts_ahead}
 use Rattle.rl_line.specs.Units.{IsMatched, begun, ended, ended_one, kept_undone, reopened, there_and_back, truncated}
 
 pub data RecordCall : Type 0 where
-  parts : RecordCall
+  parts_next : RecordCall
   puts_begin : RecordCall
   puts_ends : RecordCall
   puts_end : RecordCall
@@ -15,7 +15,7 @@ pub data RecordCall : Type 0 where
 
 -- the record after each
 abbrev pub after_call : RecordCall → Record → Record
-after_call parts r = parted r
+after_call parts_next r = parted r
 after_call puts_begin r = begun r
 after_call puts_ends r = ended r
 after_call puts_end r = ended_one r

@@ -21,7 +21,7 @@ use Rattle.rl_line.specs.Edits.{CanInsertStr, CanYankPop, insert_plan, insert_st
 use Rattle.rl_line.specs.Indents.{indent_plan}
 use Rattle.rl_line.specs.Deletions.{copied, delete_plan, kill_plan, kill_range_plan, is_by_characters, Told}
 use Rattle.rl_line.specs.LetterCase.{edit_word_plan}
-use Rattle.rl_line.specs.Calls.{RecordCall, MayCome, after_call, keeps_undone, parts, puts_begin, puts_end, puts_ends, reopens, shortens}
+use Rattle.rl_line.specs.Calls.{RecordCall, MayCome, after_call, keeps_undone, parts_next, puts_begin, puts_end, puts_ends, reopens, shortens}
 use Rattle.rl_line.specs.Record.{Record, replays_to}
 use Rattle.rl_line.specs.Transpositions.{transpose_chars_plan, transpose_words_plan}
 use Rattle.rl_line.specs.Undo.{Abandoned, CopiesBack, Undone, Redone, steps_ahead, steps_back, texts_ahead, texts_back}
@@ -255,7 +255,7 @@ effect old (Truncate len) says.Done = on_record (Unit {0}) (shortens len)
 effect old (Undo n) (says.Answer a) = takes_back n a
 effect old Redo (says.Answer a) = puts_again a
 effect old (Keep t) says.Done = keeps (string_bytes t)
-effect old Part says.Done = on_record (Unit {0}) parts
+effect old Part says.Done = on_record (Unit {0}) parts_next
 effect old Reopen (says.Answer a) = on_record (a ≡ ends_in_end old.pair.changes.recorded) reopens
 effect old Abandon (says.Answer a) = gives_up a
 effect old KeepUndone (says.Answer a) = on_record (a ≡ waits old.pair.changes.pending) keeps_undone

@@ -7,10 +7,6 @@ use Rattle.rl_line.proofs.Records.RecordLemmas.{replay-IsUtf8, unwind-append, un
 use Rattle.rl_line.proofs.Records.UndoLemmas.{line_ahead-replay}
 
 -- a mark changes nothing
-pub unwind-begun : (r : Record) (text : List ℕ) → unwind (begun r).recorded text ≡ unwind r.recorded text
-unfolding apply
-unwind-begun r text = unwind-append r.recorded (Begin ∷ []) text
-
 pub unwind-end_one : (es : List Entry) (text : List ℕ) → unwind (end_one es) text ≡ unwind es text
 unfolding apply
 unwind-end_one [] text = refl

@@ -1,9 +1,8 @@
 -- Rows of a session: what they make of its history, and what undos and redos among them do.
 use Rattle.rl_session.specs.Commands.{gives_up, keeps, on_record}
-use Rattle.rl_session.proofs.Common.{◌≡◌, ◌∙◌, inr, same_Some, replay_entries, true, Cursors, Entry, rules, ℕ, Bool, List, [], ◌∷◌, ◌++◌, length, arith, sym, ap, subst, append-nil, append_assoc, Line, listener_after, Record, record_step, Undone, Redone, Redos, last_of, last_units, opens, redo_of, undone, Effect, by_steps, takes_back, puts_again, Became, effect, Does, readied, with_changes, AllRedone, History, Holds, WasHeld, WasRefused, Row, Leads, Run, held, held_by, held_of, steps_in, texts_of_steps, State, Command, Undo, Redo, Reply, inl}
+use Rattle.rl_session.proofs.Common.{texts_of_call, ◌≡◌, ◌∙◌, inr, same_Some, replay_entries, true, Cursors, Entry, rules, ℕ, Bool, List, [], ◌∷◌, ◌++◌, length, arith, sym, ap, subst, append-nil, append_assoc, Line, listener_after, Record, record_step, Undone, Redone, Redos, last_of, last_units, opens, redo_of, undone, Effect, by_steps, takes_back, puts_again, Became, effect, Does, readied, with_changes, AllRedone, History, Holds, WasHeld, WasRefused, Row, Leads, Run, held, held_by, held_of, steps_in, texts_of_steps, State, Command, Undo, Redo, Reply, inl}
 use Rattle.rl_line.specs.Plan.{Step as PlanStep}
-use Rattle.rl_line.specs.Calls.{texts_of_call}
-use Rattle.rl_line.proofs.Records.CallLemmas.{saved-call}
+use Rattle.rl_line.proofs.Records.RoundLemmas.{saved-call}
 use Rattle.rl_line.proofs.Records.RecordLemmas.{replay-IsUtf8}
 use Rattle.rl_line.proofs.Records.RedoLemmas.{redos-give-back}
 use Rattle.rl_line.proofs.Records.UndoLemmas.{line_ahead-replay, line_back-unwind}

@@ -1,14 +1,12 @@
 -- A record is placed among the texts that were held, whatever it hears.
-use Rattle.rl_session.proofs.Common.{◌≡◌, ◌≤◌, ℕ, List, [], ◌∷◌, ◌++◌, length, length-append, cond_both, ◌-◌, take, drop, map, reverse, Some, refl, sym, ap, subst, ◌∙◌, inl, inr, append-nil, append_assoc, arith, same_Some, take-append-drop, reverse-append, reverse-reverse, map-append, option_and_then, IsSome, IsUtf8, Event, Freshness, Cursors, replay, Line, stepped, listener_after, listener_after_step, Entry, Begin, End, Changed, Record, entries_of, entries_after, replay_entries, unwind, event_of, entries_told, last_told, level, last_of, kept_of, redo_of, end_one, end_times, min, undone, redone, truncated, with_closed, kept_within, HoldsOn, gone, StandsAfter, WasHeld, PlacedBack, Placed, History, Holds, State, texts_of_steps, Option, None}
+use Rattle.rl_session.proofs.Common.{RecordCall, MayCome, after_call, keeps_undone, parts_next, puts_begin, puts_end, puts_ends, reopens, shortens, texts_of_call, ◌≡◌, ◌≤◌, ℕ, List, [], ◌∷◌, ◌++◌, length, length-append, cond_both, ◌-◌, take, drop, map, reverse, Some, refl, sym, ap, subst, ◌∙◌, inl, inr, append-nil, append_assoc, arith, same_Some, take-append-drop, reverse-append, reverse-reverse, map-append, option_and_then, IsSome, IsUtf8, Event, Freshness, Cursors, replay, Line, stepped, listener_after, listener_after_step, Entry, Begin, End, Changed, Record, entries_of, entries_after, replay_entries, unwind, event_of, entries_told, last_told, level, last_of, kept_of, redo_of, end_one, end_times, min, undone, redone, truncated, with_closed, kept_within, HoldsOn, gone, StandsAfter, WasHeld, PlacedBack, Placed, History, Holds, State, texts_of_steps, Option, None}
 use Rattle.rl_base.specs.Event.{apply}
 use Rattle.rl_base.proofs.Texts.SwapLemmas.{apply-IsUtf8}
 use Rattle.rl_line.specs.Plan.{Step, after}
 use Rattle.rl_line.specs.Record.{record_step}
-use Rattle.rl_line.specs.Calls.{RecordCall, MayCome, after_call, keeps_undone, parts, puts_begin, puts_end, puts_ends, reopens, shortens, texts_of_call}
 use Rattle.rl_line.specs.Units.{BothMatched, ends_in_end, grouped_from, redo_dropped, there_and_back, united}
 use Rattle.rl_line.specs.declared.changeset.UnitStart.{UnitStart}
 use Rattle.rl_line.proofs.Records.UnitingLemmas.{BothMatched-united, replay-united, united-cases}
-use Rattle.rl_line.proofs.Records.CallLemmas.{unwind-call}
 use Rattle.rl_line.proofs.Records.MarkLemmas.{replay-begin, replay-end, replay-end_one}
 use Rattle.rl_line.proofs.Records.JoinLemmas.{heard, step-cases}
 use Rattle.rl_line.proofs.Records.LastLemmas.{after-cases, end_one-cases, end_times-keeps, map-reverse}
@@ -22,7 +20,7 @@ use Rattle.rl_line.proofs.Records.ToldLemmas.{same-event, told-cases}
 use Rattle.std.proofs.lemmas.Grind.{common_steps}
 use Rattle.rl_session.proofs.Common.{rules}
 use Rattle.rl_line.specs.Undo.{texts_ahead}
-use Rattle.rl_line.proofs.Records.RoundLemmas.{BothMatched-round, kept-either, replays-round}
+use Rattle.rl_line.proofs.Records.RoundLemmas.{BothMatched-round, kept-either, replays-round, unwind-call}
 
 extend : (start : List ℕ) (es : List Entry) (held more : List (List ℕ)) → PlacedBack start es held → PlacedBack start es (held ++ more)
 extend start [] held more p = grind (arith, append_assoc)
@@ -296,48 +294,43 @@ Placed-ahead start xs (y ∷ ys) held text end p h k =
 abbrev IsPlaced : List ℕ → List (List ℕ) → Record → Type 0
 IsPlaced start held r = Placed start (r.recorded ++ r.pending) held × BothMatched r
 
--- no text more was held
-still : (start : List ℕ) (es : List Entry) (held : List (List ℕ)) → Placed start es held → Placed start (es ++ []) (held ++ [])
-still start es held p = Placed-more start (es ++ []) held [] (alone start es held p)
-
 placed-closed : (n : ℕ) (start : List ℕ) (held : List (List ℕ)) (r : Record) → n ≤ level r.recorded → Placed start r.recorded held → BothMatched r → IsPlaced start (held ++ []) (with_closed n r)
 placed-closed n start held r few p m =
-    (still start (end_times n r.recorded) held (end_times-keeps (λ es. Placed start es held) (λ es q. Placed-end_one es start held q) n r.recorded p), BothMatched-closed n r few m)
+    let placed = end_times-keeps (λ es. Placed start es held) (λ es q. Placed-end_one es start held q) n r.recorded p in
+    (Placed-more start (end_times n r.recorded ++ []) held [] (alone start (end_times n r.recorded) held placed), BothMatched-closed n r few m)
 
 placed-cut : (len : ℕ) (start : List ℕ) (held : List (List ℕ)) (r : Record) → Placed start r.recorded held → BothMatched r → IsPlaced start (held ++ []) (truncated len r)
 placed-cut len start held r p m =
-    let front = take len r.recorded in
-    (still start front held (Placed-front start front (drop len r.recorded) held (subst (λ l. Placed start l held) (sym (take-append-drop len r.recorded)) p)), BothMatched-truncated len r m)
+    let placed = Placed-front start (take len r.recorded) (drop len r.recorded) held (subst (λ l. Placed start l held) (sym (take-append-drop len r.recorded)) p) in
+    (Placed-more start (take len r.recorded ++ []) held [] (alone start (take len r.recorded) held placed), BothMatched-truncated len r m)
 
-placed-call : (call : RecordCall) (start : List ℕ) (held : List (List ℕ)) (text : List ℕ) (r : Record) → History start held text r → MayCome call r text
+-- the entries after it are placed, and their marks match
+placed-call : (call : RecordCall) (start : List ℕ) (held : List (List ℕ)) (text : List ℕ) (r : Record) → History start held text r → MayCome call r text → Placed start r.recorded held
     → IsPlaced start (held ++ texts_of_call call r text) (after_call call r)
-placed-call parts start held text r h m = (Placed-more start (r.recorded ++ r.pending) held [] h.placed, record { recorded = h.matched.recorded; pending = h.matched.pending })
-placed-call puts_begin start held text r h m =
-    (still start (r.recorded ++ Begin ∷ []) held (Placed-mark start r.recorded Begin held (recorded-placed start held text r h) (replay-begin r.recorded start)), BothMatched-begun r h.matched)
-placed-call puts_ends start held text r h m = placed-closed (level r.recorded) start held r (omega arith) (recorded-placed start held text r h) h.matched
-placed-call puts_end start held text r h m = placed-closed (min 1 (level r.recorded)) start held r (omega arith) (recorded-placed start held text r h) h.matched
-placed-call reopens start held text r h m =
-    cond_both (ends_in_end r.recorded) _ _ (IsPlaced start (held ++ [])) (λ _. placed-cut (length r.recorded - 1) start held r (recorded-placed start held text r h) h.matched)
+placed-call parts_next start held text r h m p = (Placed-more start (r.recorded ++ r.pending) held [] h.placed, record { recorded = h.matched.recorded; pending = h.matched.pending })
+placed-call puts_begin start held text r h m p =
+    let es = r.recorded ++ Begin ∷ [] in
+    (Placed-more start (es ++ []) held [] (alone start es held (Placed-mark start r.recorded Begin held p (replay-begin r.recorded start))), BothMatched-begun r h.matched)
+placed-call puts_ends start held text r h m p = placed-closed (level r.recorded) start held r (omega arith) p h.matched
+placed-call puts_end start held text r h m p = placed-closed (min 1 (level r.recorded)) start held r (omega arith) p h.matched
+placed-call reopens start held text r h m p =
+    cond_both (ends_in_end r.recorded) _ _ (IsPlaced start (held ++ [])) (λ _. placed-cut (length r.recorded - 1) start held r p h.matched)
     (λ _. (Placed-more start (r.recorded ++ r.pending) held [] h.placed, h.matched))
-placed-call keeps_undone start held text r h m =
-    let round = there_and_back r.pending in
-    let more = texts_ahead round text in
+placed-call keeps_undone start held text r h m p =
+    let es = there_and_back r.pending in
+    let more = held ++ texts_ahead es text in
     let back = replays-round r.pending text (replay-IsUtf8 r.recorded start text h.is_text h.leads) m.1 in
-    kept-either (IsPlaced start (held ++ more)) r (Placed-more start (r.recorded ++ r.pending) held more h.placed, h.matched)
-    (alone start (r.recorded ++ round) (held ++ more) (Placed-ahead start r.recorded round held text text (recorded-placed start held text r h) h.leads back), BothMatched-round r h.matched)
-placed-call (shortens len) start held text r h m = placed-cut len start held r (recorded-placed start held text r h) h.matched
+    kept-either (IsPlaced start more) r (Placed-more start (r.recorded ++ r.pending) held (texts_ahead es text) h.placed, h.matched)
+    (alone start (r.recorded ++ es) more (Placed-ahead start r.recorded es held text text p h.leads back), BothMatched-round r h.matched)
+placed-call (shortens len) start held text r h m p = placed-cut len start held r p h.matched
 
 pub History-call : (call : RecordCall) (start : List ℕ) (held : List (List ℕ)) (text : List ℕ) (r : Record) → History start held text r → MayCome call r text
     → History start (held ++ texts_of_call call r text) text (after_call call r)
 History-call call start held text r h m =
     let u = replay-IsUtf8 r.recorded start text h.is_text h.leads in
-    let (placed, matched) = placed-call call start held text r h m in
-    record {
-      is_text = h.is_text;
-      leads = replay-unwind (after_call call r).recorded text start u (unwind-call call r text u m ∙ unwind-replay r.recorded start text h.is_text h.leads);
-      placed = placed;
-      matched = matched;
-    }
+    let leads = replay-unwind (after_call call r).recorded text start u (unwind-call call r text u m ∙ unwind-replay r.recorded start text h.is_text h.leads) in
+    let (placed, matched) = placed-call call start held text r h m (recorded-placed start held text r h) in
+    record { is_text = h.is_text; leads = leads; placed = placed; matched = matched }
 
 -- the undone entries can be made again
 pub pending-leads : (start : List ℕ) (held : List (List ℕ)) (text : List ℕ) (r : Record) → History start held text r → IsSome (replay_entries r.pending text)

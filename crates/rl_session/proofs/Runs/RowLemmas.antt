@@ -6,7 +6,7 @@ use Rattle.rl_base.specs.KillRing.{yank}
 use Rattle.rl_base.specs.declared.kill_ring.NewKill.{NewKill}
 use Rattle.rl_line.specs.Plan.{Step as PlanStep}
 use Rattle.rl_line.proofs.Records.ForgettingLemmas.{fitting-stay}
-use Rattle.rl_line.proofs.Records.CallLemmas.{unwind-call}
+use Rattle.rl_line.proofs.Records.RoundLemmas.{unwind-call}
 use Rattle.rl_line.proofs.Records.MarkLemmas.{Kept-Redone}
 use Rattle.rl_line.proofs.Records.OriginLemmas.{Kept, Kept-Taken, Kept-Undone}
 use Rattle.rl_line.proofs.Records.RecordLemmas.{unwind-replay, replay-unwind, replay-IsUtf8, value_of}

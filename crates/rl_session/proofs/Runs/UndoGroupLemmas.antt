@@ -1,7 +1,6 @@
 -- A group that was closed is one unit, whatever happened inside, so that one undo takes it off.
-use Rattle.rl_line.specs.Calls.{keeps_undone, parts, puts_begin, puts_end, puts_ends, reopens, shortens}
 use Rattle.rl_session.specs.Commands.{gives_up, keeps, on_record}
-use Rattle.rl_session.proofs.Common.{Bool, rules, ◌≡◌, ◌<◌, ◌+◌, ℕ, inl, inr, zero, suc, true, List, [], ◌∷◌, ◌++◌, length, drop, Some, refl, sym, ap, subst, ◌∙◌, arith, or-false, min, listener_after, listener_after_step, Begin, End, Entry, Record, record_step, replay_entries, IsMatched, begun, end_one, end_times, ended, ended_one, has_change, kept_of, last_of, level, opens, with_closed, Effect, by_steps, Became, effect, Does, with_changes, AllStandInGroup, ClosesGroup, Holds, MayStandInGroup, WasRefused, Leads, Row, Run, held, held_of, steps_in, State, with_ring, reset, Append, Command, Reply, Cursors, cond, same_Some}
+use Rattle.rl_session.proofs.Common.{keeps_undone, parts_next, puts_begin, puts_end, puts_ends, reopens, shortens, Bool, rules, ◌≡◌, ◌<◌, ◌+◌, ℕ, inl, inr, zero, suc, true, List, [], ◌∷◌, ◌++◌, length, drop, Some, refl, sym, ap, subst, ◌∙◌, arith, or-false, min, listener_after, listener_after_step, Begin, End, Entry, Record, record_step, replay_entries, IsMatched, begun, end_one, end_times, ended, ended_one, has_change, kept_of, last_of, level, opens, with_closed, Effect, by_steps, Became, effect, Does, with_changes, AllStandInGroup, ClosesGroup, Holds, MayStandInGroup, WasRefused, Leads, Row, Run, held, held_of, steps_in, State, with_ring, reset, Append, Command, Reply, Cursors, cond, same_Some}
 use Rattle.rl_line.specs.Plan.{Step}
 use Rattle.rl_line.proofs.Records.GroupLemmas.{has_change-append, Inside, InsideOf, Inside-event, Inside-begun, Inside-reopened, past_begin}
 use Rattle.rl_line.proofs.Records.LastLemmas.{end_one-begin, end_one-cases, end_one-past, end_times-keeps}
@@ -101,7 +100,7 @@ Inside-Became front (on_record _ puts_end) old new i d k =
     let up = subst (λ (s : State). level front < level s.pair.changes.recorded) d.1 i in
     Inside-same front (with_changes (ended_one old.pair.changes) old) new (Inside-ended_one front old.pair.changes k up) d.1
 Inside-Became front (keeps text) old new i d k = Inside-same front (with_ring (reset (killed text Append old.pair.ring)) old) new k d
-Inside-Became front (on_record _ parts) old new i d k = Inside-same front (with_changes (parted old.pair.changes) old) new (record { inner = k.inner; is = k.is; matched = k.matched }) d.1
+Inside-Became front (on_record _ parts_next) old new i d k = Inside-same front (with_changes (parted old.pair.changes) old) new (record { inner = k.inner; is = k.is; matched = k.matched }) d.1
 Inside-Became front (on_record _ reopens) old new i d k = Inside-same front (with_changes (reopened old.pair.changes) old) new (Inside-reopened front old.pair.changes k) d.1
 Inside-Became front (on_record _ keeps_undone) old new i d k = Inside-same front (with_changes (kept_undone old.pair.changes) old) new (Inside-kept front old.pair.changes d.0.1.0 k) d.1
 Inside-Became front (gives_up a) old new i d k = Inside-Abandoned front old.pair.changes new.pair.changes old.line new.line a k i d.0
