@@ -20,4 +20,5 @@ pub mod Forgetting
 pub mod Trying
 pub mod Undo
 pub mod Walk
+pub mod Calls
 pub mod SavedRecord

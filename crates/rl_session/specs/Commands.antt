@@ -1,5 +1,5 @@
 -- What each command does.
-use Rattle.std.specs.Prelude.{◌≡◌, ℕ, ◌<◌, min, Bool, true, false, not, length, List, [], Any, Option, Some, None, Result, Ok, Err, ◌⊎◌, if◌then◌else◌, String, IsSome}
+use Rattle.std.specs.Prelude.{◌≡◌, ℕ, ◌<◌, min, Bool, true, false, not, length, List, [], Any, Option, Some, None, Result, Ok, Err, ◌⊎◌, if◌then◌else◌, String}
 use Rattle.std.specs.Option.{option_map}
 use Rattle.std.specs.String.{string_bytes}
 use Rattle.std.specs.Str.{IsCharBoundary}
@@ -21,10 +21,11 @@ use Rattle.rl_line.specs.Edits.{CanInsertStr, CanYankPop, insert_plan, insert_st
 use Rattle.rl_line.specs.Indents.{indent_plan}
 use Rattle.rl_line.specs.Deletions.{copied, delete_plan, kill_plan, kill_range_plan, is_by_characters, Told}
 use Rattle.rl_line.specs.LetterCase.{edit_word_plan}
-use Rattle.rl_line.specs.Record.{Record, parted, replays_to, replay_entries}
+use Rattle.rl_line.specs.Calls.{RecordCall, MayCome, after_call, keeps_undone, parts_next, puts_begin, puts_end, puts_ends, reopens, shortens}
+use Rattle.rl_line.specs.Record.{Record, replays_to}
 use Rattle.rl_line.specs.Transpositions.{transpose_chars_plan, transpose_words_plan}
 use Rattle.rl_line.specs.Undo.{Abandoned, CopiesBack, Undone, Redone, steps_ahead, steps_back, texts_ahead, texts_back}
-use Rattle.rl_line.specs.Units.{adds_end, begun, ended, ends_in_end, reopened, last_of, level, open_group, redo_of, truncated, ended_one, IsMatched, kept_undone, waits}
+use Rattle.rl_line.specs.Units.{adds_end, ends_in_end, last_of, level, open_group, redo_of, waits}
 use Rattle.rl_session.specs.Options.{layout_of}
 use Rattle.rl_session.specs.Pair.{pair_step, pair_refused}
 use Rattle.rl_session.specs.declared.session.Command.{Command}
@@ -127,42 +128,27 @@ Came (pops course) old new = Came course (popped old) new
 Came (tells by_characters course) old new =
     Told pair_step by_characters (λ before now. Came course (record old { pair = before }) (record new { pair = now })) old.pair new.pair
 
--- what a command did: a course by steps, or what one command alone does to the record or the ring, with what it answers
+-- what a command did: a course by steps, a call of the record, if that answered so, or what one command alone does, with what it
+-- answers
 pub data Effect : Type 1 where
   by_steps : Course → Effect
-  puts_begin : ℕ → Effect
-  puts_ends : Bool → Effect
-  puts_end : Bool → Effect
-  shortens : ℕ → Effect
   takes_back : ℕ → Bool → Effect
   puts_again : Bool → Effect
   keeps : List ℕ → Effect
-  parts : Effect
-  reopens : Bool → Effect
   gives_up : Bool → Effect
-  keeps_undone : Bool → Effect
+  on_record : (answered : Type 0) → RecordCall → Effect
 
 abbrev pub Became : Effect → State → State → Type 0
 Became (by_steps course) old new = Came course old new
-Became (puts_begin n) old new = (n ≡ length old.pair.changes.recorded) × (new ≡ with_changes (begun old.pair.changes) old)
-Became (puts_ends a) old new =
-    (a ≡ adds_end (level old.pair.changes.recorded) old.pair.changes.recorded) × (new ≡ with_changes (ended old.pair.changes) old)
-Became (puts_end a) old new =
-    (a ≡ adds_end (min 1 (level old.pair.changes.recorded)) old.pair.changes.recorded) × (new ≡ with_changes (ended_one old.pair.changes) old)
-Became (shortens len) old new =
-    (replays_to len old.pair.changes old.line.text ≡ true) × (new ≡ with_changes (truncated len old.pair.changes) old)
 Became (takes_back n a) old new =
     Undone n old.pair.changes new.pair.changes old.line new.line a × KeepsRing old new × WatchHears (steps_back old.line.cursor (last_of n old.pair.changes.recorded)) old new
 Became (puts_again a) old new =
     Redone old.pair.changes new.pair.changes old.line new.line a × KeepsRing old new × WatchHears (steps_ahead old.line.cursor (redo_of old.pair.changes.pending)) old new
 Became (keeps text) old new = new ≡ with_ring (reset (killed text Append old.pair.ring)) old
-Became parts old new = new ≡ with_changes (parted old.pair.changes) old
-Became (reopens a) old new = (a ≡ ends_in_end old.pair.changes.recorded) × (new ≡ with_changes (reopened old.pair.changes) old)
 Became (gives_up a) old new =
     Abandoned old.pair.changes new.pair.changes old.line new.line a × KeepsRing old new × WatchHears (steps_back old.line.cursor (open_group old.pair.changes.recorded)) old new
-Became (keeps_undone a) old new =
-    (IsMatched old.pair.changes.pending × IsSome (replay_entries old.pair.changes.pending old.line.text) × (a ≡ waits old.pair.changes.pending))
-    × (new ≡ with_changes (kept_undone old.pair.changes) old)
+Became (on_record answered call) old new =
+    (answered × MayCome call old.pair.changes old.line.text) × (new ≡ with_changes (after_call call old.pair.changes) old)
 
 -- how a reply tells the answer of an edit
 pub data Telling : Type 0 → Type 1 where
@@ -262,17 +248,17 @@ course_of other old command reply = other_course old command reply
 
 -- what a command did that had this reply
 abbrev pub effect : State → Command → Reply → Effect
-effect old Begin (says.Mark n) = puts_begin n
-effect old End (says.Answer a) = puts_ends a
-effect old EndOne (says.Answer a) = puts_end a
-effect old (Truncate len) says.Done = shortens len
+effect old Begin (says.Mark n) = on_record (n ≡ length old.pair.changes.recorded) puts_begin
+effect old End (says.Answer a) = on_record (a ≡ adds_end (level old.pair.changes.recorded) old.pair.changes.recorded) puts_ends
+effect old EndOne (says.Answer a) = on_record (a ≡ adds_end (min 1 (level old.pair.changes.recorded)) old.pair.changes.recorded) puts_end
+effect old (Truncate len) says.Done = on_record (Unit {0}) (shortens len)
 effect old (Undo n) (says.Answer a) = takes_back n a
 effect old Redo (says.Answer a) = puts_again a
 effect old (Keep t) says.Done = keeps (string_bytes t)
-effect old Part says.Done = parts
-effect old Reopen (says.Answer a) = reopens a
+effect old Part says.Done = on_record (Unit {0}) parts_next
+effect old Reopen (says.Answer a) = on_record (a ≡ ends_in_end old.pair.changes.recorded) reopens
 effect old Abandon (says.Answer a) = gives_up a
-effect old KeepUndone (says.Answer a) = keeps_undone a
+effect old KeepUndone (says.Answer a) = on_record (a ≡ waits old.pair.changes.pending) keeps_undone
 effect old command reply = by_steps (course_of (asked old.line command) old command reply)
 
 -- from old, the command may have this reply and lead to new, the ring's resets aside

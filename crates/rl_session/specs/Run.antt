@@ -3,13 +3,14 @@ use Rattle.std.specs.Prelude.{◌≡◌, ℕ, true, false, List, [], ◌∷◌, 
 use mathlib.Core.Logic.{inl, inr}
 use Rattle.rl_base.specs.Event.{Event, Start}
 use Rattle.rl_line.specs.Plan.{Step as PlanStep, events_of}
-use Rattle.rl_line.specs.Undo.{steps_ahead, steps_back, texts_after, texts_ahead}
-use Rattle.rl_line.specs.Units.{last_of, redo_of, open_group, there_and_back}
+use Rattle.rl_line.specs.Calls.{texts_of_call}
+use Rattle.rl_line.specs.Undo.{steps_ahead, steps_back, texts_after}
+use Rattle.rl_line.specs.Units.{last_of, redo_of, open_group}
 use Rattle.rl_session.specs.declared.session.Command.{Command}
 use Rattle.rl_session.specs.declared.session.Reply.{Reply}
 use Rattle.rl_session.specs.Pair.{pair_step}
 use Rattle.rl_session.specs.State.{State}
-use Rattle.rl_session.specs.Commands.{Course, when, edits, stops, lends, pops, tells, Came, Effect, by_steps, takes_back, gives_up, puts_again, Became, effect, lent, popped, Does, Step, readied, keeps_undone}
+use Rattle.rl_session.specs.Commands.{Course, when, edits, stops, lends, pops, tells, Came, Effect, by_steps, takes_back, gives_up, puts_again, Became, effect, lent, popped, Does, Step, readied, on_record}
 
 -- the texts after each of these steps of an edit
 abbrev pub texts_of_steps : List PlanStep → List ℕ → List (List ℕ)
@@ -39,7 +40,7 @@ steps_done _ old new d = []
 -- the texts that were held: those after each event of these steps; where what was undone is kept, those on the way there and
 -- back, which were held before
 abbrev pub held_by : (effect : Effect) (old new : State) → Became effect old new → List (List ℕ)
-held_by (keeps_undone answer) old new d = texts_ahead (there_and_back old.pair.changes.pending) old.line.text
+held_by (on_record answered call) old new d = texts_of_call call old.pair.changes old.line.text
 held_by effect old new d = texts_of_steps (steps_done effect old new d) old.line.text
 
 -- the texts that a row held

@@ -7,11 +7,7 @@ use Rattle.rl_line.proofs.Records.RecordLemmas.{replay-IsUtf8, unwind-append, un
 use Rattle.rl_line.proofs.Records.UndoLemmas.{line_ahead-replay}
 
 -- a mark changes nothing
-pub unwind-begun : (r : Record) (text : List ℕ) → unwind (begun r).recorded text ≡ unwind r.recorded text
-unfolding apply
-unwind-begun r text = unwind-append r.recorded (Begin ∷ []) text
-
-unwind-end_one : (es : List Entry) (text : List ℕ) → unwind (end_one es) text ≡ unwind es text
+pub unwind-end_one : (es : List Entry) (text : List ℕ) → unwind (end_one es) text ≡ unwind es text
 unfolding apply
 unwind-end_one [] text = refl
 unwind-end_one (Begin ∷ []) text = refl
@@ -54,20 +50,7 @@ unwind-redone r now old new x u d =
     let back : unwind unit new.text ≡ Some old.text = unwind-replay unit old.text new.text u (line_ahead-replay unit old new d.line_is) in
     ap (λ (k : Record). unwind k.recorded new.text) d.record_is ∙ unwind-append r.recorded unit new.text ∙ ap (option_and_then (unwind r.recorded)) back
 
--- so each keeps where the record came from
-pub Kept-begun : (r : Record) (line : Line) → IsUtf8 line.text → Kept r (begun r) line line
-Kept-begun r line u = record { origin_is = λ start e. unwind-begun r line.text ∙ e; utf8 = u }
-
-pub Kept-closed : (n : ℕ) (r : Record) (line : Line) → IsUtf8 line.text → Kept r (with_closed n r) line line
-Kept-closed n r line u = record { origin_is = λ start e. end_times-keeps (λ es. unwind es line.text ≡ Some start) (λ es k. unwind-end_one es line.text ∙ k) n r.recorded e; utf8 = u }
-
-pub Kept-reopened : (r : Record) (line : Line) → IsUtf8 line.text → Kept r (reopened r) line line
-Kept-reopened r line u =
-    cond_both (ends_in_end r.recorded) _ _ (λ k. Kept r k line line) (λ h. record { origin_is = λ start e. unwind-cut r.recorded line.text h ∙ e; utf8 = u }) (λ _. record { origin_is = λ start e. e; utf8 = u })
-
-pub Kept-truncated : (len : ℕ) (r : Record) (line : Line) → IsUtf8 line.text → replays_to len r line.text ≡ true → Kept r (truncated len r) line line
-Kept-truncated len r line u h = record { origin_is = λ start e. unwind-truncated len r line.text h ∙ e; utf8 = u }
-
+-- so a redo keeps where the record came from
 pub Kept-Redone : (r now : Record) (old new : Line) (a : Bool) → IsUtf8 old.text → Redone r now old new a → Kept r now old new
 Kept-Redone r now old new a u d = record {
   origin_is = λ start e. unwind-redone r now old new a u d ∙ e;

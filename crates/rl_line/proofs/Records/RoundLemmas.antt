@@ -1,18 +1,19 @@
--- Going over what was undone there and back: it ends where it began, and undos lead where redos led.
-use Rattle.rl_line.proofs.Common.{◌≡◌, ◌≤◌, ℕ, max, arith, Bool, true, List, [], ◌∷◌, ◌++◌, length, take, drop, map, reverse, Option, Some, refl, sym, ap, subst, ◌∙◌, cond_both, append-nil, append_assoc, reverse-append, take-append-le, length-reverse, option_and_then, IsSome, IsUtf8, Line, Entry, Begin, End, Changed, Record, UndoUnit, Open, Whole, AtLevel, BothMatched, IsMatched, StaysSaved, Walk, Walks, LeadsTo, arrived, closed_all, cursor_stands, cut_more, event_of, flipped, inverse, kept_of, kept_undone, last_of, level, marks, opens, point_closed, replay_entries, there_and_back, together, touched, turned_all, units, unwind, waits, None, cond, drop_at, length-map, next_of, take-append-drop, take-map, ◌<◌}
+-- Going over what was undone there and back: it ends where it began, and undos lead where redos led. And what each call keeps
+-- that touches no line.
+use Rattle.rl_line.proofs.Common.{end_times, ends_in_end, min, ◌≡◌, ◌≤◌, ℕ, max, arith, Bool, true, List, [], ◌∷◌, ◌++◌, length, take, drop, map, reverse, Option, Some, refl, sym, ap, subst, ◌∙◌, cond_both, append-nil, append_assoc, reverse-append, take-append-le, length-reverse, option_and_then, IsSome, IsUtf8, Line, Entry, Begin, End, Changed, Record, UndoUnit, Open, Whole, AtLevel, BothMatched, IsMatched, StaysSaved, Walk, Walks, LeadsTo, arrived, closed_all, cursor_stands, cut_more, event_of, flipped, inverse, kept_of, kept_undone, last_of, level, marks, opens, point_closed, replay_entries, there_and_back, together, touched, turned_all, units, unwind, waits, None, cond, drop_at, length-map, next_of, take-append-drop, take-map, ◌<◌}
 use Rattle.rl_base.specs.Event.{apply}
 use Rattle.rl_line.proofs.Records.LastLemmas.{end_times-keeps, map-reverse}
 use Rattle.rl_line.proofs.Records.LevelLemmas.{level-append}
 use Rattle.rl_line.proofs.Records.MatchLemmas.{Lower-end_times}
 use Rattle.rl_line.proofs.Records.RecordLemmas.{inverse-inverse, inverse-undoes, unwind-append, unwind-replay, value_of, replay-append, replay-unwind}
-use Rattle.rl_line.proofs.Records.SavedLemmas.{StaysIn, arrived-stays, closed-in, longer, stays-in, saved-parted}
+use Rattle.rl_line.proofs.Records.SavedLemmas.{StaysIn, arrived-stays, closed-in, longer, stays-in, saved-begun, saved-closed, saved-parted, saved-reopened, saved-truncated}
 use Rattle.rl_line.proofs.Records.UnitLemmas.{AllGood, IsMatched-append, cut_more-append, marks-append, on, together-reverse, together-units, turned-append, units-append, units-good, opens-append, opens-reverse}
 use Rattle.rl_line.proofs.Records.WalkLemmas.{Walk-append, Walk-end_one, Walk-IsUtf8}
 use Rattle.rl_base.proofs.Texts.SwapLemmas.{apply-IsUtf8}
-use Rattle.rl_line.proofs.Records.MarkLemmas.{replay-end_one}
-use Rattle.rl_line.proofs.Records.OriginLemmas.{Kept}
+use Rattle.rl_line.proofs.Records.MarkLemmas.{replay-end_one, unwind-cut, unwind-end_one, unwind-truncated}
 use Rattle.rl_line.proofs.Records.KeepLemmas.{ends_past}
 use Rattle.rl_line.proofs.Records.GroupLemmas.{Inside}
+use Rattle.rl_line.specs.Calls.{RecordCall, MayCome, after_call, keeps_undone, parts_next, puts_begin, puts_end, puts_ends, reopens, shortens}
 use Rattle.rl_line.specs.Record.{parted}
 
 -- ---- its marks match, and it leaves no group open
@@ -214,9 +215,6 @@ replays-round es text u h =
     replay-append c (turned_all c) text ∙ ap (option_and_then (replay_entries (turned_all c))) there
     ∙ replay-unwind (turned_all c) text end u (unwind-turned c text ∙ there)
 
-pub Kept-kept : (r : Record) (line : Line) → IsUtf8 line.text → IsSome (replay_entries r.pending line.text) → Kept r (kept_undone r) line line
-Kept-kept r line u h = kept-either (λ k. Kept r k line line) r (record { origin_is = λ start e. e; utf8 = u }) (record { origin_is = λ start e. unwind-round r line.text u h ∙ e; utf8 = u })
-
 pub saved-kept : (es : List Entry) (r : Record) → IsMatched r.pending → StaysSaved es r → StaysSaved es (kept_undone r)
 saved-kept es r m s =
     let c = closed_all r.pending in
@@ -233,3 +231,29 @@ Inside-kept front r m k = kept-either (Inside front) r k (record {
   is = ap (λ l. l ++ there_and_back r.pending) k.is ∙ append_assoc front (Begin ∷ k.inner) (there_and_back r.pending);
   matched = IsMatched-append k.inner (there_and_back r.pending) k.matched (IsMatched-round r.pending m);
 })
+
+-- ---- what each call keeps that touches no line
+unwind-closed : (n : ℕ) (es : List Entry) (text : List ℕ) → unwind (end_times n es) text ≡ unwind es text
+unwind-closed n es text = end_times-keeps (λ ks. unwind ks text ≡ unwind es text) (λ ks k. unwind-end_one ks text ∙ k) n es refl
+
+-- that the record leads back to the same text
+pub unwind-call : (call : RecordCall) (r : Record) (text : List ℕ) → IsUtf8 text → MayCome call r text → unwind (after_call call r).recorded text ≡ unwind r.recorded text
+unfolding apply
+unwind-call parts_next r text u m = refl
+unwind-call puts_begin r text u m = unwind-append r.recorded (Begin ∷ []) text
+unwind-call puts_ends r text u m = unwind-closed (level r.recorded) r.recorded text
+unwind-call puts_end r text u m = unwind-closed (min 1 (level r.recorded)) r.recorded text
+unwind-call reopens r text u m =
+    cond_both (ends_in_end r.recorded) _ _ (λ (k : Record). unwind k.recorded text ≡ unwind r.recorded text) (λ h. unwind-cut r.recorded text h) (λ _. refl)
+unwind-call keeps_undone r text u m = kept-either (λ k. unwind k.recorded text ≡ unwind r.recorded text) r refl (unwind-round r text u m.1)
+unwind-call (shortens len) r text u m = unwind-truncated len r text m
+
+-- its save point
+pub saved-call : (es : List Entry) (call : RecordCall) (r : Record) (text : List ℕ) → MayCome call r text → StaysSaved es r → StaysSaved es (after_call call r)
+saved-call es parts_next r text m s = saved-parted es r s
+saved-call es puts_begin r text m s = saved-begun es r s
+saved-call es puts_ends r text m s = saved-closed es r (level r.recorded) s
+saved-call es puts_end r text m s = saved-closed es r (min 1 (level r.recorded)) s
+saved-call es reopens r text m s = saved-reopened es r s
+saved-call es keeps_undone r text m s = saved-kept es r m.0 s
+saved-call es (shortens len) r text m s = saved-truncated es r len s

@@ -1,25 +1,21 @@
 -- Rows of a session: what they make of its history, and what undos and redos among them do.
-use Rattle.rl_session.specs.Commands.{gives_up, keeps_undone}
-use Rattle.rl_session.proofs.Common.{◌≡◌, ◌∙◌, inr, same_Some, replay_entries, true, Cursors, Entry, rules, ℕ, Bool, List, [], ◌∷◌, ◌++◌, length, min, arith, take, sym, ap, subst, append-nil, append_assoc, Line, listener_after, Record, record_step, unwind, Undone, Redone, Redos, begun, ended, ended_one, level, last_of, last_units, opens, redo_of, truncated, undone, Effect, by_steps, puts_begin, puts_ends, puts_end, shortens, takes_back, puts_again, Became, effect, Does, readied, with_changes, AllRedone, History, Holds, WasHeld, WasRefused, Row, Leads, Run, held, held_by, held_of, steps_in, texts_of_steps, State, with_ring, reset, Append, Command, Undo, Redo, Reply, inl}
+use Rattle.rl_session.specs.Commands.{gives_up, keeps, on_record}
+use Rattle.rl_session.proofs.Common.{texts_of_call, ◌≡◌, ◌∙◌, inr, same_Some, replay_entries, true, Cursors, Entry, rules, ℕ, Bool, List, [], ◌∷◌, ◌++◌, length, arith, sym, ap, subst, append-nil, append_assoc, Line, listener_after, Record, record_step, Undone, Redone, Redos, last_of, last_units, opens, redo_of, undone, Effect, by_steps, takes_back, puts_again, Became, effect, Does, readied, with_changes, AllRedone, History, Holds, WasHeld, WasRefused, Row, Leads, Run, held, held_by, held_of, steps_in, texts_of_steps, State, Command, Undo, Redo, Reply, inl}
 use Rattle.rl_line.specs.Plan.{Step as PlanStep}
-use Rattle.rl_line.proofs.Records.MarkLemmas.{agree-same}
+use Rattle.rl_line.proofs.Records.RoundLemmas.{saved-call}
 use Rattle.rl_line.proofs.Records.RecordLemmas.{replay-IsUtf8}
 use Rattle.rl_line.proofs.Records.RedoLemmas.{redos-give-back}
 use Rattle.rl_line.proofs.Records.UndoLemmas.{line_ahead-replay, line_back-unwind}
 use Rattle.rl_line.proofs.Records.UnitLemmas.{kept-last}
-use Rattle.rl_session.specs.Commands.{keeps, parts, reopens}
-use Rattle.rl_line.specs.Record.{StaysSaved, is_saved, parted}
-use Rattle.rl_line.proofs.Records.SavedLemmas.{saved-back, saved-begun, saved-closed, saved-marked, saved-parted, saved-redone, saved-reopened, saved-step, saved-truncated, saved-undone}
-use Rattle.rl_line.specs.Units.{reopened, there_and_back}
+use Rattle.rl_line.specs.Record.{StaysSaved, is_saved}
+use Rattle.rl_line.proofs.Records.SavedLemmas.{saved-back, saved-marked, saved-redone, saved-step, saved-undone}
 use Rattle.rl_session.specs.State.{Begins, saved_now}
-use Rattle.rl_base.specs.KillRing.{killed}
 use Rattle.rl_session.specs.declared.session.Reply.TheVariants as says
 use Rattle.rl_session.proofs.Sessions.CourseLemmas.{Heard, Heard-Came}
 use Rattle.rl_session.proofs.Runs.RowLemmas.{Leads-split}
-use Rattle.rl_session.proofs.Runs.PlaceLemmas.{History-more, History-steps, History-begun, History-closed, History-undone, History-redone, History-reopened, History-truncated, undo-held, History-dropped, History-kept}
+use Rattle.rl_session.proofs.Runs.PlaceLemmas.{History-call, History-more, History-steps, History-undone, History-redone, undo-held, History-dropped}
 use Rattle.rl_line.proofs.Records.AbandonLemmas.{abandoned-as, saved-abandoned}
-use Rattle.rl_line.specs.Undo.{Abandoned, texts_ahead}
-use Rattle.rl_line.proofs.Records.RoundLemmas.{saved-kept}
+use Rattle.rl_line.specs.Undo.{Abandoned}
 
 -- ---- the history
 History-Heard : (start : List ℕ) (held : List (List ℕ)) (steps : List PlanStep) (old : Line) (r : Record) (text : List ℕ) (now : Record) → History start held old.text r
@@ -28,10 +24,6 @@ History-Heard start held steps old r text now h k =
     subst (λ (x : Record). History start (held ++ texts_of_steps steps old.text) text x) (sym k.taken.listener)
     (subst (λ t. History start (held ++ texts_of_steps steps old.text) t (listener_after record_step old.cursor steps r)) (sym k.text_is)
     (History-steps steps start held old k.last r h k.taken.line))
-
--- no text was held, and the record became another
-History-changes : (start : List ℕ) (held : List (List ℕ)) (new made : State) → Holds start held made → new ≡ made → Holds start (held ++ []) new
-History-changes start held new made h e = subst (λ k. Holds start k new) (sym (append-nil held)) (subst (λ s. Holds start held s) (sym e) h)
 
 History-TookBack : (n : ℕ) (start : List ℕ) (held more : List (List ℕ)) (old new : State) (a : Bool) → Holds start held old
     → Undone n old.pair.changes new.pair.changes old.line new.line a → Holds start (held ++ more) new
@@ -60,25 +52,11 @@ Holds-Became : (start : List ℕ) (held : List (List ℕ)) (effect : Effect) (ol
     → Holds start (held ++ held_by effect old new d) new
 Holds-Became start held (by_steps course) old new d h =
     History-Heard start held (steps_in course old new d) old.line old.pair.changes new.line.text new.pair.changes h (Heard-Came course old new d)
-Holds-Became start held (puts_begin n) old new d h =
-    History-changes start held new (with_changes (begun old.pair.changes) old) (History-begun start held old.line.text old.pair.changes h) d.1
-Holds-Became start held (puts_ends a) old new d h =
-    History-changes start held new (with_changes (ended old.pair.changes) old) (History-closed start held old.line.text (level old.pair.changes.recorded) old.pair.changes (omega arith) h) d.1
-Holds-Became start held (puts_end a) old new d h =
-    History-changes start held new (with_changes (ended_one old.pair.changes) old) (History-closed start held old.line.text (min 1 (level old.pair.changes.recorded)) old.pair.changes (omega arith) h) d.1
-Holds-Became start held (shortens len) old new d h =
-    let r = old.pair.changes in
-    let same = sym (agree-same (unwind r.recorded old.line.text) (unwind (take len r.recorded) old.line.text) d.0) in
-    History-changes start held new (with_changes (truncated len r) old) (History-truncated len start held old.line.text r h same) d.1
-Holds-Became start held (keeps text) old new d h = History-changes start held new (with_ring (reset (killed text Append old.pair.ring)) old) h d
-Holds-Became start held parts old new d h =
-    History-changes start held new (with_changes (parted old.pair.changes) old) (record { is_text = h.is_text; leads = h.leads; placed = h.placed; matched = record { recorded = h.matched.recorded; pending = h.matched.pending } }) d
-Holds-Became start held (reopens a) old new d h =
-    History-changes start held new (with_changes (reopened old.pair.changes) old) (History-reopened start held old.line.text old.pair.changes h) d.1
+Holds-Became start held (on_record answered call) old new d h =
+    subst (Holds start (held ++ texts_of_call call old.pair.changes old.line.text)) (sym d.1) (History-call call start held old.line.text old.pair.changes h d.0.1)
+Holds-Became start held (keeps text) old new d h = subst (Holds start (held ++ [])) (sym d) (History-more start held [] old.line.text old.pair.changes h)
 Holds-Became start held (takes_back n a) old new d h = History-TookBack _ start held _ old new a h d.0
 Holds-Became start held (gives_up a) old new d h = History-GaveUp start held _ old new a h d.0
-Holds-Became start held (keeps_undone a) old new d h =
-    subst (λ (s : State). Holds start (held ++ texts_ahead (there_and_back old.pair.changes.pending) old.line.text) s) (sym d.1) (History-kept start held old.line.text old.pair.changes h d.0.1)
 Holds-Became start held (puts_again a) old new d h = History-PutAgain start held _ old new a h d.0
 
 -- a row adds its texts to those that were held
@@ -177,17 +155,11 @@ Saved-steps es (step ∷ steps) cursor r s =
 Saved-Became : (es : List Entry) (effect : Effect) (old new : State) → Became effect old new → StaysSaved es old.pair.changes → StaysSaved es new.pair.changes
 Saved-Became es (by_steps course) old new d s =
     let k = Heard-Came course old new d in subst (StaysSaved es) (sym k.taken.listener) (Saved-steps es (steps_in course old new d) old.line.cursor old.pair.changes s)
-Saved-Became es (puts_begin n) old new d s = subst (λ (k : State). StaysSaved es k.pair.changes) (sym d.1) (saved-begun es old.pair.changes s)
-Saved-Became es (puts_ends a) old new d s = subst (λ (k : State). StaysSaved es k.pair.changes) (sym d.1) (saved-closed es old.pair.changes (level old.pair.changes.recorded) s)
-Saved-Became es (puts_end a) old new d s =
-    subst (λ (k : State). StaysSaved es k.pair.changes) (sym d.1) (saved-closed es old.pair.changes (min 1 (level old.pair.changes.recorded)) s)
-Saved-Became es (shortens len) old new d s = subst (λ (k : State). StaysSaved es k.pair.changes) (sym d.1) (saved-truncated es old.pair.changes len s)
+Saved-Became es (on_record answered call) old new d s =
+    subst (λ (k : State). StaysSaved es k.pair.changes) (sym d.1) (saved-call es call old.pair.changes old.line.text d.0.1 s)
 Saved-Became es (keeps text) old new d s = subst (λ (k : State). StaysSaved es k.pair.changes) (sym d) s
-Saved-Became es parts old new d s = subst (λ (k : State). StaysSaved es k.pair.changes) (sym d) (saved-parted es old.pair.changes s)
-Saved-Became es (reopens a) old new d s = subst (λ (k : State). StaysSaved es k.pair.changes) (sym d.1) (saved-reopened es old.pair.changes s)
 Saved-Became es (takes_back n a) old new d s = subst (StaysSaved es) (sym d.0.record_is) (saved-undone es old.pair.changes n s)
 Saved-Became es (gives_up a) old new d s = subst (StaysSaved es) (sym d.0.record_is) (saved-abandoned es old.pair.changes s)
-Saved-Became es (keeps_undone a) old new d s = subst (λ (k : State). StaysSaved es k.pair.changes) (sym d.1) (saved-kept es old.pair.changes d.0.0 s)
 Saved-Became es (puts_again a) old new d s = subst (StaysSaved es) (sym d.0.record_is) (saved-redone es old.pair.changes s)
 
 pub Saved-Leads : (es : List Entry) (rows : List Row) (old new : State) → StaysSaved es old.pair.changes → Leads old rows new → StaysSaved es new.pair.changes

@@ -1,13 +1,13 @@
 -- A record is placed among the texts that were held, whatever it hears.
-use Rattle.rl_session.proofs.Common.{◌≡◌, ◌≤◌, ℕ, List, [], ◌∷◌, ◌++◌, length, length-append, cond_both, ◌-◌, take, drop, map, reverse, Some, refl, sym, ap, subst, ◌∙◌, inl, inr, append-nil, append_assoc, arith, same_Some, take-append-drop, reverse-append, reverse-reverse, map-append, option_and_then, IsSome, IsUtf8, Event, Freshness, Cursors, replay, Line, stepped, listener_after, listener_after_step, Entry, Begin, End, Changed, Record, entries_of, entries_after, replay_entries, unwind, event_of, entries_told, last_told, level, last_of, kept_of, redo_of, end_one, end_times, begun, undone, redone, truncated, with_closed, kept_within, HoldsOn, gone, StandsAfter, WasHeld, PlacedBack, Placed, History, Holds, State, texts_of_steps, Option, None}
+use Rattle.rl_session.proofs.Common.{RecordCall, MayCome, after_call, keeps_undone, parts_next, puts_begin, puts_end, puts_ends, reopens, shortens, texts_of_call, ◌≡◌, ◌≤◌, ℕ, List, [], ◌∷◌, ◌++◌, length, length-append, cond_both, ◌-◌, take, drop, map, reverse, Some, refl, sym, ap, subst, ◌∙◌, inl, inr, append-nil, append_assoc, arith, same_Some, take-append-drop, reverse-append, reverse-reverse, map-append, option_and_then, IsSome, IsUtf8, Event, Freshness, Cursors, replay, Line, stepped, listener_after, listener_after_step, Entry, Begin, End, Changed, Record, entries_of, entries_after, replay_entries, unwind, event_of, entries_told, last_told, level, last_of, kept_of, redo_of, end_one, end_times, min, undone, redone, truncated, with_closed, kept_within, HoldsOn, gone, StandsAfter, WasHeld, PlacedBack, Placed, History, Holds, State, texts_of_steps, Option, None}
 use Rattle.rl_base.specs.Event.{apply}
 use Rattle.rl_base.proofs.Texts.SwapLemmas.{apply-IsUtf8}
 use Rattle.rl_line.specs.Plan.{Step, after}
 use Rattle.rl_line.specs.Record.{record_step}
-use Rattle.rl_line.specs.Units.{ends_in_end, grouped_from, reopened, redo_dropped, kept_undone, there_and_back, united}
+use Rattle.rl_line.specs.Units.{BothMatched, ends_in_end, grouped_from, redo_dropped, there_and_back, united}
 use Rattle.rl_line.specs.declared.changeset.UnitStart.{UnitStart}
 use Rattle.rl_line.proofs.Records.UnitingLemmas.{BothMatched-united, replay-united, united-cases}
-use Rattle.rl_line.proofs.Records.MarkLemmas.{unwind-cut, replay-begin, replay-end, replay-end_one}
+use Rattle.rl_line.proofs.Records.MarkLemmas.{replay-begin, replay-end}
 use Rattle.rl_line.proofs.Records.JoinLemmas.{heard, step-cases}
 use Rattle.rl_line.proofs.Records.LastLemmas.{after-cases, end_one-cases, end_times-keeps, map-reverse}
 use Rattle.rl_line.proofs.Records.MatchLemmas.{IsMatched-after, BothMatched-begun, BothMatched-closed, BothMatched-undone, BothMatched-redone, BothMatched-truncated, Redoes-of, BothMatched-step}
@@ -20,7 +20,7 @@ use Rattle.rl_line.proofs.Records.ToldLemmas.{same-event, told-cases}
 use Rattle.std.proofs.lemmas.Grind.{common_steps}
 use Rattle.rl_session.proofs.Common.{rules}
 use Rattle.rl_line.specs.Undo.{texts_ahead}
-use Rattle.rl_line.proofs.Records.RoundLemmas.{BothMatched-round, kept-either, replays-round}
+use Rattle.rl_line.proofs.Records.RoundLemmas.{BothMatched-round, kept-either, replays-round, unwind-call}
 
 extend : (start : List ℕ) (es : List Entry) (held more : List (List ℕ)) → PlacedBack start es held → PlacedBack start es (held ++ more)
 extend start [] held more p = grind (arith, append_assoc)
@@ -209,17 +209,6 @@ History-steps (s ∷ ss) start held old new r h e =
     subst (λ k. History start k new.text (listener_after record_step s.1 ss (listener_after_step record_step old.cursor s r)))
     (append_assoc held (b.text ∷ []) (texts_of_steps ss b.text) ∙ ap (λ k. held ++ k) (sym (texts_after-more s.0 (map (λ (x : Step). x.0) ss) old.text b.text b.makes))) rest
 
-pub History-begun : (start : List ℕ) (held : List (List ℕ)) (text : List ℕ) (r : Record) → History start held text r → History start held text (begun r)
-History-begun start held text r h = search (rules, replay-begin, alone, Placed-mark, recorded-placed, BothMatched-begun)
-
-pub History-closed : (start : List ℕ) (held : List (List ℕ)) (text : List ℕ) (n : ℕ) (r : Record) → n ≤ level r.recorded → History start held text r → History start held text (with_closed n r)
-History-closed start held text n r few h = record {
-  is_text = h.is_text;
-  leads = end_times-keeps (λ es. replay_entries es start ≡ Some text) (λ es k. replay-end_one es start ∙ k) n r.recorded h.leads;
-  placed = alone start (end_times n r.recorded) held (end_times-keeps (λ es. Placed start es held) (λ es p. Placed-end_one es start held p) n r.recorded (recorded-placed start held text r h));
-  matched = BothMatched-closed n r few h.matched;
-}
-
 -- a replay of two lists goes through a text
 pub replay-split : (xs ys : List Entry) (x y : List ℕ) → replay_entries (xs ++ ys) x ≡ Some y
     → (mid : List ℕ) × (replay_entries xs x ≡ Some mid) × (replay_entries ys mid ≡ Some y)
@@ -265,22 +254,6 @@ History-redone start held text next r h k =
       matched = BothMatched-redone r h.matched;
     }
 
-pub History-truncated : (len : ℕ) (start : List ℕ) (held : List (List ℕ)) (text : List ℕ) (r : Record) → History start held text r
-    → unwind (take len r.recorded) text ≡ unwind r.recorded text → History start held text (truncated len r)
-History-truncated len start held text r h k =
-    let es = r.recorded in
-    record {
-      is_text = h.is_text;
-      leads = replay-unwind (take len es) text start (replay-IsUtf8 es start text h.is_text h.leads) (k ∙ unwind-replay es start text h.is_text h.leads);
-      placed = alone start (take len es) held
-          (Placed-front start (take len es) (drop len es) held (subst (λ l. Placed start l held) (sym (take-append-drop len es)) (recorded-placed start held text r h)));
-      matched = BothMatched-truncated len r h.matched;
-    }
-
-pub History-reopened : (start : List ℕ) (held : List (List ℕ)) (text : List ℕ) (r : Record) → History start held text r → History start held text (reopened r)
-History-reopened start held text r h =
-    cond_both (ends_in_end r.recorded) _ _ (History start held text) (λ e. History-truncated (length r.recorded - 1) start held text r h (unwind-cut r.recorded text e)) (λ _. h)
-
 pub History-dropped : (start : List ℕ) (held : List (List ℕ)) (text : List ℕ) (r : Record) → History start held text r → History start held text (redo_dropped r)
 History-dropped start held text r h = record {
   is_text = h.is_text;
@@ -317,20 +290,47 @@ Placed-ahead start xs (y ∷ ys) held text end p h k =
     subst (λ l. Placed start l (held ++ texts_ahead (y ∷ ys) text)) (append_assoc xs (y ∷ []) ys)
     (subst (Placed start ((xs ++ y ∷ []) ++ ys)) (sym more) (Placed-ahead start (xs ++ y ∷ []) ys (held ++ mid ∷ []) mid end (Placed-add start xs y held mid p leads) leads on))
 
-pub History-kept : (start : List ℕ) (held : List (List ℕ)) (text : List ℕ) (r : Record) → History start held text r → IsSome (replay_entries r.pending text)
-    → History start (held ++ texts_ahead (there_and_back r.pending) text) text (kept_undone r)
-History-kept start held text r h some =
-    let more = texts_ahead (there_and_back r.pending) text in
+-- ---- a call that touches no line
+abbrev IsPlaced : List ℕ → List (List ℕ) → Record → Type 0
+IsPlaced start held r = Placed start (r.recorded ++ r.pending) held × BothMatched r
+
+placed-closed : (n : ℕ) (start : List ℕ) (held : List (List ℕ)) (r : Record) → n ≤ level r.recorded → Placed start r.recorded held → BothMatched r → IsPlaced start (held ++ []) (with_closed n r)
+placed-closed n start held r few p m =
+    let placed = end_times-keeps (λ es. Placed start es held) (λ es q. Placed-end_one es start held q) n r.recorded p in
+    (Placed-more start (end_times n r.recorded ++ []) held [] (alone start (end_times n r.recorded) held placed), BothMatched-closed n r few m)
+
+placed-cut : (len : ℕ) (start : List ℕ) (held : List (List ℕ)) (r : Record) → Placed start r.recorded held → BothMatched r → IsPlaced start (held ++ []) (truncated len r)
+placed-cut len start held r p m =
+    let placed = Placed-front start (take len r.recorded) (drop len r.recorded) held (subst (λ l. Placed start l held) (sym (take-append-drop len r.recorded)) p) in
+    (Placed-more start (take len r.recorded ++ []) held [] (alone start (take len r.recorded) held placed), BothMatched-truncated len r m)
+
+-- the entries after it are placed, and their marks match
+placed-call : (call : RecordCall) (start : List ℕ) (held : List (List ℕ)) (text : List ℕ) (r : Record) → History start held text r → MayCome call r text → Placed start r.recorded held
+    → IsPlaced start (held ++ texts_of_call call r text) (after_call call r)
+placed-call parts_next start held text r h m p = (Placed-more start (r.recorded ++ r.pending) held [] h.placed, record { recorded = h.matched.recorded; pending = h.matched.pending })
+placed-call puts_begin start held text r h m p =
+    let es = r.recorded ++ Begin ∷ [] in
+    (Placed-more start (es ++ []) held [] (alone start es held (Placed-mark start r.recorded Begin held p (replay-begin r.recorded start))), BothMatched-begun r h.matched)
+placed-call puts_ends start held text r h m p = placed-closed (level r.recorded) start held r (omega arith) p h.matched
+placed-call puts_end start held text r h m p = placed-closed (min 1 (level r.recorded)) start held r (omega arith) p h.matched
+placed-call reopens start held text r h m p =
+    cond_both (ends_in_end r.recorded) _ _ (IsPlaced start (held ++ [])) (λ _. placed-cut (length r.recorded - 1) start held r p h.matched)
+    (λ _. (Placed-more start (r.recorded ++ r.pending) held [] h.placed, h.matched))
+placed-call keeps_undone start held text r h m p =
+    let es = there_and_back r.pending in
+    let more = held ++ texts_ahead es text in
+    let back = replays-round r.pending text (replay-IsUtf8 r.recorded start text h.is_text h.leads) m.1 in
+    kept-either (IsPlaced start more) r (Placed-more start (r.recorded ++ r.pending) held (texts_ahead es text) h.placed, h.matched)
+    (alone start (r.recorded ++ es) more (Placed-ahead start r.recorded es held text text p h.leads back), BothMatched-round r h.matched)
+placed-call (shortens len) start held text r h m p = placed-cut len start held r p h.matched
+
+pub History-call : (call : RecordCall) (start : List ℕ) (held : List (List ℕ)) (text : List ℕ) (r : Record) → History start held text r → MayCome call r text
+    → History start (held ++ texts_of_call call r text) text (after_call call r)
+History-call call start held text r h m =
     let u = replay-IsUtf8 r.recorded start text h.is_text h.leads in
-    let back = replays-round r.pending text u some in
-    kept-either (History start (held ++ more) text) r (History-more start held more text r h)
-    (record {
-      is_text = h.is_text;
-      leads = replay-append r.recorded (there_and_back r.pending) start ∙ ap (option_and_then (replay_entries (there_and_back r.pending))) h.leads ∙ back;
-      placed = alone start (r.recorded ++ there_and_back r.pending) (held ++ more)
-          (Placed-ahead start r.recorded (there_and_back r.pending) held text text (recorded-placed start held text r h) h.leads back);
-      matched = BothMatched-round r h.matched;
-    })
+    let leads = replay-unwind (after_call call r).recorded text start u (unwind-call call r text u m ∙ unwind-replay r.recorded start text h.is_text h.leads) in
+    let (placed, matched) = placed-call call start held text r h m (recorded-placed start held text r h) in
+    record { is_text = h.is_text; leads = leads; placed = placed; matched = matched }
 
 -- the undone entries can be made again
 pub pending-leads : (start : List ℕ) (held : List (List ℕ)) (text : List ℕ) (r : Record) → History start held text r → IsSome (replay_entries r.pending text)

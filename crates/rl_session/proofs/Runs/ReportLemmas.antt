@@ -5,7 +5,7 @@ use Rattle.rl_line.proofs.Plans.PlanLemmas.{after-replay}
 use Rattle.rl_line.proofs.Records.RecordLemmas.{events-append}
 use Rattle.rl_line.proofs.Records.HeardLemmas.{line_back-ahead}
 use Rattle.rl_line.proofs.Records.UndoLemmas.{line_ahead-replay}
-use Rattle.rl_session.specs.Commands.{keeps, parts, gives_up}
+use Rattle.rl_session.specs.Commands.{keeps, gives_up}
 use Rattle.rl_session.proofs.Sessions.CourseLemmas.{Heard-Came}
 use Rattle.rl_session.proofs.Common.{arith}
 use Rattle.rl_line.specs.Units.{open_group}
@@ -27,7 +27,6 @@ reported : (effect : Effect) (old new : State) (d : Became effect old new) → r
 reported (by_steps course) old new d =
     let h = Heard-Came course old new d in after-replay (steps_in course old new d) old.line h.last h.taken.line ∙ ap (λ t. Some t) (sym h.text_is)
 reported (keeps text) old new d = ap (λ (s : State). Some s.line.text) (sym d)
-reported parts old new d = ap (λ (s : State). Some s.line.text) (sym d)
 reported (takes_back n a) old new d =
     let back = last_of n old.pair.changes.recorded in
     let ahead = map inverse (reverse back) in

@@ -1,15 +1,16 @@
 -- What each row of a session keeps, and how a run goes on.
-use Rattle.rl_session.proofs.Common.{None, Some, Option, ap₂, cond_both, popped_ring, turned, yank_size, ring_step, Ring, Event, IsChange, Pair, Append, List, [], ◌∷◌, ◌++◌, ◌≡◌, ◌∙◌, ap, true, false, inl, inr, refl, subst, sym, append_assoc, map-append, ℕ, IsSome, min, IsUtf8, unwind, level, Command, Reply, State, Replays, origin, Start, Course, never, when, stays, goes, edits, lends, pops, tells, Came, popped, Effect, by_steps, puts_begin, puts_ends, puts_end, shortens, takes_back, puts_again, Became, within_bound, no_bound, pair_step, Row, held, held_of, Leads, Run, AfterEach, commands_of, replies_of, steps_in}
+use Rattle.rl_session.proofs.Common.{None, Some, Option, ap₂, cond_both, popped_ring, turned, yank_size, ring_step, Ring, Event, IsChange, Pair, Append, List, [], ◌∷◌, ◌++◌, ◌≡◌, ◌∙◌, ap, true, false, inl, inr, refl, subst, sym, append_assoc, map-append, ℕ, IsSome, IsUtf8, unwind, Command, Reply, State, Replays, origin, Start, Course, never, when, stays, goes, edits, lends, pops, tells, Came, popped, Effect, by_steps, takes_back, puts_again, Became, within_bound, no_bound, pair_step, Row, held, held_of, Leads, Run, AfterEach, commands_of, replies_of, steps_in}
 use Rattle.rl_base.proofs.Ring.BoundLemmas.{within-unbounded}
 use Rattle.rl_base.proofs.Ring.KillGroupLemmas.{killed_as-lasts, lasts, lent-lasts, ring_step-lasts}
 use Rattle.rl_base.specs.KillRing.{yank}
 use Rattle.rl_base.specs.declared.kill_ring.NewKill.{NewKill}
 use Rattle.rl_line.specs.Plan.{Step as PlanStep}
 use Rattle.rl_line.proofs.Records.ForgettingLemmas.{fitting-stay}
-use Rattle.rl_line.proofs.Records.MarkLemmas.{Kept-begun, Kept-closed, Kept-reopened, Kept-Redone, Kept-truncated}
+use Rattle.rl_line.proofs.Records.RoundLemmas.{unwind-call}
+use Rattle.rl_line.proofs.Records.MarkLemmas.{Kept-Redone}
 use Rattle.rl_line.proofs.Records.OriginLemmas.{Kept, Kept-Taken, Kept-Undone}
 use Rattle.rl_line.proofs.Records.RecordLemmas.{unwind-replay, replay-unwind, replay-IsUtf8, value_of}
-use Rattle.rl_session.specs.Commands.{stops, lent, Step, keeps, parts, reopens, gives_up, keeps_undone}
+use Rattle.rl_session.specs.Commands.{stops, lent, Step, keeps, on_record, gives_up}
 use Rattle.rl_session.proofs.Sessions.CommandLemmas.{Changes, EffectChanges, effect-changes}
 use Rattle.rl_session.proofs.Sessions.CourseLemmas.{Heard, Heard-Came}
 use Rattle.rl_session.proofs.Sessions.IdleLemmas.{ring-Done, ring-Halted}
@@ -17,7 +18,6 @@ use Rattle.rl_session.proofs.Sessions.PairLemmas.{Halted-own}
 use Rattle.rl_session.specs.declared.options.Options.{Options}
 use Rattle.rl_session.proofs.Common.{arith}
 use Rattle.rl_line.proofs.Records.AbandonLemmas.{Kept-Abandoned}
-use Rattle.rl_line.proofs.Records.RoundLemmas.{Kept-kept}
 
 -- the record leads back to the same text
 abbrev KeepsOrigin : State → State → Type 0
@@ -30,16 +30,11 @@ Kept-Heard steps old new u h =
 
 Kept-Became : (effect : Effect) (old new : State) → IsUtf8 old.line.text → Became effect old new → KeepsOrigin old new
 Kept-Became (by_steps course) old new u d = Kept-Heard (steps_in course old new d) old new u (Heard-Came course old new d)
-Kept-Became (puts_begin n) old new u d = subst (KeepsOrigin old) (sym d.1) (Kept-begun old.pair.changes old.line u)
-Kept-Became (puts_ends a) old new u d = subst (KeepsOrigin old) (sym d.1) (Kept-closed (level old.pair.changes.recorded) old.pair.changes old.line u)
-Kept-Became (puts_end a) old new u d = subst (KeepsOrigin old) (sym d.1) (Kept-closed (min 1 (level old.pair.changes.recorded)) old.pair.changes old.line u)
-Kept-Became (shortens len) old new u d = subst (KeepsOrigin old) (sym d.1) (Kept-truncated len old.pair.changes old.line u d.0)
 Kept-Became (keeps text) old new u d = subst (KeepsOrigin old) (sym d) (record { origin_is = λ start e. e; utf8 = u })
-Kept-Became parts old new u d = subst (KeepsOrigin old) (sym d) (record { origin_is = λ start e. e; utf8 = u })
-Kept-Became (reopens a) old new u d = subst (KeepsOrigin old) (sym d.1) (Kept-reopened old.pair.changes old.line u)
+Kept-Became (on_record answered call) old new u d =
+    subst (KeepsOrigin old) (sym d.1) (record { origin_is = λ start e. unwind-call call old.pair.changes old.line.text u d.0.1 ∙ e; utf8 = u })
 Kept-Became (takes_back n a) old new u d = Kept-Undone _ old.pair.changes new.pair.changes old.line new.line a u d.0
 Kept-Became (gives_up a) old new u d = Kept-Abandoned old.pair.changes new.pair.changes old.line new.line a u d.0
-Kept-Became (keeps_undone a) old new u d = subst (KeepsOrigin old) (sym d.1) (Kept-kept old.pair.changes old.line u d.0.1)
 Kept-Became (puts_again a) old new u d = Kept-Redone old.pair.changes new.pair.changes old.line new.line a u d.0
 
 -- each row keeps the text from which the record came: the ring's resets touch neither line nor record
@@ -93,10 +88,8 @@ Came-lasting (tells false course) old new c d =
 
 Became-lasting : (effect : Effect) (old new : State) → EffectChanges effect → Became effect old new → lasting new ≡ lasting old
 Became-lasting (by_steps course) old new c d = Came-lasting course old new c d
-Became-lasting (puts_ends a) old new c d = ap lasting d.1
 Became-lasting (keeps text) old new c d =
     ap lasting d ∙ ap (λ n. (old.options, n)) (killed_as-lasts old.pair.ring.size old.pair.ring.last text Append old.pair.ring)
-Became-lasting parts old new c d = ap lasting d
 Became-lasting _ old new c d = ap lasting d.1
 
 Step-lasting : (old new : State) (command : Command) (reply : Reply) → Step old command reply new → lasting new ≡ lasting old

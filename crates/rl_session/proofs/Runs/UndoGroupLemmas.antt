@@ -1,13 +1,12 @@
 -- A group that was closed is one unit, whatever happened inside, so that one undo takes it off.
-use Rattle.rl_session.specs.Commands.{gives_up, keeps_undone}
-use Rattle.rl_session.proofs.Common.{Bool, rules, ◌≡◌, ◌<◌, ◌+◌, ℕ, inl, inr, zero, suc, true, List, [], ◌∷◌, ◌++◌, length, drop, Some, refl, sym, ap, subst, ◌∙◌, arith, or-false, min, listener_after, listener_after_step, Begin, End, Entry, Record, record_step, replay_entries, IsMatched, begun, end_one, end_times, ended, ended_one, has_change, kept_of, last_of, level, opens, with_closed, Effect, by_steps, puts_begin, puts_end, Became, effect, Does, with_changes, AllStandInGroup, ClosesGroup, Holds, MayStandInGroup, WasRefused, Leads, Row, Run, held, held_of, steps_in, State, with_ring, reset, Append, Command, Reply, Cursors, cond, same_Some}
+use Rattle.rl_session.specs.Commands.{gives_up, keeps, on_record}
+use Rattle.rl_session.proofs.Common.{keeps_undone, parts_next, puts_begin, puts_end, puts_ends, reopens, shortens, Bool, rules, ◌≡◌, ◌<◌, ◌+◌, ℕ, inl, inr, zero, suc, true, List, [], ◌∷◌, ◌++◌, length, drop, Some, refl, sym, ap, subst, ◌∙◌, arith, or-false, min, listener_after, listener_after_step, Begin, End, Entry, Record, record_step, replay_entries, IsMatched, begun, end_one, end_times, ended, ended_one, has_change, kept_of, last_of, level, opens, with_closed, Effect, by_steps, Became, effect, Does, with_changes, AllStandInGroup, ClosesGroup, Holds, MayStandInGroup, WasRefused, Leads, Row, Run, held, held_of, steps_in, State, with_ring, reset, Append, Command, Reply, Cursors, cond, same_Some}
 use Rattle.rl_line.specs.Plan.{Step}
 use Rattle.rl_line.proofs.Records.GroupLemmas.{has_change-append, Inside, InsideOf, Inside-event, Inside-begun, Inside-reopened, past_begin}
 use Rattle.rl_line.proofs.Records.LastLemmas.{end_one-begin, end_one-cases, end_one-past, end_times-keeps}
 use Rattle.rl_line.proofs.Records.EndLemmas.{closed_alone, closed_group, level-group}
 use Rattle.rl_line.proofs.Records.MatchLemmas.{Lower-end_one, Lower-end_times}
 use Rattle.rl_line.proofs.Records.UndoLemmas.{line_back-unwind}
-use Rattle.rl_session.specs.Commands.{keeps, parts, reopens}
 use Rattle.rl_base.specs.KillRing.{killed}
 use Rattle.rl_line.specs.Record.{parted}
 use Rattle.rl_line.specs.Units.{reopened, open_size, redo_dropped, undone, kept_undone}
@@ -59,12 +58,11 @@ Inside-same front old new k e = subst (λ (s : State). Inside front s.pair.chang
 -- what leaves a group open, after which so many groups are open
 abbrev StaysOpen : (below now : ℕ) → Effect → Type 0
 StaysOpen below now (by_steps _) = Unit {0}
-StaysOpen below now (puts_begin _) = Unit {0}
-StaysOpen below now (puts_end _) = below < now
 StaysOpen below now (keeps _) = Unit {0}
-StaysOpen below now parts = Unit {0}
-StaysOpen below now (reopens _) = Unit {0}
-StaysOpen below now (keeps_undone _) = Unit {0}
+StaysOpen below now (on_record _ puts_ends) = ⊥
+StaysOpen below now (on_record _ puts_end) = below < now
+StaysOpen below now (on_record _ (shortens _)) = ⊥
+StaysOpen below now (on_record _ _) = Unit {0}
 StaysOpen below now (gives_up _) = below < now
 StaysOpen below now _ = ⊥
 
@@ -97,14 +95,14 @@ Inside-ended_one front r k up = grind (arith, level-group, Inside-end_one)
 Inside-Became : (front : List Entry) (effect : Effect) (old new : State) → StaysOpen (level front) (level new.pair.changes.recorded) effect → Became effect old new → Inside front old.pair.changes → Inside front new.pair.changes
 Inside-Became front (by_steps course) old new i d k =
     subst (λ (r : Record). Inside front r) (sym (Heard-Came course old new d).taken.listener) (Inside-steps old.line.cursor (steps_in course old new d) front old.pair.changes k)
-Inside-Became front (puts_begin n) old new i d k = Inside-same front (with_changes (begun old.pair.changes) old) new (Inside-begun front old.pair.changes k) d.1
-Inside-Became front (puts_end a) old new i d k =
+Inside-Became front (on_record _ puts_begin) old new i d k = Inside-same front (with_changes (begun old.pair.changes) old) new (Inside-begun front old.pair.changes k) d.1
+Inside-Became front (on_record _ puts_end) old new i d k =
     let up = subst (λ (s : State). level front < level s.pair.changes.recorded) d.1 i in
     Inside-same front (with_changes (ended_one old.pair.changes) old) new (Inside-ended_one front old.pair.changes k up) d.1
 Inside-Became front (keeps text) old new i d k = Inside-same front (with_ring (reset (killed text Append old.pair.ring)) old) new k d
-Inside-Became front parts old new i d k = Inside-same front (with_changes (parted old.pair.changes) old) new (record { inner = k.inner; is = k.is; matched = k.matched }) d
-Inside-Became front (reopens a) old new i d k = Inside-same front (with_changes (reopened old.pair.changes) old) new (Inside-reopened front old.pair.changes k) d.1
-Inside-Became front (keeps_undone a) old new i d k = Inside-same front (with_changes (kept_undone old.pair.changes) old) new (Inside-kept front old.pair.changes d.0.0 k) d.1
+Inside-Became front (on_record _ parts_next) old new i d k = Inside-same front (with_changes (parted old.pair.changes) old) new (record { inner = k.inner; is = k.is; matched = k.matched }) d.1
+Inside-Became front (on_record _ reopens) old new i d k = Inside-same front (with_changes (reopened old.pair.changes) old) new (Inside-reopened front old.pair.changes k) d.1
+Inside-Became front (on_record _ keeps_undone) old new i d k = Inside-same front (with_changes (kept_undone old.pair.changes) old) new (Inside-kept front old.pair.changes d.0.1.0 k) d.1
 Inside-Became front (gives_up a) old new i d k = Inside-Abandoned front old.pair.changes new.pair.changes old.line new.line a k i d.0
 Inside-Became front _ old new i d k = absurd i
 

@@ -205,7 +205,7 @@ module _ (s : State) (ring : Ring) (u : IsUtf8 s.line.text) (b : Bounds s.line) 
   does-same asks.EndOne (says.Answer a) free d = SameLimit-same s.line new.line (ap (λ (t : State). t.line) d.1)
   does-same (asks.Truncate len) says.Done free d = SameLimit-same s.line new.line (ap (λ (t : State). t.line) d.1)
   does-same (asks.Keep t) says.Done free d = SameLimit-same s.line new.line (ap (λ (t : State). t.line) d)
-  does-same asks.Part says.Done free d = SameLimit-same s.line new.line (ap (λ (t : State). t.line) d)
+  does-same asks.Part says.Done free d = SameLimit-same s.line new.line (ap (λ (t : State). t.line) d.1)
   does-same asks.Reopen (says.Answer a) free d = SameLimit-same s.line new.line (ap (λ (t : State). t.line) d.1)
   does-same asks.KeepUndone (says.Answer a) free d = SameLimit-same s.line new.line (ap (λ (t : State). t.line) d.1)
   does-same command reply free d = course-same (asked s.line command) command reply (asks-fits command free) d

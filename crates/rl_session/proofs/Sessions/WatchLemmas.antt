@@ -7,7 +7,7 @@ use Rattle.rl_base.proofs.Texts.SpliceLemmas.{Covers-apply}
 use Rattle.rl_line.specs.Plan.{Step as PlanStep, after}
 use Rattle.rl_line.proofs.Records.HeardLemmas.{after-steps_ahead, after-steps_back}
 use Rattle.rl_line.proofs.Plans.HearingLemmas.{AreChanges, Keeps-after}
-use Rattle.rl_session.specs.Commands.{Step, stops, lent, keeps, parts, gives_up}
+use Rattle.rl_session.specs.Commands.{Step, stops, lent, keeps, gives_up}
 use Rattle.rl_session.proofs.Sessions.CommandLemmas.{Changes, EffectChanges, effect-changes}
 use Rattle.rl_session.proofs.Sessions.CourseLemmas.{Moved-text}
 use Rattle.rl_session.proofs.Sessions.IdleLemmas.{NoneStarts-ahead, NoneStarts-first}
@@ -75,7 +75,6 @@ module _ (Keeps : Watched → List ℕ → Type 0)
   pub Kept-Became : (effect : Effect) (old new : State) → Texts old.line new.line → EffectChanges effect → Became effect old new → Kept old → Kept new
   Kept-Became (by_steps course) old new t c d k = Kept-Came course old new t c d k
   Kept-Became (keeps text) old new t c d k = subst Kept (sym d) k
-  Kept-Became parts old new t c d k = subst Kept (sym d) k
   Kept-Became (takes_back n a) old new t c d k =
       let back = last_of n old.pair.changes.recorded in
       let steps = after-steps_back back old.line new.line t.at t.within d.0.line_is in
