@@ -62,14 +62,13 @@ IsEdit line (Yank _) = Unit {0}
 IsEdit line YankPop = Unit {0}
 IsEdit line command = IsAsked (asked line command)
 
--- what may happen inside a group: an end, an undo, a redo or a truncation only if it was refused, or the end or the abandon of
--- one group if the group itself stays open. Before its begin `below` groups were open, and `now` are after the row.
+-- what may happen inside a group: an end or a truncation only if it was refused, and an undo, or the end or the abandon of one
+-- group, if it was or if the group itself stays open. Before its begin `below` groups were open, and `now` are after the row.
 abbrev pub MayStandInGroup : (below now : ℕ) → Command → Reply → Type 0
 MayStandInGroup below now End reply = WasRefused reply
 MayStandInGroup below now EndOne reply = WasRefused reply ⊎ (below < now)
-MayStandInGroup below now (Undo _) reply = WasRefused reply
+MayStandInGroup below now (Undo _) reply = WasRefused reply ⊎ (below < now)
 MayStandInGroup below now Abandon reply = WasRefused reply ⊎ (below < now)
-MayStandInGroup below now Redo reply = WasRefused reply
 MayStandInGroup below now (Truncate _) reply = WasRefused reply
 MayStandInGroup below now _ _ = Unit {0}
 

@@ -13,12 +13,12 @@ use Rattle.rl_line.specs.Line.{Line}
 use Rattle.rl_line.specs.LineRanges.{IsRange}
 use Rattle.rl_line.specs.Plan.{a_copy, longest_by, unbegun}
 use Rattle.rl_line.specs.Transpositions.{transpose_words_plan}
-use Rattle.rl_line.specs.Units.{has_change, last_of, makes_group, open_group, redo_of, unit_start, united, units_in_group}
+use Rattle.rl_line.specs.Units.{has_change, last_of, level, makes_group, open_group, redo_of, unit_start, united, units_in_group}
 use Rattle.rl_line.specs.Record.{Entry, parted}
 use Rattle.rl_line.specs.declared.changeset.UnitStart.{UnitStart}
 use Rattle.rl_session.specs.Commands.{StandsYanked, Step, with_changes}
 use Rattle.rl_session.specs.Forgetting.{Forgets}
-use Rattle.rl_session.specs.History.{Holds, StandsAfter, WasRefused}
+use Rattle.rl_session.specs.History.{Holds, MayStandInGroup, StandsAfter, WasRefused}
 use Rattle.rl_session.specs.KillRuns.{IsDirectedKill}
 use Rattle.rl_session.specs.Options.{no_bound}
 use Rattle.rl_session.specs.Run.{Row}
@@ -212,6 +212,12 @@ replies_in (call command reply performed calls) = reply ∷ replies_in calls
 abbrev pub AllKilled : {old new : State} → Calls old new → Type 0
 AllKilled no_call = Unit {0}
 AllKilled (call {old} command reply performed calls) = IsDirectedKill old.line command × AllKilled calls
+
+-- all may stand in a group, before whose begin so many groups were open
+abbrev pub AllCallsStandInGroup : ℕ → {old new : State} → Calls old new → Type 0
+AllCallsStandInGroup below no_call = Unit {0}
+AllCallsStandInGroup below (call {mid = mid} command reply performed calls) =
+    MayStandInGroup below (level mid.pair.changes.recorded) command reply × AllCallsStandInGroup below calls
 
 -- none is a command of several steps
 abbrev pub NoneUnites : {old new : State} → Calls old new → Type 0

@@ -1,14 +1,14 @@
 //! The laws of commands that obey a session's options (`Session::perform`, and the call of each command's name): so
 //! what is said of runs holds of them.
-ghost use Rattle.std.specs.Prelude.{◌≡◌, ◌+◌, ◌++◌, ◌∷◌, [], ◌<◌, ◌≤◌, List, String, length, ℕ, Some};
+ghost use Rattle.std.specs.Prelude.{◌≡◌, ◌+◌, ◌++◌, ◌∷◌, [], ◌<◌, ◌≤◌, List, String, drop, length, suc, true, ℕ, Some};
 ghost use Rattle.std.specs.String.{string_bytes};
 ghost use Rattle.std.specs.declared.alloc.Global.{Global};
-ghost use Rattle.rl_line.specs.Record.{replay_entries};
-ghost use Rattle.rl_line.specs.Units.{BothMatched, level};
-ghost use Rattle.rl_session.specs.History.{Holds, WasHeld, WasRefused};
+ghost use Rattle.rl_line.specs.Record.{Begin, replay_entries};
+ghost use Rattle.rl_line.specs.Units.{BothMatched, has_change, level};
+ghost use Rattle.rl_session.specs.History.{ClosesGroup, Holds, WasHeld, WasRefused};
 ghost use Rattle.rl_session.specs.KillRuns.{AnyTook, GivenBack, IsNoKill, NoneRefused};
 ghost use Rattle.rl_session.specs.Options.{no_bound};
-ghost use Rattle.rl_session.specs.Performing.{AllKilled, Calls, HoldsFrom, MadeUnit, NoneUnites, Performed, PerformedWith, before_unit, put_in, replies_in, rows_of};
+ghost use Rattle.rl_session.specs.Performing.{AllCallsStandInGroup, AllKilled, Calls, HoldsFrom, MadeUnit, NoneUnites, Performed, PerformedWith, before_unit, put_in, replies_in, rows_of};
 ghost use Rattle.rl_session.specs.Run.{Leads, held_of};
 ghost use Rattle.rl_session.specs.State.{ChangedFrom, KeepsLimit, ReportedFrom, Stands, State};
 ghost use Rattle.rl_session.specs.declared.session.Command.{Command};
@@ -46,6 +46,25 @@ pub fn a_command_is_undone_at_once()
     ensures text { (start : List ℕ) (held : List (List ℕ)) (old mid new : State) (command : Command) (reply said : Reply)
         → Holds start held old → (unit : MadeUnit old command reply mid) → Performed mid (Undo 1) said new → ¬ (WasRefused said)
         → put_in unit.done.kept command ≡ 0 → new.line.text ≡ old.line.text }
+{}
+
+/// A group of performed commands is undone at once: one undo right after its end gives back the text from before its
+/// begin. Inside may stand what may stand in a group of a run (`group_is_undone_at_once`): also commands of several steps,
+/// undos, which stay in the group, and redos. An abandon gives that text back too, and what was recorded before the begin.
+/// Conditions: the session has no bound, begin, end, abandon and undo are not refused, all groups that were begun inside
+/// are closed, or at an `End` none was open before the begin, and a change was recorded in a group that is ended.
+pub fn a_group_is_undone_at_once()
+    ensures ended { (start : List ℕ) (held : List (List ℕ)) (old begun mid ended new : State) (below : ℕ) (first last said : Reply) (inside : Calls begun mid) (command : Command)
+        → Holds start held old → old.options.bound ≡ no_bound → Performed old Command.Begin first begun → ¬ (WasRefused first)
+        → level begun.pair.changes.recorded ≡ suc below → AllCallsStandInGroup below inside
+        → ClosesGroup below (level mid.pair.changes.recorded) command → Performed mid command last ended → ¬ (WasRefused last)
+        → has_change (drop (length begun.pair.changes.recorded) mid.pair.changes.recorded) ≡ true
+        → Performed ended (Undo 1) said new → ¬ (WasRefused said) → new.line.text ≡ old.line.text }
+    ensures abandoned { (start : List ℕ) (held : List (List ℕ)) (old begun mid new : State) (below : ℕ) (first last : Reply) (inside : Calls begun mid)
+        → Holds start held old → old.options.bound ≡ no_bound → Performed old Command.Begin first begun → ¬ (WasRefused first)
+        → level begun.pair.changes.recorded ≡ suc below → AllCallsStandInGroup below inside
+        → level mid.pair.changes.recorded ≡ suc below → Performed mid Command.Abandon last new → ¬ (WasRefused last)
+        → (new.line.text ≡ old.line.text) × (new.pair.changes.recorded ++ Begin ∷ [] ≡ begun.pair.changes.recorded) }
 {}
 
 /// What tells of changes tells of those of every command.

@@ -1,10 +1,11 @@
 -- Taking back the group that was opened last: what it makes of a record, and what stands after it.
-use Rattle.rl_line.proofs.Common.{◌≡◌, ◌⊎◌, inl, inr, ℕ, suc, not, ne_eqb, max, arith, Bool, true, false, List, [], ◌∷◌, ◌++◌, length, take, drop, Some, refl, sym, ap, subst, ◌∙◌, same_Some, cond, drop_at, append_assoc, IsUtf8, Line, Event, Entry, Begin, Record, UndoUnit, Open, Whole, IsMatched, StaysSaved, Abandoned, Undone, Walks, abandoned, has_change, in_group, is_open, kept_of, last_of, level, line_back, open_group, open_size, opens, point_kept, redo_dropped, size_to_open, together, undone, units, cond_both, IsSome, ◌<◌}
+use Rattle.rl_line.proofs.Common.{◌≡◌, ◌⊎◌, inl, inr, ℕ, zero, suc, not, ne_eqb, max, arith, Bool, true, false, List, [], ◌∷◌, ◌++◌, length, take, drop, take-append-drop, Some, refl, sym, ap, subst, ◌∙◌, same_Some, cond, drop_at, append_assoc, IsUtf8, Line, Event, Entry, Begin, Record, UndoUnit, Open, Whole, IsMatched, StaysSaved, Abandoned, Undone, Walks, abandoned, has_change, in_group, is_open, kept_of, last_of, level, line_back, open_group, open_size, opens, point_kept, redo_dropped, redo_of, redone, size_to_open, together, undone, units, cond_both, IsSome, ◌<◌, ◌≤◌}
 use Rattle.rl_line.proofs.Records.EndLemmas.{within, level-group}
 use Rattle.rl_line.proofs.Records.OriginLemmas.{Kept, Kept-Undone}
 use Rattle.rl_line.proofs.Records.SavedLemmas.{arrived-stays, longer, saved-undone, settles-in, told-at}
-use Rattle.rl_line.proofs.Records.UnitLemmas.{cut_more-append, together-append, together-units, units-append, AllGood, IsMatched-together, units-good}
+use Rattle.rl_line.proofs.Records.UnitLemmas.{cut_more-append, good_cuts, opens-append, together-append, together-units, units-append, AllGood, AllGood-right, IsMatched-append, IsMatched-front, IsMatched-together, units-good}
 use Rattle.rl_line.proofs.Records.WalkLemmas.{Walks-Undone}
+use Rattle.rl_line.proofs.Records.MatchLemmas.{redo-front}
 use Rattle.rl_line.proofs.Records.MoveLemmas.{undo-fits}
 use Rattle.rl_line.proofs.Records.GroupLemmas.{Inside, InsideOf}
 
@@ -105,29 +106,33 @@ abandon-fits es line h = cond_both (is_open es) _ _ (λ k. IsSome (line_back k l
 pub abandoned-walks : (r now : Record) (old new : Line) (a : Bool) → Abandoned r now old new a → Walks r old.text → Abandoned r now old new a × Walks now new.text
 abandoned-walks r now old new a d w = (d, Walks-Abandoned r now old new a d w)
 
--- ---- an abandon inside a group that stays open
-sized : (us vs : List UndoUnit) → 0 < size_to_open (us ++ Open ∷ vs)
-sized [] vs = omega arith
-sized (Open ∷ us) vs = omega arith
-sized (Whole es ∷ us) vs = omega arith
+-- ---- an undo, an abandon and a redo inside a group that stays open
+left_open : (n : ℕ) (us vs : List UndoUnit) → AllGood us
+    → ((j : ℕ) × (drop n (us ++ Open ∷ vs) ≡ drop j vs)) ⊎ ((ws : List UndoUnit) × AllGood ws × (drop n (us ++ Open ∷ vs) ≡ ws ++ Open ∷ vs))
+left_open zero us vs g = inr (us, g, refl)
+left_open (suc n) [] vs g = inl (n, refl)
+left_open (suc n) (Open ∷ us) vs g = left_open n us vs g.1
+left_open (suc n) (Whole es ∷ us) vs g = left_open n us vs g.1
 
-left_open : (us vs : List UndoUnit) → AllGood us
-    → (drop (size_to_open (us ++ Open ∷ vs)) (us ++ Open ∷ vs) ≡ vs) ⊎ ((ws : List UndoUnit) × AllGood ws × (drop (size_to_open (us ++ Open ∷ vs)) (us ++ Open ∷ vs) ≡ ws ++ Open ∷ vs))
-left_open [] vs g = inl refl
-left_open (Open ∷ us) vs g = inr (us, g.1, refl)
-left_open (Whole es ∷ us) vs g = left_open us vs g.1
+opens-fewer : (j : ℕ) (us : List UndoUnit) → opens (drop j us) ≤ opens us
+opens-fewer zero us = omega arith
+opens-fewer (suc j) [] = omega arith
+opens-fewer (suc j) (Open ∷ us) = omega (arith, opens-fewer j us)
+opens-fewer (suc j) (Whole es ∷ us) = opens-fewer j us
 
-kept_inside : (front inner : List Entry) → IsMatched inner → level front < level (kept_of (open_size (front ++ Begin ∷ inner)) (front ++ Begin ∷ inner))
-    → InsideOf front (kept_of (open_size (front ++ Begin ∷ inner)) (front ++ Begin ∷ inner))
-kept_inside front inner m up =
+level-fewer : (j : ℕ) (es : List Entry) → IsMatched es → level (together (drop j (units es))) ≤ level es
+level-fewer j es m =
+    let us = units es in
+    let good = AllGood-right (take j us) (drop j us) (subst AllGood (sym (take-append-drop j us)) (units-good es m)) in
+    omega (arith, opens-fewer j us, ap opens (good_cuts (drop j us) [] good), opens-append (drop j us) [])
+
+kept_inside : (n : ℕ) (front inner : List Entry) → IsMatched front → IsMatched inner → level front < level (kept_of n (front ++ Begin ∷ inner)) → InsideOf front (kept_of n (front ++ Begin ∷ inner))
+kept_inside n front inner mf m up =
     let es = front ++ Begin ∷ inner in
     let us = units inner in
-    let cut = open_units front inner m in
-    let size : max (open_size es) 1 ≡ size_to_open (us ++ Open ∷ units front) = omega (arith, ap size_to_open cut, sized us (units front)) in
-    let kept : kept_of (open_size es) es ≡ together (drop (size_to_open (us ++ Open ∷ units front)) (us ++ Open ∷ units front)) =
-    ap (λ n. together (drop n (units es))) size ∙ ap (λ vs. together (drop (size_to_open (us ++ Open ∷ units front)) vs)) cut in
-    elim (left_open us (units front) (units-good inner m)) [
-      | inl none ↦ absurd (omega (arith, up, ap level (kept ∙ ap together none ∙ together-units front)))
+    let kept : kept_of n es ≡ together (drop (max n 1) (us ++ Open ∷ units front)) = ap (λ vs. together (drop (max n 1) vs)) (open_units front inner m) in
+    elim (left_open (max n 1) us (units front) (units-good inner m)) [
+      | inl (j, is) ↦ absurd (omega (arith, up, ap level (kept ∙ ap together is), level-fewer j front mf))
       | inr (ws, good, is) ↦ record {
         inner = together ws;
         is = kept ∙ ap together is ∙ together-append ws (Open ∷ units front) ∙ ap (λ x. (x ++ Begin ∷ []) ++ together ws) (together-units front) ∙ append_assoc front (Begin ∷ []) (together ws);
@@ -135,11 +140,23 @@ kept_inside front inner m up =
       }
     ]
 
-pub Inside-Abandoned : (front : List Entry) (r now : Record) (old new : Line) (a : Bool) → Inside front r → level front < level now.recorded → Abandoned r now old new a → Inside front now
-Inside-Abandoned front r now old new a k up d = elim (abandoned-as r now old new a d) [
+pub Inside-undone : (n : ℕ) (front : List Entry) (r : Record) → IsMatched front → Inside front r → level front < level (undone n r).recorded → Inside front (undone n r)
+Inside-undone n front r m k up =
+    let left : (undone n r).recorded ≡ kept_of n (front ++ Begin ∷ k.inner) = ap (kept_of n) k.is in
+    subst (InsideOf front) (sym left) (kept_inside n front k.inner m k.matched (subst (λ es. level front < level es) left up))
+
+pub Inside-Abandoned : (front : List Entry) (r now : Record) (old new : Line) (a : Bool) → IsMatched front → Inside front r → level front < level now.recorded → Abandoned r now old new a → Inside front now
+Inside-Abandoned front r now old new a m k up d = elim (abandoned-as r now old new a d) [
   | inl same ↦ subst (Inside front) (sym same.0) k
   | inr (mid, b, u, is) ↦
-      let left : now.recorded ≡ kept_of (open_size (front ++ Begin ∷ k.inner)) (front ++ Begin ∷ k.inner) =
-      ap (λ (m : Record). m.recorded) is ∙ ap (λ (m : Record). m.recorded) u.record_is ∙ ap (λ es. kept_of (open_size es) es) k.is in
-      subst (InsideOf front) (sym left) (kept_inside front k.inner k.matched (subst (λ es. level front < level es) left up))
+      let left : now.recorded ≡ (undone (open_size r.recorded) r).recorded = ap (λ (m : Record). m.recorded) is ∙ ap (λ (m : Record). m.recorded) u.record_is in
+      let i = Inside-undone (open_size r.recorded) front r m k (subst (λ es. level front < level es) left up) in
+      subst (InsideOf front) (sym left) i
 ]
+
+pub Inside-redone : (front : List Entry) (r : Record) → IsMatched r.pending → Inside front r → Inside front (redone r)
+Inside-redone front r m k = record {
+  inner = k.inner ++ redo_of r.pending;
+  is = ap (λ l. l ++ redo_of r.pending) k.is ∙ append_assoc front (Begin ∷ k.inner) (redo_of r.pending);
+  matched = IsMatched-append k.inner (redo_of r.pending) k.matched (IsMatched-front (redo_of r.pending) (drop (length (redo_of r.pending)) r.pending) (subst IsMatched (sym (redo-front r.pending)) m));
+}

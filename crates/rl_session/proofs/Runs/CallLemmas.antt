@@ -96,17 +96,17 @@ is_plain Reopen = false
 is_plain (Undo n) = false
 is_plain command = not (is_one_unit command)
 
-stopped_refused : (command : Command) (s : State) (reply : Reply) → is_plain command ≡ true → Stops s command reply → WasRefused reply
+pub stopped_refused : (command : Command) (s : State) (reply : Reply) → is_plain command ≡ true → Stops s command reply → WasRefused reply
 stopped_refused Reopen s reply plain stops = cc
 stopped_refused (Undo n) s reply plain stops = cc
 stopped_refused _ s (says.Refused why) plain stops = tt
 stopped_refused _ s _ plain stops = absurd stops
 
-carried-same : (command : Command) (s : State) → is_plain command ≡ true → carried s command ≡ command
+pub carried-same : (command : Command) (s : State) → is_plain command ≡ true → carried s command ≡ command
 carried-same (Undo n) s plain = cc
 carried-same _ s plain = refl
 
-plain-single : (command : Command) → is_plain command ≡ true → is_one_unit command ≡ false
+pub plain-single : (command : Command) → is_plain command ≡ true → is_one_unit command ≡ false
 plain-single Reopen plain = refl
 plain-single (Undo n) plain = refl
 plain-single (Update t q) plain = cc

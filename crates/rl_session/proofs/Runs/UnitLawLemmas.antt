@@ -56,13 +56,13 @@ kept-line old kept (says.Answer a) s = ap (λ (k : State). k.line) (s.settles �
 kept-line old kept (says.Refused NoMemory) s = ap (λ (k : State). k.line) (s.settles ∙ s.does.1)
 kept-line old kept _ s = absurd s.does
 
-record Goes (start : List ℕ) (old kept : State) : Type 0 where
-  line : kept.line ≡ old.line
-  options : kept.options ≡ old.options
-  texts : List (List ℕ)
-  holds : Holds start texts kept
+pub record Goes (start : List ℕ) (old kept : State) : Type 0 where
+  pub line : kept.line ≡ old.line
+  pub options : kept.options ≡ old.options
+  pub texts : List (List ℕ)
+  pub holds : Holds start texts kept
 
-Keeps-goes : (asked : Bool) (start : List ℕ) (texts : List (List ℕ)) (old kept : State) (reply : Reply) → Keeps asked old reply kept → Holds start texts old → Goes start old kept
+pub Keeps-goes : (asked : Bool) (start : List ℕ) (texts : List (List ℕ)) (old kept : State) (reply : Reply) → Keeps asked old reply kept → Holds start texts old → Goes start old kept
 Keeps-goes false start texts old kept reply k h = subst (Goes start old) (sym k.1) (record { line = refl; options = refl; texts = texts; holds = h })
 Keeps-goes true start texts old kept reply k h =
     let row : Row = record { before = old; command = KeepUndone; reply = reply; after = kept; step = k } in
@@ -87,7 +87,7 @@ within-one None some = refl
 within-one (Some zero) some = absurd (some refl)
 within-one (Some (suc n)) some = omega arith
 
-undo-leads : (start : List ℕ) (texts : List (List ℕ)) (old new : State) (reply : Reply) → Holds start texts old → has_change (last_of 1 old.pair.changes.recorded) ≡ true
+pub undo-leads : (start : List ℕ) (texts : List (List ℕ)) (old new : State) (reply : Reply) → Holds start texts old → has_change (last_of 1 old.pair.changes.recorded) ≡ true
     → Performed old (Undo 1) reply new → ¬ (WasRefused reply) → replay_entries (kept_of 1 old.pair.changes.recorded) start ≡ Some new.line.text
 undo-leads start texts old new reply h change (inl (stops, same)) allowed = absurd (some-unit (units old.pair.changes.recorded) (stops-none old reply stops allowed) change)
 undo-leads start texts old new reply h change (inr (inl unkept)) allowed = absurd (allowed unkept.1)

@@ -1,0 +1,248 @@
+-- A group of performed commands is one unit, whatever was done inside, so that one undo takes it back.
+use Rattle.rl_session.proofs.Common.{◌≡◌, ◌<◌, ◌≤◌, ◌+◌, ◌∙◌, ◌||◌, cond_both, length-append, ℕ, suc, arith, Bool, true, false, List, [], ◌∷◌, ◌++◌, length, drop, Some, refl, sym, ap, subst, same_Some, inl, inr, no_bound, within_bound, Begin, End, Entry, Line, Record, IsMatched, begun, has_change, kept_of, last_of, level, with_closed, replay_entries, Command, Reply, Row, State, Undo, Holds, ClosesGroup, MayStandInGroup, WasRefused, held}
+use Rattle.std.proofs.lemmas.List.{drop-append-le}
+use Rattle.rl_line.specs.Record.{parted}
+use Rattle.rl_line.specs.Units.{AtLevel, there_and_back, unit_start, kept_undone}
+use Rattle.rl_line.specs.declared.change.Freshness.TheVariants.{Parted}
+use Rattle.rl_line.specs.declared.changeset.UnitStart.{UnitStart}
+use Rattle.rl_line.proofs.Records.GroupLemmas.{Inside, has_change-append}
+use Rattle.rl_line.proofs.Records.EndLemmas.{level-group}
+use Rattle.rl_line.proofs.Records.RoundLemmas.{AtLevel-round, kept-either}
+use Rattle.rl_line.proofs.Records.UnitingLemmas.{Inside-united, taken-inside}
+use Rattle.rl_session.specs.Commands.{Step, with_changes}
+use Rattle.rl_session.specs.Performing.{AllCallsStandInGroup, Calls, Keeps, Performed, Unites, asks_to_keep, call, carried, is_one_unit, no_call, put_in, set_apart}
+use Rattle.rl_session.specs.declared.options.Options.{Options}
+use Rattle.rl_session.specs.declared.session.Command.TheVariants as asks
+use Rattle.rl_session.specs.declared.session.Fault.TheVariants.{NoMemory}
+use Rattle.rl_session.specs.declared.session.Reply.TheVariants as says
+use Rattle.rl_session.proofs.Runs.CallLemmas.{Calls-options, Performed-options, carried-same, is_plain, plain-single, stopped_refused}
+use Rattle.rl_session.proofs.Runs.HistoryLemmas.{Holds-row, done_as}
+use Rattle.rl_session.proofs.Runs.PlaceLemmas.{History-fresh, History-united}
+use Rattle.rl_session.proofs.Runs.RowLemmas.{Step-options, within_bound-none}
+use Rattle.rl_session.proofs.Runs.UndoGroupLemmas.{Begin-done, Inside-row, abandoned-row, closed_unit, closing-row}
+use Rattle.rl_session.proofs.Runs.UnitLawLemmas.{Keeps-goes, undo-leads}
+use Rattle.rl_session.proofs.Sessions.PerformLemmas.{apart-same, united-same}
+
+-- ---- inside the group
+-- a state of a history whose record stands in an open group
+record StandsInside (start : List ℕ) (front : List Entry) (s : State) : Type 0 where
+  inside : Inside front s.pair.changes
+  texts : List (List ℕ)
+  holds : Holds start texts s
+
+in-row : (start : List ℕ) (front : List Entry) (row : Row) → IsMatched front → MayStandInGroup (level front) (level row.after.pair.changes.recorded) row.command row.reply
+    → StandsInside start front row.before → StandsInside start front row.after
+in-row start front row m may h = record {
+  inside = Inside-row front row m h.holds.matched.pending may h.inside;
+  texts = h.texts ++ held row;
+  holds = Holds-row start h.texts row h.holds;
+}
+
+in-Keeps : (asked : Bool) (start : List ℕ) (front : List Entry) (old kept : State) (reply : Reply) → IsMatched front → Keeps asked old reply kept → StandsInside start front old → StandsInside start front kept
+in-Keeps false start front old kept reply m k h = subst (StandsInside start front) (sym k.1) h
+in-Keeps true start front old kept reply m k h = in-row start front (record { before = old; command = asks.KeepUndone; reply = reply; after = kept; step = k }) m tt h
+
+in-fresh : (start : List ℕ) (front : List Entry) (s : State) → StandsInside start front s → StandsInside start front (with_changes (parted s.pair.changes) s)
+in-fresh start front s h = record {
+  inside = record { inner = h.inside.inner; is = h.inside.is; matched = h.inside.matched };
+  texts = h.texts;
+  holds = History-fresh start h.texts s.line.text s.pair.changes Parted h.holds;
+}
+
+in-united : (start : List ℕ) (front : List Entry) (begin : UnitStart) (one : Bool) (left made : State) → length front < begin.from → Unites one begin left made → StandsInside start front left → StandsInside start front made
+in-united start front begin false left made later u h = subst (StandsInside start front) (sym u) h
+in-united start front begin true left made later (inr u) h = subst (StandsInside start front) (sym u.1) h
+in-united start front begin true left made later (inl u) h =
+    subst (StandsInside start front) (sym u) (record {
+      inside = Inside-united front begin left.pair.changes later h.inside;
+      texts = h.texts;
+      holds = History-united start h.texts left.line.text left.pair.changes begin h.holds;
+    })
+
+-- what may stand there may be carried there, and a command of several steps may be anyhow
+may-carried : (command : Command) (s : State) (below now : ℕ) (reply : Reply) → MayStandInGroup below now command reply → MayStandInGroup below now (carried s command) reply
+may-carried (Undo n) s below now reply may = may
+may-carried _ s below now reply may = may
+
+may-unit : (command : Command) (s : State) (below now : ℕ) (reply : Reply) → is_one_unit command ≡ true → MayStandInGroup below now (carried s command) reply
+may-unit (asks.Update t q) s below now reply one = tt
+may-unit asks.YankPop s below now reply one = tt
+may-unit asks.TransposeChars s below now reply one = tt
+may-unit (asks.TransposeWords n) s below now reply one = tt
+may-unit (asks.EditWord action) s below now reply one = tt
+may-unit (asks.Indent m amount dedent) s below now reply one = tt
+may-unit _ s below now reply one = cc
+
+may-left : (one : Bool) (command : Command) (s left made : State) (begin : UnitStart) (below : ℕ) (reply : Reply) → one ≡ is_one_unit command → Unites one begin left made
+    → MayStandInGroup below (level made.pair.changes.recorded) command reply → MayStandInGroup below (level left.pair.changes.recorded) (carried s command) reply
+may-left true command s left made begin below reply e u may = may-unit command s below (level left.pair.changes.recorded) reply (sym e)
+may-left false command s left made begin below reply e u may =
+    may-carried command s below (level left.pair.changes.recorded) reply (subst (λ (k : State). MayStandInGroup below (level k.pair.changes.recorded) command reply) u may)
+
+-- nothing is forgotten without a bound
+ends-made : (old new : State) (command : Command) (reply : Reply) (p : Performed old command reply new) → old.options.bound ≡ no_bound → (made : State) → new ≡ within_bound made → made.options ≡ new.options → new ≡ made
+ends-made old new command reply p free made is same =
+    is ∙ within_bound-none made (ap (λ (o : Options). o.bound) (same ∙ Performed-options old new command reply p) ∙ free)
+
+in-Performed : (start : List ℕ) (front : List Entry) (old new : State) (command : Command) (reply : Reply) → IsMatched front → old.options.bound ≡ no_bound → MayStandInGroup (level front) (level new.pair.changes.recorded) command reply
+    → Performed old command reply new → StandsInside start front old → StandsInside start front new
+in-Performed start front old new command reply m free may (inl stopped) h = subst (StandsInside start front) (sym stopped.1) h
+in-Performed start front old new command reply m free may (inr (inl unkept)) h = in-Keeps (asks_to_keep old command) start front old new reply m unkept.2 h
+in-Performed start front old new command reply m free may (inr (inr done)) h =
+    let kept = in-Keeps (asks_to_keep old command) start front old done.kept done.keeps.0 m done.keeps.1 h in
+    let begin = unit_start (put_in done.kept command) done.kept.pair.changes in
+    let later = taken-inside (put_in done.kept command) front done.kept.pair.changes kept.inside in
+    let is_made = ends-made old new command reply (inr (inr done)) free done.made done.forgets.is (sym (ap (λ (s : State). s.options) done.forgets.is)) in
+    let may_made = subst (λ (s : State). MayStandInGroup (level front) (level s.pair.changes.recorded) command reply) is_made may in
+    let may_left = may-left (is_one_unit command) command old done.left done.made begin (level front) reply refl done.unites may_made in
+    let row : Row = record { before = set_apart done.kept command; command = carried old command; reply = reply; after = done.left; step = done.step } in
+    let apart = cond_both (is_one_unit command) (with_changes (parted done.kept.pair.changes) done.kept) done.kept (StandsInside start front) (λ _. in-fresh start front done.kept kept) (λ _. kept) in
+    let left = in-row start front row m may_left apart in
+    subst (StandsInside start front) (sym is_made) (in-united start front begin (is_one_unit command) done.left done.made later done.unites left)
+
+in-Calls : (start : List ℕ) (front : List Entry) (old new : State) (calls : Calls old new) → IsMatched front → old.options.bound ≡ no_bound → AllCallsStandInGroup (level front) calls
+    → StandsInside start front old → StandsInside start front new
+in-Calls start front old new no_call m free may h = h
+in-Calls start front old new (call {mid = mid} command reply p calls) m free may h =
+    in-Calls start front mid new calls m (ap (λ (o : Options). o.bound) (Performed-options old mid command reply p) ∙ free) may.1 (in-Performed start front old mid command reply m free may.0 p h)
+
+-- ---- a command of one step that was done
+record PlainDone (old : State) (command : Command) (reply : Reply) (new : State) : Type 0 where
+  said : Reply
+  kept : State
+  keeps : Keeps (asks_to_keep old command) old said kept
+  step : Step kept command reply new
+
+plain_done : (command : Command) (old new : State) (reply : Reply) → is_plain command ≡ true → old.options.bound ≡ no_bound → ¬ (WasRefused reply) → Performed old command reply new → PlainDone old command reply new
+plain_done command old new reply plain free allowed (inl stopped) = absurd (allowed (stopped_refused command old reply plain stopped.0))
+plain_done command old new reply plain free allowed (inr (inl unkept)) = absurd (allowed unkept.1)
+plain_done command old new reply plain free allowed (inr (inr done)) =
+    let single = plain-single command plain in
+    let step = subst (λ c. Step (set_apart done.kept command) c reply done.left) (carried-same command old plain) done.step in
+    let made = united-same (is_one_unit command) (unit_start (put_in done.kept command) done.kept.pair.changes) done.left done.made single done.unites in
+    let is_made = ends-made old new command reply (inr (inr done)) free done.made done.forgets.is (sym (ap (λ (s : State). s.options) done.forgets.is)) in
+    record {
+      said = done.keeps.0;
+      kept = done.kept;
+      keeps = done.keeps.1;
+      step = subst (λ s. Step done.kept command reply s) (sym (is_made ∙ made)) (subst (λ s. Step s command reply done.left) (apart-same (is_one_unit command) done.kept single) step);
+    }
+
+-- ---- the begin
+record Begun (start : List ℕ) (old begun : State) : Type 0 where
+  front : List Entry
+  matched : IsMatched front
+  leads : replay_entries front start ≡ Some old.line.text
+  is : begun.pair.changes.recorded ≡ front ++ Begin ∷ []
+  stands : StandsInside start front begun
+
+begins : (start : List ℕ) (texts : List (List ℕ)) (old new : State) (reply : Reply) → Holds start texts old → old.options.bound ≡ no_bound → Performed old asks.Begin reply new → ¬ (WasRefused reply) → Begun start old new
+begins start texts old new reply h free p allowed =
+    let d = plain_done asks.Begin old new reply refl free allowed p in
+    let goes = Keeps-goes (asks_to_keep old asks.Begin) start texts old d.kept d.said d.keeps h in
+    let row : Row = record { before = d.kept; command = asks.Begin; reply = reply; after = new; step = d.step } in
+    let now = done_as row asks.Begin (λ r k _ _. k ≡ begun r) Begin-done refl allowed in
+    let front = d.kept.pair.changes.recorded in
+    record {
+      front = front;
+      matched = goes.holds.matched.recorded;
+      leads = goes.holds.leads ∙ ap (λ (l : Line). Some l.text) goes.line;
+      is = ap (λ (r : Record). r.recorded) now;
+      stands = record { inside = subst (Inside front) (sym now) (record { inner = []; is = refl; matched = refl }); texts = goes.texts ++ held row; holds = Holds-row start goes.texts row goes.holds };
+    }
+
+below-is : (start : List ℕ) (old begun : State) (b : Begun start old begun) (below : ℕ) → level begun.pair.changes.recorded ≡ suc below → below ≡ level b.front
+below-is start old begun b below open = omega (arith, open, ap level b.is, level-group b.front [] refl)
+
+-- ---- the end
+-- what an end finds, once what was undone is kept: so many open groups, and a change
+record Finds (n k : ℕ) (r : Record) : Type 0 where
+  open : AtLevel n r
+  within : k ≤ length r.recorded
+  change : has_change (drop k r.recorded) ≡ true
+
+Finds-kept : (n k : ℕ) (r : Record) → Finds n k r → Finds n k (kept_undone r)
+Finds-kept n k r f = kept-either (Finds n k) r f (record {
+  open = AtLevel-round n r f.open;
+  within = omega (arith, f.within, length-append r.recorded (there_and_back r.pending));
+  change = ap has_change (drop-append-le k r.recorded (there_and_back r.pending) f.within) ∙ has_change-append (drop k r.recorded) (there_and_back r.pending)
+      ∙ ap (λ b. b || has_change (there_and_back r.pending)) f.change;
+})
+
+Finds-Keeps : (n k : ℕ) (asked : Bool) (old kept : State) (reply : Reply) → Keeps asked old reply kept → Finds n k old.pair.changes → Finds n k kept.pair.changes
+Finds-Keeps n k false old kept reply keeps f = subst (λ (s : State). Finds n k s.pair.changes) (sym keeps.1) f
+Finds-Keeps n k true old kept (says.Answer a) s f = subst (λ (s : State). Finds n k s.pair.changes) (sym (s.settles ∙ s.does.1)) (Finds-kept n k old.pair.changes f)
+Finds-Keeps n k true old kept (says.Refused NoMemory) s f = subst (λ (s : State). Finds n k s.pair.changes) (sym (s.settles ∙ s.does.1)) f
+Finds-Keeps n k true old kept _ s f = absurd s.does
+
+closes-plain : (command : Command) (below now : ℕ) → ClosesGroup below now command → is_plain command ≡ true
+closes-plain asks.End below now c = refl
+closes-plain asks.EndOne below now c = refl
+closes-plain _ below now c = absurd c
+
+record Ended (start : List ℕ) (front : List Entry) (new : State) : Type 0 where
+  kept : kept_of 1 new.pair.changes.recorded ≡ front
+  change : has_change (last_of 1 new.pair.changes.recorded) ≡ true
+  texts : List (List ℕ)
+  holds : Holds start texts new
+
+ends : (start : List ℕ) (front : List Entry) (old new : State) (command : Command) (reply : Reply) → IsMatched front → StandsInside start front old → old.options.bound ≡ no_bound
+    → ClosesGroup (level front) (level old.pair.changes.recorded) command → has_change (drop (suc (length front)) old.pair.changes.recorded) ≡ true
+    → Performed old command reply new → ¬ (WasRefused reply) → Ended start front new
+ends start front old new command reply m h free closes change p allowed =
+    let r = old.pair.changes in
+    let n = level r.recorded in
+    let d = plain_done command old new reply (closes-plain command (level front) n closes) free allowed p in
+    let kept = in-Keeps (asks_to_keep old command) start front old d.kept d.said m d.keeps h in
+    let long = omega (arith, ap length h.inside.is, length-append front (Begin ∷ h.inside.inner)) in
+    let found = Finds-Keeps n (suc (length front)) (asks_to_keep old command) old d.kept d.said d.keeps (record { open = record { matched = h.holds.matched; level = refl }; within = long; change = change }) in
+    let row : Row = record { before = d.kept; command = command; reply = reply; after = new; step = d.step } in
+    let c = closing-row row command (level front) refl (subst (λ k. ClosesGroup (level front) k command) found.open.level closes) allowed in
+    let unit = closed_unit front d.kept.pair.changes c.0 kept.inside c.1 found.change in
+    record {
+      kept = ap (λ (k : Record). kept_of 1 k.recorded) c.2 ∙ unit.0;
+      change = ap (λ (k : Record). has_change (last_of 1 k.recorded)) c.2 ∙ unit.1;
+      texts = kept.texts ++ held row;
+      holds = Holds-row start kept.texts row kept.holds;
+    }
+
+-- ---- the laws
+inside-group : (start : List ℕ) (old begun mid : State) (b : Begun start old begun) (below : ℕ) (inside : Calls begun mid) → begun.options.bound ≡ no_bound → level begun.pair.changes.recorded ≡ suc below
+    → AllCallsStandInGroup below inside → StandsInside start b.front mid
+inside-group start old begun mid b below inside free open all =
+    in-Calls start b.front begun mid inside b.matched free (subst (λ n. AllCallsStandInGroup n inside) (below-is start old begun b below open) all) b.stands
+
+pub group-performed : (start : List ℕ) (texts : List (List ℕ)) (old begun mid ended new : State) (below : ℕ) (first last said : Reply) (inside : Calls begun mid) (command : Command)
+    → Holds start texts old → old.options.bound ≡ no_bound → Performed old asks.Begin first begun → ¬ (WasRefused first)
+    → level begun.pair.changes.recorded ≡ suc below → AllCallsStandInGroup below inside
+    → ClosesGroup below (level mid.pair.changes.recorded) command → Performed mid command last ended → ¬ (WasRefused last)
+    → has_change (drop (length begun.pair.changes.recorded) mid.pair.changes.recorded) ≡ true
+    → Performed ended (Undo 1) said new → ¬ (WasRefused said) → new.line.text ≡ old.line.text
+group-performed start texts old begun mid ended new below first last said inside command h free p allowed open all closes e ends_well change u undoes =
+    let b = begins start texts old begun first h free p allowed in
+    let same = below-is start old begun b below open in
+    let free_then = ap (λ (o : Options). o.bound) (Performed-options old begun asks.Begin first p) ∙ free in
+    let free_mid = ap (λ (o : Options). o.bound) (Calls-options begun mid inside) ∙ free_then in
+    let at_mid = inside-group start old begun mid b below inside free_then open all in
+    let long : length begun.pair.changes.recorded ≡ suc (length b.front) = omega (arith, ap length b.is, length-append b.front (Begin ∷ [])) in
+    let k = ends start b.front mid ended command last b.matched at_mid free_mid (subst (λ n. ClosesGroup n (level mid.pair.changes.recorded) command) same closes)
+        (ap (λ n. has_change (drop n mid.pair.changes.recorded)) (sym long) ∙ change) e ends_well in
+    let leads = undo-leads start k.texts ended new said k.holds k.change u undoes in
+    same_Some new.line.text old.line.text (sym leads ∙ ap (λ es. replay_entries es start) k.kept ∙ b.leads)
+
+pub abandon-performed : (start : List ℕ) (texts : List (List ℕ)) (old begun mid new : State) (below : ℕ) (first last : Reply) (inside : Calls begun mid)
+    → Holds start texts old → old.options.bound ≡ no_bound → Performed old asks.Begin first begun → ¬ (WasRefused first)
+    → level begun.pair.changes.recorded ≡ suc below → AllCallsStandInGroup below inside
+    → level mid.pair.changes.recorded ≡ suc below → Performed mid asks.Abandon last new → ¬ (WasRefused last)
+    → (new.line.text ≡ old.line.text) × (new.pair.changes.recorded ++ Begin ∷ [] ≡ begun.pair.changes.recorded)
+abandon-performed start texts old begun mid new below first last inside h free p allowed open all open_then a abandons =
+    let b = begins start texts old begun first h free p allowed in
+    let free_then = ap (λ (o : Options). o.bound) (Performed-options old begun asks.Begin first p) ∙ free in
+    let free_mid = ap (λ (o : Options). o.bound) (Calls-options begun mid inside) ∙ free_then in
+    let at_mid = inside-group start old begun mid b below inside free_then open all in
+    let d = plain_done asks.Abandon mid new last refl free_mid abandons a in
+    let row : Row = record { before = d.kept; command = asks.Abandon; reply = last; after = new; step = d.step } in
+    let kept = subst (StandsInside start b.front) (sym d.keeps.1) at_mid in
+    let left = abandoned-row start kept.texts b.front row kept.holds kept.inside
+        (ap (λ (s : State). level s.pair.changes.recorded) d.keeps.1 ∙ open_then ∙ ap suc (below-is start old begun b below open)) refl abandons in
+    (same_Some new.line.text old.line.text (sym left.0 ∙ b.leads), ap (λ es. es ++ Begin ∷ []) left.1 ∙ sym b.is)
