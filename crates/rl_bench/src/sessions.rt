@@ -60,7 +60,7 @@ fn reads_often(session: &mut Session, command: &Command, count: usize) -> usize 
     let mut came: usize = 0;
     for _ in 0..count {
         let _ = session.apply(command);
-        if let Some(report) = session.next_report() {
+        if let Some(report) = session.watch().next_report() {
             came = came.saturating_add(report.new_len);
             session.forget_report();
         }
@@ -71,7 +71,7 @@ fn reads_often(session: &mut Session, command: &Command, count: usize) -> usize 
 /// Times the same letters in a session that keeps reports without texts, each read after its letter.
 pub fn time_watched(rt: &HostRuntime, count: usize, size: usize) -> Result<(Duration, u64), Stop> {
     let mut session = session_of(rt, size, count)?;
-    let _ = session.watch(1, 0);
+    let _ = session.keep_reports(1, 0);
     let start = Instant::now(rt)?;
     let came = reads_often(&mut session, &Command::Insert('a', 1), count);
     let time = start.elapsed(rt)?;

@@ -31,7 +31,7 @@ pub fn lodvarn_take_change(s: &mut Handle, splice: &mut CSplice) -> i32
 pub fn lodvarn_watch(s: &mut Handle, reports: usize, bytes: usize) -> i32
     ensures { Through (Watches reports bytes) s.old result s.new }
 {
-    of!(s, session => match session.watch(reports, bytes) {
+    of!(s, session => match session.keep_reports(reports, bytes) {
         Ok(()) => Answer::Done,
         Err(why) => of_watch_fault(why),
     })
@@ -41,7 +41,7 @@ pub fn lodvarn_unwatch(s: &mut Handle) -> i32
     ensures { Through (becomes (λ (s : State). with_watch (record s.pair.watch { reports = None }) s)) s.old result s.new }
 {
     of!(s, session => {
-        session.unwatch();
+        session.stop_reports();
         Answer::Done
     })
 }
@@ -49,7 +49,7 @@ pub fn lodvarn_unwatch(s: &mut Handle) -> i32
 pub fn lodvarn_count_reports(s: &mut Handle) -> usize
     ensures { Finds (λ (s : State). waiting_count s.pair.watch) 0 s.old result s.new }
 {
-    of!(s, session => session.waiting_reports(), 0)
+    of!(s, session => session.watch().waiting_reports(), 0)
 }
 
 // Writes a report with its texts, which stand one after the other.
@@ -78,7 +78,7 @@ fn write_report(found: Option<Report>, texts: &str, report: &mut CReport) -> Ans
 pub fn lodvarn_next_report(s: &mut Handle, report: &mut CReport) -> i32
     ensures { Tells (λ (s : State). TellsNote (next_note s.pair.watch)) s.old result s.new report.old report.new }
 {
-    of!(s, session => write_report(session.next_report(), session.next_texts(), report))
+    of!(s, session => write_report(session.watch().next_report(), session.watch().next_texts(), report))
 }
 
 pub fn lodvarn_forget_report(s: &mut Handle) -> i32

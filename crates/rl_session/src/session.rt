@@ -3,11 +3,10 @@ ghost use Rattle.std.specs.Prelude.{is_some, ◌≡◌, ◌<◌, ◌++◌, ◌�
 ghost use Rattle.rl_base.specs.Event.{replay};
 ghost use Rattle.rl_line.specs.Line.{Line};
 ghost use Rattle.rl_line.specs.Record.{Record, replay_entries, unwind};
-ghost use Rattle.std.specs.Option.{option_map};
 ghost use Rattle.rl_base.specs.KillRing.{reset};
-ghost use Rattle.rl_base.specs.Reports.{HasTexts, LacksTexts, Noted, Stand, TellsByTexts, after_numbers, after_texts, new_queue, texts_of};
+ghost use Rattle.rl_base.specs.Reports.{HasTexts, LacksTexts, Noted, Stand, TellsByTexts, after_numbers, after_texts, new_queue};
 ghost use Rattle.rl_base.specs.Splice.{Splices, told, untouched};
-ghost use Rattle.rl_base.specs.Watch.{RefusesQueue, next_note, past_next, text_room, waiting_count};
+ghost use Rattle.rl_base.specs.Watch.{RefusesQueue, next_note, past_next, text_room};
 ghost use Rattle.rl_session.specs.State.{State, ChangedFrom, Follows, IsBounded, ReportedFrom, Ends, Stands, with_ring, with_watch, Replays, origin};
 ghost use Rattle.rl_session.specs.Commands.{Does, Step, readied, settled};
 ghost use Rattle.rl_session.specs.Run.{Row, Run, AfterEach, commands_of, held_of, replies_of, reports, reports_of};
@@ -29,7 +28,7 @@ use crate::options::Options;
 use crate::pair::Pair;
 use crate::session::replies::{answered, done, handed_out, inserted, marked};
 use rl_base::{
-    At, CharSearch, Direction, KillRing, Movement, Refusal, RepeatCount, Report, Splice, Unit,
+    At, CharSearch, Direction, KillRing, Movement, Refusal, RepeatCount, Splice, Unit, Watch,
     WatchFault, Word, WordAction,
 };
 use rl_line::{Changeset, LineBuffer};
@@ -172,8 +171,8 @@ pub enum Reply {
     Refused(Fault),
 }
 
-/// A line, with the ring and the record that hear of its changes. It lends them for reading only, so no change
-/// escapes them.
+/// A line, with the ring, the record and the watch that hear of its changes. It lends them for reading only, so no change
+/// escapes them, and they hear of no other.
 #[derive(Drop)]
 pub struct Session {
     line: LineBuffer,
@@ -231,6 +230,13 @@ impl Session {
         &self.options
     }
 
+    /// The watch, which tells what changed in the text: how many reports wait, and the oldest with its texts.
+    pub fn watch(&self) -> &Watch
+        ensures { result.now ≡ self.now.pair.watch }
+    {
+        &self.pair.watch
+    }
+
     /// What changed in the text since this was asked last, or since the session was made, as one splice: what stands
     /// between two places of the text as it was then gave way to what stands between two places of the present text, all
     /// in bytes, and each between two characters. None if nothing changed. It is so whatever changed the text, also a
@@ -253,7 +259,7 @@ impl Session {
     /// change that comes before it was read is folded into it, so what came is always in the present text. Refused, it changes
     /// nothing.
     #[tactic(auto, using(rl_base::proofs::Queue::LeadLemmas::new_leads))]
-    pub fn watch(&mut self, reports: usize, text_bytes: usize) -> Result<(), WatchFault>
+    pub fn keep_reports(&mut self, reports: usize, text_bytes: usize) -> Result<(), WatchFault>
         ensures ok { OnOk result ((0 < reports) × (self.old.pair.watch.reports ≡ None)
             × (self.new ≡ with_watch (record self.old.pair.watch { reports = Some (new_queue reports text_bytes) }) self.old)) }
         ensures reported { OnOk result (ReportedFrom self.new.line.text self.new) }
@@ -266,33 +272,12 @@ impl Session {
             .keep_reports(self.alloc, reports, text_bytes)
     }
 
-    /// Keeps no reports any more. Those that wait are dropped, and their memory is freed; `watch` may be called again.
-    pub fn unwatch(&mut self)
+    /// Keeps no reports any more. Those that wait are dropped, and their memory is freed; `keep_reports` may be called again.
+    pub fn stop_reports(&mut self)
         ensures stopped { self.new ≡ with_watch (record self.old.pair.watch { reports = None }) self.old }
         ensures changed { (asked : List ℕ) → ChangedFrom asked self.old → ChangedFrom asked self.new }
     {
         self.pair.watch.stop_reports();
-    }
-
-    /// How many reports wait; one of all that waited as one change counts as one. 0 if none are kept.
-    pub fn waiting_reports(&self) -> usize
-        ensures { result ≡ waiting_count self.now.pair.watch }
-    {
-        self.pair.watch.waiting_reports()
-    }
-
-    /// The oldest report that waits; None if none does, or none are kept.
-    pub fn next_report(&self) -> Option<Report>
-        ensures { result ≡ option_map (λ note. note.report) (next_note self.now.pair.watch) }
-    {
-        self.pair.watch.next_report()
-    }
-
-    /// Its texts: what went, and right after it what came. Empty if there is no such report, and if it has none.
-    pub fn next_texts(&self) -> &str
-        ensures { result.now ≡ texts_of (next_note self.now.pair.watch) }
-    {
-        self.pair.watch.next_texts()
     }
 
     /// Forgets the oldest report, so that the next becomes the oldest. The report told how the text at which reading

@@ -146,19 +146,19 @@ fn reads(rt: &impl Abort, session: &mut Session, at: usize, text: &str) {
         new_len: text.len(),
         cursors: Some((at, at.saturating_add(text.len()))),
     };
-    is_so(rt, session.next_report() == Some(wanted), "the next report");
-    is_so(rt, session.next_texts() == text, "its texts");
+    is_so(rt, session.watch().next_report() == Some(wanted), "the next report");
+    is_so(rt, session.watch().next_texts() == text, "its texts");
     is_so(rt, session.forget_report(), "it waited");
-    is_so(rt, session.next_report().is_none(), "no report waits");
+    is_so(rt, session.watch().next_report().is_none(), "no report waits");
     is_so(rt, !session.forget_report(), "none waited");
 }
 
 // A session with no limit on its text keeps reports in a queue with so much room.
 fn keeps(rt: &impl Abort, alloc: Global, room: usize, text_room: usize) -> Result<(), Fail> {
     let mut session = limited_to(alloc, "a", usize::MAX)?;
-    is_so(rt, session.watch(room, text_room).is_ok(), "a queue");
+    is_so(rt, session.keep_reports(room, text_room).is_ok(), "a queue");
     let _ = session.apply(&Command::Insert('b', 1));
-    is_so(rt, session.next_report().is_some(), "a report waits");
+    is_so(rt, session.watch().next_report().is_some(), "a report waits");
     Ok(())
 }
 
@@ -188,20 +188,20 @@ fn many_reports_are_read(rt: HostRuntime) -> Result<(), Fail> {
 
 // A session has one queue at a time, and hands out what waits in it.
 fn hands_out(rt: &impl Abort, s: &mut Session) {
-    let none = s.watch(0, 9);
+    let none = s.keep_reports(0, 9);
     is_so(rt, none == Err(WatchFault::NoRoom), "a queue of none");
-    is_so(rt, s.watch(2, 9).is_ok(), "a queue");
-    let second = s.watch(2, 9);
+    is_so(rt, s.keep_reports(2, 9).is_ok(), "a queue");
+    let second = s.keep_reports(2, 9);
     is_so(rt, second == Err(WatchFault::IsWatched), "a second queue");
     let _ = s.apply(&Command::Insert('é', 1));
     reads(rt, s, 2, "é");
     let _ = s.apply(&Command::Insert('c', 1));
     reads(rt, s, 4, "c");
     let _ = s.apply(&Command::Insert('d', 1));
-    is_so(rt, s.waiting_reports() == 1, "one waits");
-    s.unwatch();
-    is_so(rt, s.waiting_reports() == 0, "none waits");
-    is_so(rt, s.watch(1, 0).is_ok(), "a queue again");
+    is_so(rt, s.watch().waiting_reports() == 1, "one waits");
+    s.stop_reports();
+    is_so(rt, s.watch().waiting_reports() == 0, "none waits");
+    is_so(rt, s.keep_reports(1, 0).is_ok(), "a queue again");
 }
 
 #[test]

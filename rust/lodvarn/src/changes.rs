@@ -188,7 +188,7 @@ impl Session {
     /// [`next_report`]: Session::next_report
     /// [`tell`]: Session::tell
     pub fn watch(&mut self, reports: usize, text_bytes: usize) -> Result<(), Fault> {
-        self.core.watch(reports, text_bytes)?;
+        self.core.keep_reports(reports, text_bytes)?;
         self.keeps_texts = text_bytes > 0;
         Ok(())
     }
@@ -196,7 +196,7 @@ impl Session {
     /// Keeps no reports any more, and forgets those that wait.
     pub fn unwatch(&mut self) {
         self.keeps_texts = false;
-        self.core.unwatch();
+        self.core.stop_reports();
     }
 
     /// The oldest report that waits. It stays the oldest until [`forget_report`](Session::forget_report).
@@ -220,8 +220,8 @@ impl Session {
     /// ```
     #[must_use]
     pub fn next_report(&self) -> Option<Report<'_>> {
-        let report = self.core.next_report()?;
-        Some(Report::of_core(report, self.core.next_texts()))
+        let watch = self.core.watch();
+        Some(Report::of_core(watch.next_report()?, watch.next_texts()))
     }
 
     /// Forgets the oldest report. False if none waits. A command between [`next_report`](Session::next_report) and this
@@ -233,7 +233,7 @@ impl Session {
     /// How many reports wait; a folded one is one.
     #[must_use]
     pub fn count_reports(&self) -> usize {
-        self.core.waiting_reports()
+        self.core.watch().waiting_reports()
     }
 
     /// Calls a listener for all reports that wait, the oldest first, each by the method of its kind. Each is forgotten

@@ -1,5 +1,5 @@
 -- A group of performed commands is one unit, whatever was done inside, so that one undo takes it back.
-use Rattle.rl_session.proofs.Common.{◌≡◌, ◌<◌, ◌≤◌, ◌+◌, ◌∙◌, ◌||◌, cond_both, length-append, ℕ, suc, arith, Bool, true, false, List, [], ◌∷◌, ◌++◌, length, drop, Some, refl, sym, ap, subst, same_Some, inl, inr, no_bound, within_bound, Begin, End, Entry, Line, Record, IsMatched, begun, has_change, kept_of, last_of, level, with_closed, replay_entries, Command, Reply, Row, State, Undo, Holds, ClosesGroup, MayStandInGroup, WasRefused, held}
+use Rattle.rl_session.proofs.Common.{◌≡◌, ◌<◌, ◌≤◌, ◌+◌, ◌∙◌, ◌||◌, cond_both, length-append, ℕ, suc, arith, Bool, true, false, List, [], ◌∷◌, ◌++◌, length, drop, Some, refl, sym, ap, subst, same_Some, inl, inr, no_bound, within_bound, Begin, End, Entry, Line, Record, IsMatched, begun, has_change, kept_of, last_of, level, with_closed, replay_entries, Command, Reply, Row, State, Undo, Holds, ClosesGroup, MayStandInGroup, WasRefused, held, held_of}
 use Rattle.std.proofs.lemmas.List.{drop-append-le}
 use Rattle.rl_line.specs.Record.{parted}
 use Rattle.rl_line.specs.Units.{AtLevel, there_and_back, unit_start, kept_undone}
@@ -10,17 +10,17 @@ use Rattle.rl_line.proofs.Records.EndLemmas.{level-group}
 use Rattle.rl_line.proofs.Records.RoundLemmas.{AtLevel-round, kept-either}
 use Rattle.rl_line.proofs.Records.UnitingLemmas.{Inside-united, taken-inside}
 use Rattle.rl_session.specs.Commands.{Step, with_changes}
-use Rattle.rl_session.specs.Performing.{AllCallsStandInGroup, Calls, Keeps, Performed, Unites, asks_to_keep, call, carried, is_one_unit, no_call, put_in, set_apart}
+use Rattle.rl_session.specs.Performing.{AllCallsStandInGroup, Calls, Keeps, Performed, Unites, asks_to_keep, call, carried, is_one_unit, keeping, no_call, put_in, set_apart}
 use Rattle.rl_session.specs.declared.options.Options.{Options}
 use Rattle.rl_session.specs.declared.session.Command.TheVariants as asks
 use Rattle.rl_session.specs.declared.session.Fault.TheVariants.{NoMemory}
 use Rattle.rl_session.specs.declared.session.Reply.TheVariants as says
-use Rattle.rl_session.proofs.Runs.CallLemmas.{Calls-options, Performed-options, carried-same, is_plain, plain-single, stopped_refused}
-use Rattle.rl_session.proofs.Runs.HistoryLemmas.{Holds-row, done_as}
+use Rattle.rl_session.proofs.Runs.CallLemmas.{Calls-options, Keeps-changes, Performed-options, carried-same, keeping-Leads, is_plain, plain-single, stopped_refused}
+use Rattle.rl_session.proofs.Runs.HistoryLemmas.{Holds-Leads, Holds-row, done_as}
 use Rattle.rl_session.proofs.Runs.PlaceLemmas.{History-fresh, History-united}
 use Rattle.rl_session.proofs.Runs.RowLemmas.{Step-options, within_bound-none}
 use Rattle.rl_session.proofs.Runs.UndoGroupLemmas.{Begin-done, Inside-row, abandoned-row, closed_unit, closing-row}
-use Rattle.rl_session.proofs.Runs.UnitLawLemmas.{Keeps-goes, undo-leads}
+use Rattle.rl_session.proofs.Runs.UnitLawLemmas.{undo-leads}
 use Rattle.rl_session.proofs.Sessions.PerformLemmas.{apart-same, united-same}
 
 -- ---- inside the group
@@ -139,16 +139,22 @@ record Begun (start : List ℕ) (old begun : State) : Type 0 where
 begins : (start : List ℕ) (texts : List (List ℕ)) (old new : State) (reply : Reply) → Holds start texts old → old.options.bound ≡ no_bound → Performed old asks.Begin reply new → ¬ (WasRefused reply) → Begun start old new
 begins start texts old new reply h free p allowed =
     let d = plain_done asks.Begin old new reply refl free allowed p in
-    let goes = Keeps-goes (asks_to_keep old asks.Begin) start texts old d.kept d.said d.keeps h in
+    let asked = asks_to_keep old asks.Begin in
+    let rows = keeping asked old d.said d.kept d.keeps in
+    let holds = Holds-Leads start rows texts old d.kept h (keeping-Leads asked old d.said d.kept d.keeps) in
     let row : Row = record { before = d.kept; command = asks.Begin; reply = reply; after = new; step = d.step } in
     let now = done_as row asks.Begin (λ r k _ _. k ≡ begun r) Begin-done refl allowed in
     let front = d.kept.pair.changes.recorded in
     record {
       front = front;
-      matched = goes.holds.matched.recorded;
-      leads = goes.holds.leads ∙ ap (λ (l : Line). Some l.text) goes.line;
+      matched = holds.matched.recorded;
+      leads = holds.leads ∙ ap (λ (s : State). Some s.line.text) (Keeps-changes asked old d.kept d.said d.keeps).1;
       is = ap (λ (r : Record). r.recorded) now;
-      stands = record { inside = subst (Inside front) (sym now) (record { inner = []; is = refl; matched = refl }); texts = goes.texts ++ held row; holds = Holds-row start goes.texts row goes.holds };
+      stands = record {
+        inside = subst (Inside front) (sym now) (record { inner = []; is = refl; matched = refl });
+        texts = (texts ++ held_of rows) ++ held row;
+        holds = Holds-row start (texts ++ held_of rows) row holds;
+      };
     }
 
 below-is : (start : List ℕ) (old begun : State) (b : Begun start old begun) (below : ℕ) → level begun.pair.changes.recorded ≡ suc below → below ≡ level b.front

@@ -51,7 +51,7 @@ Calls-options old new no_call = refl
 Calls-options old new (call {mid = mid} command reply p calls) = Calls-options mid new calls ∙ Performed-options old mid command reply p
 
 -- ---- the rows that lead to what was left before it forgot
-keeping-Leads : (asked : Bool) (old : State) (reply : Reply) (kept : State) (k : Keeps asked old reply kept) → Leads old (keeping asked old reply kept k) kept
+pub keeping-Leads : (asked : Bool) (old : State) (reply : Reply) (kept : State) (k : Keeps asked old reply kept) → Leads old (keeping asked old reply kept k) kept
 keeping-Leads false old reply kept k = k.1
 keeping-Leads true old reply kept k = (refl, refl)
 
@@ -80,7 +80,7 @@ kept_changes old kept (says.Answer a) s = (kept_undone old.pair.changes, s.settl
 kept_changes old kept (says.Refused NoMemory) s = (old.pair.changes, s.settles ∙ s.does.1)
 kept_changes old kept _ s = absurd s.does
 
-Keeps-changes : (asked : Bool) (old kept : State) (reply : Reply) → Keeps asked old reply kept → (changes : Record) × (kept ≡ with_changes changes old)
+pub Keeps-changes : (asked : Bool) (old kept : State) (reply : Reply) → Keeps asked old reply kept → (changes : Record) × (kept ≡ with_changes changes old)
 Keeps-changes false old kept reply k = (old.pair.changes, k.1)
 Keeps-changes true old kept reply k = kept_changes old kept reply k
 

@@ -1,5 +1,5 @@
 -- What a command of several steps changed is one unit, and an undo right after it takes that back.
-use Rattle.rl_session.proofs.Common.{◌≡◌, ◌-◌, ◌==◌, ℕ, arith, suc, zero, Bool, false, true, cond, not, List, [], ◌∷◌, ◌++◌, length, take, Option, None, Some, ap, refl, subst, sym, same_Some, ◌∙◌, inl, inr, listener_after, Record, record_step, replay_entries, last_of, kept_of, unwind, Line, take_all, Came, Course, Does, Command, Reply, State, Undo, Holds, Row, WasRefused, held, steps_in}
+use Rattle.rl_session.proofs.Common.{◌≡◌, ◌-◌, ◌==◌, ℕ, arith, suc, zero, Bool, false, true, cond, not, List, [], ◌∷◌, ◌++◌, length, take, Option, None, Some, ap, refl, subst, sym, same_Some, ◌∙◌, inl, inr, listener_after, Record, record_step, replay_entries, last_of, kept_of, unwind, Line, take_all, Came, Course, Does, Command, Reply, State, Undo, Holds, Row, WasRefused, held, held_of, steps_in}
 use Rattle.rl_line.specs.Plan.{Step as PlanStep}
 use Rattle.rl_line.specs.Record.{parted}
 use Rattle.rl_line.specs.Units.{Open, UndoUnit, Whole, has_change, opens, size_to_open, together, unit_start, united, units}
@@ -10,13 +10,14 @@ use Rattle.rl_line.proofs.Records.UndoLemmas.{line_back-unwind}
 use Rattle.rl_line.proofs.Records.UnitLawLemmas.{HeardApart, IsUnit, unit-heard}
 use Rattle.rl_session.specs.Commands.{Step, asked, course_of, readied, with_changes}
 use Rattle.rl_session.specs.Forgetting.{within_bound}
-use Rattle.rl_session.specs.Performing.{Keeps, MadeUnit, Performed, Stops, asks_to_keep, before_unit, carried, is_one_unit, made_in_group, put_in, set_apart, within_group}
+use Rattle.rl_session.specs.Performing.{MadeUnit, Performed, Stops, asks_to_keep, before_unit, carried, is_one_unit, keeping, made_in_group, put_in, set_apart, within_group}
 use Rattle.rl_session.specs.declared.options.Options.{Options}
-use Rattle.rl_session.specs.declared.session.Command.TheVariants.{EditWord, Indent, KeepUndone, TransposeChars, TransposeWords, Update, YankPop}
-use Rattle.rl_session.specs.declared.session.Fault.TheVariants.{NoMemory}
+use Rattle.rl_session.specs.declared.session.Command.TheVariants.{EditWord, Indent, TransposeChars, TransposeWords, Update, YankPop}
 use Rattle.rl_session.specs.declared.session.Reply.TheVariants as says
 use Rattle.rl_session.proofs.Sessions.CourseLemmas.{Heard-Came}
-use Rattle.rl_session.proofs.Runs.HistoryLemmas.{Holds-row, undo-row}
+use Rattle.rl_session.proofs.Sessions.PerformLemmas.{carried-unit}
+use Rattle.rl_session.proofs.Runs.CallLemmas.{Keeps-changes, keeping-Leads}
+use Rattle.rl_session.proofs.Runs.HistoryLemmas.{Holds-Leads, Holds-row, undo-row}
 use Rattle.rl_session.proofs.Runs.PlaceLemmas.{History-fresh, History-united, kept-leads}
 use Rattle.rl_session.proofs.Runs.RowLemmas.{Step-options, within_bound-none}
 
@@ -45,28 +46,6 @@ does-heard _ r old left reply one apart d = cc
 step-heard : (command : Command) (r : Record) (s left : State) (reply : Reply) → is_one_unit command ≡ true → Step (with_changes (parted r) s) command reply left → HeardSteps r left.pair.changes
 step-heard command r s left reply one step =
     subst (λ (k : State). HeardSteps r k.pair.changes) (sym step.settles) (does-heard command r (readied command (with_changes (parted r) s)) step.left reply one refl step.does)
-
-carried-one : (command : Command) (s : State) → is_one_unit command ≡ true → carried s command ≡ command
-carried-one (Undo n) s one = cc
-carried-one _ s one = refl
-
--- ---- what was undone is kept before it, which leaves the line and the options
-kept-line : (old kept : State) (reply : Reply) → Step old KeepUndone reply kept → kept.line ≡ old.line
-kept-line old kept (says.Answer a) s = ap (λ (k : State). k.line) (s.settles ∙ s.does.1)
-kept-line old kept (says.Refused NoMemory) s = ap (λ (k : State). k.line) (s.settles ∙ s.does.1)
-kept-line old kept _ s = absurd s.does
-
-pub record Goes (start : List ℕ) (old kept : State) : Type 0 where
-  pub line : kept.line ≡ old.line
-  pub options : kept.options ≡ old.options
-  pub texts : List (List ℕ)
-  pub holds : Holds start texts kept
-
-pub Keeps-goes : (asked : Bool) (start : List ℕ) (texts : List (List ℕ)) (old kept : State) (reply : Reply) → Keeps asked old reply kept → Holds start texts old → Goes start old kept
-Keeps-goes false start texts old kept reply k h = subst (Goes start old) (sym k.1) (record { line = refl; options = refl; texts = texts; holds = h })
-Keeps-goes true start texts old kept reply k h =
-    let row : Row = record { before = old; command = KeepUndone; reply = reply; after = kept; step = k } in
-    record { line = kept-line old kept reply k; options = Step-options old kept KeepUndone reply k; texts = texts ++ held row; holds = Holds-row start texts row h }
 
 -- ---- an undo right after it
 -- a group that is open has a unit, if the last unit holds a change
@@ -117,20 +96,24 @@ has-unit start texts old mid command reply h unit =
     let left = unit.done.left in
     let r = kept.pair.changes in
     let begin = unit_start (put_in kept command) r in
-    let goes = Keeps-goes (asks_to_keep old command) start texts old kept unit.done.keeps.0 unit.done.keeps.1 h in
+    let asks = asks_to_keep old command in
+    let rows = keeping asks old unit.done.keeps.0 kept unit.done.keeps.1 in
+    let only = (Keeps-changes asks old kept unit.done.keeps.0 unit.done.keeps.1).1 in
+    let texts_then = texts ++ held_of rows in
+    let holds = Holds-Leads start rows texts old kept h (keeping-Leads asks old unit.done.keeps.0 kept unit.done.keeps.1) in
     let apart = with_changes (parted r) kept in
     let step : Step apart command reply left =
-    subst (λ s. Step s command reply left) (ap (λ b. cond b apart kept) unit.one) (subst (λ c. Step (set_apart kept command) c reply left) (carried-one command old unit.one) unit.done.step) in
+    subst (λ s. Step s command reply left) (ap (λ b. cond b apart kept) unit.one) (subst (λ c. Step (set_apart kept command) c reply left) (sym (carried-unit command old unit.one)) unit.done.step) in
     let row : Row = record { before = apart; command = command; reply = reply; after = left; step = step } in
     let (cursor, steps, heard) = step-heard command r kept left reply unit.one step in
-    let last = unit-heard (put_in kept command) cursor steps r left.pair.changes heard goes.holds.matched.recorded unit.recorded in
-    let held_then = goes.texts ++ held row in
-    let now : Holds start held_then left = Holds-row start goes.texts row (History-fresh start goes.texts kept.line.text r Parted goes.holds) in
-    let options = ap (λ (s : State). s.options) unit.marked ∙ Step-options apart left command reply step ∙ goes.options in
+    let last = unit-heard (put_in kept command) cursor steps r left.pair.changes heard holds.matched.recorded unit.recorded in
+    let held_then = texts_then ++ held row in
+    let now : Holds start held_then left = Holds-row start texts_then row (History-fresh start texts_then kept.line.text r Parted holds) in
+    let options = ap (λ (s : State). s.options) unit.marked ∙ Step-options apart left command reply step ∙ ap (λ (s : State). s.options) only in
     let is_mid : mid ≡ with_changes (united begin left.pair.changes) left = unit.done.forgets.is ∙ within_bound-none unit.done.made (ap (λ (o : Options). o.bound) options ∙ unit.unbounded) ∙ unit.marked in
     record {
-      line = goes.line;
-      leads = goes.holds.leads;
+      line = ap (λ (s : State). s.line) only;
+      leads = holds.leads;
       texts = held_then;
       holds = subst (Holds start held_then) (sym is_mid) (History-united start held_then left.line.text left.pair.changes begin now);
       last = subst (λ (s : State). IsUnit begin r s.pair.changes) (sym is_mid) last;

@@ -74,7 +74,7 @@ done command old kept begun left ended new reply forgets does settles begins kee
       forgets = forgets;
     }))
 
-carried-unit : (command : Command) (s : State) → is_one_unit command ≡ true → command ≡ carried s command
+pub carried-unit : (command : Command) (s : State) → is_one_unit command ≡ true → command ≡ carried s command
 carried-unit (Undo n) s one = cc
 carried-unit _ s one = refl
 
