@@ -48,7 +48,7 @@ pub fn undo_leaves_a_held_text()
 /// One undo right after the end of a group gives back the text at its begin. Groups may be begun inside and ended there by
 /// `EndOne`, and hold groups themselves. The group ends by `EndOne` where all begun inside are ended, whatever groups it stands
 /// in, or by `End` if no group was open before it. Conditions: none of begin, end and undo was refused, a change was
-/// recorded in the group, and each undo, redo, truncation or `End` inside was refused.
+/// recorded in the group, each truncation or `End` inside was refused, and each undo and abandon inside left the group open.
 pub fn group_is_undone_at_once()
     ensures { (start : List ℕ) (held : List (List ℕ)) (old new : State) (commands : List Command) (replies : List Reply)
         (earlier inside later : List Row) (b e u : Row)
@@ -63,8 +63,8 @@ pub fn group_is_undone_at_once()
 {}
 
 /// A group that is abandoned gives back the text from before its begin, and what was recorded then; nothing waits to be
-/// redone. Conditions: neither begin nor abandon was refused, the groups that were begun inside are closed or abandoned, and
-/// each undo, redo, truncation or `End` inside was refused.
+/// redone. Conditions: neither begin nor abandon was refused, the groups that were begun inside are closed or abandoned, each
+/// truncation or `End` inside was refused, and each undo and abandon inside left the group open.
 pub fn group_is_abandoned()
     ensures { (start : List ℕ) (held : List (List ℕ)) (old new : State) (commands : List Command) (replies : List Reply)
         (earlier inside later : List Row) (b a : Row)
