@@ -10,3 +10,4 @@ pub mod GiveBackLemmas
 pub mod KillRunLemmas
 pub mod CallLemmas
 pub mod UnitLawLemmas
+pub mod CallGroupLemmas
