@@ -171,8 +171,8 @@ pub enum Reply {
     Refused(Fault),
 }
 
-/// A line, with the ring, the record and the watch that hear of its changes. It lends them for reading only, so no change
-/// escapes them, and they hear of no other.
+/// A line, with the ring, the record and the watch that hear of its changes. It lends them for reading only: so they
+/// hear of every change, and of nothing else.
 #[derive(Drop)]
 pub struct Session {
     line: LineBuffer,
@@ -272,7 +272,7 @@ impl Session {
             .keep_reports(self.alloc, reports, text_bytes)
     }
 
-    /// Keeps no reports any more. Those that wait are dropped, and their memory is freed; `keep_reports` may be called again.
+    /// Keeps no reports any more. Those that wait are dropped, and their memory is freed. `keep_reports` begins anew.
     pub fn stop_reports(&mut self)
         ensures stopped { self.new ≡ with_watch (record self.old.pair.watch { reports = None }) self.old }
         ensures changed { (asked : List ℕ) → ChangedFrom asked self.old → ChangedFrom asked self.new }

@@ -146,10 +146,12 @@ fn reads(rt: &impl Abort, session: &mut Session, at: usize, text: &str) {
         new_len: text.len(),
         cursors: Some((at, at.saturating_add(text.len()))),
     };
-    is_so(rt, session.watch().next_report() == Some(wanted), "the next report");
-    is_so(rt, session.watch().next_texts() == text, "its texts");
+    let watch = session.watch();
+    is_so(rt, watch.next_report() == Some(wanted), "the next report");
+    is_so(rt, watch.next_texts() == text, "its texts");
     is_so(rt, session.forget_report(), "it waited");
-    is_so(rt, session.watch().next_report().is_none(), "no report waits");
+    let watch = session.watch();
+    is_so(rt, watch.next_report().is_none(), "no report waits");
     is_so(rt, !session.forget_report(), "none waited");
 }
 
@@ -158,7 +160,8 @@ fn keeps(rt: &impl Abort, alloc: Global, room: usize, text_room: usize) -> Resul
     let mut session = limited_to(alloc, "a", usize::MAX)?;
     is_so(rt, session.keep_reports(room, text_room).is_ok(), "a queue");
     let _ = session.apply(&Command::Insert('b', 1));
-    is_so(rt, session.watch().next_report().is_some(), "a report waits");
+    let watch = session.watch();
+    is_so(rt, watch.next_report().is_some(), "a report waits");
     Ok(())
 }
 
