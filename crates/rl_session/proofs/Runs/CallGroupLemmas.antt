@@ -158,18 +158,18 @@ begins start texts old new reply h free p allowed =
     }
 
 below-is : (start : List ℕ) (old begun : State) (b : Begun start old begun) (below : ℕ) → level begun.pair.changes.recorded ≡ suc below → below ≡ level b.front
-below-is start old begun b below open = omega (arith, open, ap level b.is, level-group b.front [] refl)
+below-is start old begun b below opened = omega (arith, opened, ap level b.is, level-group b.front [] refl)
 
 -- ---- the end
 -- what an end finds, once what was undone is kept: so many open groups, and a change
 record Finds (n k : ℕ) (r : Record) : Type 0 where
-  open : AtLevel n r
+  opened : AtLevel n r
   within : k ≤ length r.recorded
   change : has_change (drop k r.recorded) ≡ true
 
 Finds-kept : (n k : ℕ) (r : Record) → Finds n k r → Finds n k (kept_undone r)
 Finds-kept n k r f = kept-either (Finds n k) r f (record {
-  open = AtLevel-round n r f.open;
+  opened = AtLevel-round n r f.opened;
   within = omega (arith, f.within, length-append r.recorded (there_and_back r.pending));
   change = ap has_change (drop-append-le k r.recorded (there_and_back r.pending) f.within) ∙ has_change-append (drop k r.recorded) (there_and_back r.pending)
       ∙ ap (λ b. b || has_change (there_and_back r.pending)) f.change;
@@ -200,10 +200,10 @@ ends start front old new command reply m h free closes change p allowed =
     let n = level r.recorded in
     let d = plain_done command old new reply (closes-plain command (level front) n closes) free allowed p in
     let kept = in-Keeps (asks_to_keep old command) start front old d.kept d.said m d.keeps h in
-    let long = omega (arith, ap length h.inside.is, length-append front (Begin ∷ h.inside.inner)) in
-    let found = Finds-Keeps n (suc (length front)) (asks_to_keep old command) old d.kept d.said d.keeps (record { open = record { matched = h.holds.matched; level = refl }; within = long; change = change }) in
+    let long : suc (length front) ≤ length r.recorded = omega (arith, ap length h.inside.is, length-append front (Begin ∷ h.inside.inner)) in
+    let found = Finds-Keeps n (suc (length front)) (asks_to_keep old command) old d.kept d.said d.keeps (record { opened = record { matched = h.holds.matched; level = refl }; within = long; change = change }) in
     let row : Row = record { before = d.kept; command = command; reply = reply; after = new; step = d.step } in
-    let c = closing-row row command (level front) refl (subst (λ k. ClosesGroup (level front) k command) found.open.level closes) allowed in
+    let c = closing-row row command (level front) refl (subst (λ k. ClosesGroup (level front) k command) found.opened.level closes) allowed in
     let unit = closed_unit front d.kept.pair.changes c.0 kept.inside c.1 found.change in
     record {
       kept = ap (λ (k : Record). kept_of 1 k.recorded) c.2 ∙ unit.0;
@@ -215,8 +215,8 @@ ends start front old new command reply m h free closes change p allowed =
 -- ---- the laws
 inside-group : (start : List ℕ) (old begun mid : State) (b : Begun start old begun) (below : ℕ) (inside : Calls begun mid) → begun.options.bound ≡ no_bound → level begun.pair.changes.recorded ≡ suc below
     → AllCallsStandInGroup below inside → StandsInside start b.front mid
-inside-group start old begun mid b below inside free open all =
-    in-Calls start b.front begun mid inside b.matched free (subst (λ n. AllCallsStandInGroup n inside) (below-is start old begun b below open) all) b.stands
+inside-group start old begun mid b below inside free opened all =
+    in-Calls start b.front begun mid inside b.matched free (subst (λ n. AllCallsStandInGroup n inside) (below-is start old begun b below opened) all) b.stands
 
 pub group-performed : (start : List ℕ) (texts : List (List ℕ)) (old begun mid ended new : State) (below : ℕ) (first last said : Reply) (inside : Calls begun mid) (command : Command)
     → Holds start texts old → old.options.bound ≡ no_bound → Performed old asks.Begin first begun → ¬ (WasRefused first)
@@ -224,12 +224,12 @@ pub group-performed : (start : List ℕ) (texts : List (List ℕ)) (old begun mi
     → ClosesGroup below (level mid.pair.changes.recorded) command → Performed mid command last ended → ¬ (WasRefused last)
     → has_change (drop (length begun.pair.changes.recorded) mid.pair.changes.recorded) ≡ true
     → Performed ended (Undo 1) said new → ¬ (WasRefused said) → new.line.text ≡ old.line.text
-group-performed start texts old begun mid ended new below first last said inside command h free p allowed open all closes e ends_well change u undoes =
+group-performed start texts old begun mid ended new below first last said inside command h free p allowed opened all closes e ends_well change u undoes =
     let b = begins start texts old begun first h free p allowed in
-    let same = below-is start old begun b below open in
+    let same = below-is start old begun b below opened in
     let free_then = ap (λ (o : Options). o.bound) (Performed-options old begun asks.Begin first p) ∙ free in
     let free_mid = ap (λ (o : Options). o.bound) (Calls-options begun mid inside) ∙ free_then in
-    let at_mid = inside-group start old begun mid b below inside free_then open all in
+    let at_mid = inside-group start old begun mid b below inside free_then opened all in
     let long : length begun.pair.changes.recorded ≡ suc (length b.front) = omega (arith, ap length b.is, length-append b.front (Begin ∷ [])) in
     let k = ends start b.front mid ended command last b.matched at_mid free_mid (subst (λ n. ClosesGroup n (level mid.pair.changes.recorded) command) same closes)
         (ap (λ n. has_change (drop n mid.pair.changes.recorded)) (sym long) ∙ change) e ends_well in
@@ -241,14 +241,14 @@ pub abandon-performed : (start : List ℕ) (texts : List (List ℕ)) (old begun 
     → level begun.pair.changes.recorded ≡ suc below → AllCallsStandInGroup below inside
     → level mid.pair.changes.recorded ≡ suc below → Performed mid asks.Abandon last new → ¬ (WasRefused last)
     → (new.line.text ≡ old.line.text) × (new.pair.changes.recorded ++ Begin ∷ [] ≡ begun.pair.changes.recorded)
-abandon-performed start texts old begun mid new below first last inside h free p allowed open all open_then a abandons =
+abandon-performed start texts old begun mid new below first last inside h free p allowed opened all opened_then a abandons =
     let b = begins start texts old begun first h free p allowed in
     let free_then = ap (λ (o : Options). o.bound) (Performed-options old begun asks.Begin first p) ∙ free in
     let free_mid = ap (λ (o : Options). o.bound) (Calls-options begun mid inside) ∙ free_then in
-    let at_mid = inside-group start old begun mid b below inside free_then open all in
+    let at_mid = inside-group start old begun mid b below inside free_then opened all in
     let d = plain_done asks.Abandon mid new last refl free_mid abandons a in
     let row : Row = record { before = d.kept; command = asks.Abandon; reply = last; after = new; step = d.step } in
     let kept = subst (StandsInside start b.front) (sym d.keeps.1) at_mid in
     let left = abandoned-row start kept.texts b.front row kept.holds kept.inside
-        (ap (λ (s : State). level s.pair.changes.recorded) d.keeps.1 ∙ open_then ∙ ap suc (below-is start old begun b below open)) refl abandons in
+        (ap (λ (s : State). level s.pair.changes.recorded) d.keeps.1 ∙ opened_then ∙ ap suc (below-is start old begun b below opened)) refl abandons in
     (same_Some new.line.text old.line.text (sym left.0 ∙ b.leads), ap (λ es. es ++ Begin ∷ []) left.1 ∙ sym b.is)

@@ -1,5 +1,5 @@
 -- A group that was closed is one unit, whatever happened inside, so that one undo takes it off.
-use Rattle.rl_session.specs.Commands.{gives_up, keeps, on_record, puts_again, takes_back}
+use Rattle.rl_session.specs.Commands.{gives_up, keeps, on_record, puts_again, readied, takes_back}
 use Rattle.rl_session.proofs.Common.{keeps_undone, parts_next, puts_begin, puts_end, puts_ends, reopens, shortens, Bool, rules, ◌≡◌, ◌<◌, ◌+◌, ℕ, inl, inr, zero, suc, true, List, [], ◌∷◌, ◌++◌, length, drop, take, max, Some, refl, sym, ap, subst, ◌∙◌, arith, or-false, min, listener_after, listener_after_step, Begin, End, Entry, Record, record_step, replay_entries, IsMatched, begun, end_one, end_times, ended, ended_one, has_change, kept_of, last_of, level, opens, with_closed, Effect, by_steps, Became, effect, Does, with_changes, AllStandInGroup, ClosesGroup, Holds, MayStandInGroup, WasRefused, Leads, Row, Run, held, held_of, steps_in, State, with_ring, reset, Append, Command, Reply, Cursors, cond, same_Some}
 use Rattle.rl_line.specs.Plan.{Step}
 use Rattle.rl_line.proofs.Records.GroupLemmas.{has_change-append, Inside, InsideOf, Inside-event, Inside-begun, Inside-reopened, past_begin}
@@ -9,7 +9,7 @@ use Rattle.rl_line.proofs.Records.MatchLemmas.{Lower-end_one, Lower-end_times}
 use Rattle.rl_line.proofs.Records.UndoLemmas.{line_back-unwind}
 use Rattle.rl_base.specs.KillRing.{killed}
 use Rattle.rl_line.specs.Record.{parted}
-use Rattle.rl_line.specs.Units.{reopened, open_size, redo_dropped, undone, kept_undone}
+use Rattle.rl_line.specs.Units.{reopened, open_size, redo_dropped, together, undone, kept_undone}
 use Rattle.rl_session.specs.declared.session.Command.TheVariants as asks
 use Rattle.rl_session.specs.declared.session.Reply.TheVariants as says
 use Rattle.rl_session.proofs.Runs.RowLemmas.{Leads-split}
@@ -75,7 +75,6 @@ StaysOpen below now (on_record _ _) = Unit {0}
 StaysOpen below now (gives_up _) = below < now
 StaysOpen below now (takes_back _ _) = below < now
 StaysOpen below now (puts_again _) = Unit {0}
-StaysOpen below now _ = ⊥
 
 stays_open : (below now : ℕ) (old : State) (command : Command) (reply : Reply) → MayStandInGroup below now command reply → StaysOpen below now (effect old command reply)
 stays_open below now old asks.End (says.Answer a) i = absurd i
@@ -122,7 +121,12 @@ Inside-Became front _ old new m p i d k = absurd i
 
 pub Inside-row : (front : List Entry) (row : Row) → IsMatched front → IsMatched row.before.pair.changes.pending → MayStandInGroup (level front) (level row.after.pair.changes.recorded) row.command row.reply
     → Inside front row.before.pair.changes → Inside front row.after.pair.changes
-Inside-row front row m p i k = grind (arith, Inside-Became, stays_open)
+Inside-row front row m p i k =
+    let before = readied row.command row.before in
+    let left = row.step.left in
+    let may = subst (λ (s : State). MayStandInGroup (level front) (level s.pair.changes.recorded) row.command row.reply) row.step.settles i in
+    let stays = stays_open (level front) (level left.pair.changes.recorded) before row.command row.reply may in
+    subst (λ (s : State). Inside front s.pair.changes) (sym row.step.settles) (Inside-Became front (effect before row.command row.reply) before left m p stays row.step.does k)
 
 Inside-Leads : (start : List ℕ) (texts : List (List ℕ)) (front : List Entry) (rows : List Row) (old new : State) → IsMatched front → Holds start texts old → AllStandInGroup (level front) rows → Leads old rows new
     → Inside front old.pair.changes → Inside front new.pair.changes
@@ -212,10 +216,10 @@ Abandon-done old left _ d w = absurd (search rules)
 pub abandoned-row : (start : List ℕ) (texts : List (List ℕ)) (front : List Entry) (e : Row) → Holds start texts e.before → Inside front e.before.pair.changes
     → level e.before.pair.changes.recorded ≡ suc (level front) → e.command ≡ asks.Abandon → ¬ (WasRefused e.reply)
     → (replay_entries front start ≡ Some e.after.line.text) × (e.after.pair.changes.recorded ≡ front) × (e.after.pair.changes.pending ≡ [])
-abandoned-row start texts front e holds i open is_abandon abandons =
+abandoned-row start texts front e holds i opened is_abandon abandons =
     let r = e.before.pair.changes in
     let size = open_size r.recorded in
-    let closed : level i.inner ≡ 0 = omega (arith, open, ap level i.is, level-group front i.inner i.matched) in
+    let closed : level i.inner ≡ 0 = omega (arith, opened, ap level i.is, level-group front i.inner i.matched) in
     let g : GroupOpen front i.inner r.recorded = subst (GroupOpen front i.inner) (sym i.is) (open_after front i.inner i.matched closed) in
     let d = (done_as e asks.Abandon (λ r k l m. (a : Bool) × Abandoned r k l m a) Abandon-done is_abandon abandons).1 in
     let now : e.after.pair.changes ≡ redo_dropped (undone size r) = d.record_is ∙ ap (λ x. cond x (redo_dropped (undone size r)) r) g.opened in
