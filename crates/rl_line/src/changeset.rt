@@ -13,6 +13,7 @@ ghost use Rattle.rl_line.specs.Units.{BothMatched, IsMatched, adds_end, begun, e
 mod questions;
 mod saved;
 mod trying;
+mod within;
 
 use self::questions::last_text;
 use crate::change::{Change, Freshness, Way, count_over, keeps_to, retraces, text_over};

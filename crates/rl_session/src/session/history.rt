@@ -3,6 +3,7 @@ ghost use Rattle.std.specs.Prelude.{◌≡◌, List, ℕ};
 ghost use Rattle.rl_line.specs.Record.{is_saved};
 ghost use Rattle.rl_line.specs.Units.{has_change, last_of, level, redo_of};
 ghost use Rattle.rl_session.specs.Commands.{Does};
+ghost use Rattle.rl_session.specs.Performing.{DoesWithin};
 ghost use Rattle.rl_session.specs.Replies.{replied};
 ghost use Rattle.rl_session.specs.State.{ChangedFrom, ReportedFrom, saved_now};
 ghost use Rattle.rl_session.specs.declared.session.Command.{Command};
@@ -124,6 +125,28 @@ impl Session {
         self.stands();
         let watch = &mut self.pair.watch;
         let done = self.pair.changes.redo_telling(&mut self.line, watch)?;
+        Ok(done)
+    }
+
+    // Undoes n units as `do_undo` does, unless the limit bars that: then it answers None, and changes nothing.
+    #[inline(always)]
+    pub(super) fn undo_within(&mut self, n: RepeatCount) -> Result<Option<bool>, Fault>
+        ensures { DoesWithin self.old (Command.Undo n) result self.new }
+    {
+        self.stands();
+        let watch = &mut self.pair.watch;
+        let done = self.pair.changes.undo_within(&mut self.line, n, watch)?;
+        Ok(done)
+    }
+
+    // Redoes as `do_redo` does, unless the limit bars it.
+    #[inline(always)]
+    pub(super) fn redo_within(&mut self) -> Result<Option<bool>, Fault>
+        ensures { DoesWithin self.old Command.Redo result self.new }
+    {
+        self.stands();
+        let watch = &mut self.pair.watch;
+        let done = self.pair.changes.redo_within(&mut self.line, watch)?;
         Ok(done)
     }
 
