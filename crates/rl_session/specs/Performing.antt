@@ -1,5 +1,5 @@
 -- What a session makes of a command by its options.
-use Rattle.std.specs.Prelude.{◌≡◌, ◌⊎◌, ℕ, ◌+◌, ◌-◌, ◌*◌, max, min, nat_le, Bool, true, false, ◌&&◌, ◌<◌, length, take, encode_utf8, List, [], ◌∷◌, ◌++◌, Option, Some, None, unwrap_or, String, Result, Ok, Err, if◌then◌else◌}
+use Rattle.std.specs.Prelude.{◌≡◌, ◌⊎◌, ℕ, ◌+◌, ◌-◌, ◌*◌, max, min, nat_le, Bool, true, false, ◌&&◌, ◌<◌, length, take, encode_utf8, List, [], ◌∷◌, ◌++◌, Option, Some, None, unwrap_or, String, Result, MatchOption, if◌then◌else◌}
 use mathlib.Core.Logic.{inl, inr}
 use Rattle.std.specs.Str.{IsCharBoundary}
 use Rattle.std.specs.String.{string_bytes}
@@ -21,6 +21,7 @@ use Rattle.rl_session.specs.Forgetting.{Forgets}
 use Rattle.rl_session.specs.History.{Holds, StandsAfter, WasRefused}
 use Rattle.rl_session.specs.KillRuns.{IsDirectedKill}
 use Rattle.rl_session.specs.Options.{no_bound}
+use Rattle.rl_session.specs.Replies.{replied}
 use Rattle.rl_session.specs.Run.{Row}
 use Rattle.rl_session.specs.State.{State}
 use Rattle.rl_session.specs.declared.session.Command.{Command}
@@ -70,11 +71,10 @@ Bars false s command = ¬ (IsBarred s command)
 abbrev pub BarsWith : List ℕ → (String Global → Command) → Bool → State → Type 0
 BarsWith bytes make asked s = (text : String Global) → string_bytes text ≡ bytes → Bars asked s (make text)
 
--- what comes of an undo and of a redo that the limit may bar
-abbrev pub DoesWithin : State → Command → Result (Option Bool) Fault → State → Type 0
-DoesWithin old command (Ok (Some answer)) new = ¬ (IsBarred old command) × Does old command (Answer answer) new
-DoesWithin old command (Ok None) new = IsBarred old command × (new ≡ old)
-DoesWithin old command (Err why) new = ¬ (IsBarred old command) × Does old command (Refused why) new
+-- an undo or a redo was done, or the limit barred it
+abbrev pub DoesWithin : State → Command → Option (Result Bool Fault) → State → Type 0
+DoesWithin old command result new =
+    MatchOption result (IsBarred old command × (new ≡ old)) (λ done. ¬ (IsBarred old command) × Does old command (replied Answer done) new)
 
 -- an undo takes no more units than were made in the group that was opened last and is open
 abbrev pub within_group : Option ℕ → ℕ → ℕ

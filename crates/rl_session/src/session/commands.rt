@@ -446,7 +446,7 @@ impl Session {
             return Ok(false);
         };
         // The ring is reset after it, since what is barred leaves it.
-        let Some(done) = self.undo_within(n).transpose() else {
+        let Some(done) = self.undo_within(n) else {
             return Err(Fault::TooLong);
         };
         self.reset_ring();
@@ -461,7 +461,7 @@ impl Session {
     pub fn redo(&mut self) -> Result<bool, Fault>
         ensures { Performed self.old Command.Redo (replied Reply.Answer result) self.new }
     {
-        let Some(done) = self.redo_within().transpose() else {
+        let Some(done) = self.redo_within() else {
             return Err(Fault::TooLong);
         };
         self.reset_ring();

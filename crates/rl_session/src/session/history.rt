@@ -128,26 +128,32 @@ impl Session {
         Ok(done)
     }
 
-    // Undoes n units as `do_undo` does, unless the limit bars that: then it answers None, and changes nothing.
+    // Undoes n units as `do_undo` does. None, and nothing is changed, if the limit bars that.
     #[inline(always)]
-    pub(super) fn undo_within(&mut self, n: RepeatCount) -> Result<Option<bool>, Fault>
+    pub(super) fn undo_within(&mut self, n: RepeatCount) -> Option<Result<bool, Fault>>
         ensures { DoesWithin self.old (Command.Undo n) result self.new }
     {
         self.stands();
         let watch = &mut self.pair.watch;
-        let done = self.pair.changes.undo_within(&mut self.line, n, watch)?;
-        Ok(done)
+        match self.pair.changes.undo_within(&mut self.line, n, watch) {
+            Ok(Some(done)) => Some(Ok(done)),
+            Ok(None) => None,
+            Err(_) => Some(Err(Fault::NoMemory)),
+        }
     }
 
-    // Redoes as `do_redo` does, unless the limit bars it.
+    // Redoes as `do_redo` does, or answers None in the same way.
     #[inline(always)]
-    pub(super) fn redo_within(&mut self) -> Result<Option<bool>, Fault>
+    pub(super) fn redo_within(&mut self) -> Option<Result<bool, Fault>>
         ensures { DoesWithin self.old Command.Redo result self.new }
     {
         self.stands();
         let watch = &mut self.pair.watch;
-        let done = self.pair.changes.redo_within(&mut self.line, watch)?;
-        Ok(done)
+        match self.pair.changes.redo_within(&mut self.line, watch) {
+            Ok(Some(done)) => Some(Ok(done)),
+            Ok(None) => None,
+            Err(_) => Some(Err(Fault::NoMemory)),
+        }
     }
 
     #[tactic(auto, using(crate::proofs::Sessions::SessionLemmas::resting))]
