@@ -13,9 +13,10 @@ ghost use Rattle.rl_line.specs.Units.{BothMatched, IsMatched, adds_end, begun, e
 mod questions;
 mod saved;
 mod trying;
+mod within;
 
 use self::questions::last_text;
-use crate::change::{Change, Freshness, Way, count_over, keeps_to, retraces, text_over};
+use crate::change::{Change, Freshness, Way, count_over};
 use crate::entries::{self, Entries};
 use crate::forgetting::oldest_len;
 use crate::line_buffer::LineBuffer;

@@ -1,5 +1,5 @@
 -- What a session makes of a command by its options.
-use Rattle.std.specs.Prelude.{◌≡◌, ◌⊎◌, ℕ, ◌+◌, ◌-◌, ◌*◌, max, min, nat_le, Bool, true, false, ◌&&◌, ◌<◌, length, take, encode_utf8, List, [], ◌∷◌, ◌++◌, Option, Some, None, unwrap_or, String, if◌then◌else◌}
+use Rattle.std.specs.Prelude.{◌≡◌, ◌⊎◌, ℕ, ◌+◌, ◌-◌, ◌*◌, max, min, nat_le, Bool, true, false, ◌&&◌, ◌<◌, length, take, encode_utf8, List, [], ◌∷◌, ◌++◌, Option, Some, None, unwrap_or, String, Result, MatchOption, if◌then◌else◌}
 use mathlib.Core.Logic.{inl, inr}
 use Rattle.std.specs.Str.{IsCharBoundary}
 use Rattle.std.specs.String.{string_bytes}
@@ -16,15 +16,17 @@ use Rattle.rl_line.specs.Transpositions.{transpose_words_plan}
 use Rattle.rl_line.specs.Units.{has_change, last_of, level, makes_group, open_group, redo_of, unit_start, united, units_in_group}
 use Rattle.rl_line.specs.Record.{Entry, parted}
 use Rattle.rl_line.specs.declared.changeset.UnitStart.{UnitStart}
-use Rattle.rl_session.specs.Commands.{StandsYanked, Step, with_changes}
+use Rattle.rl_session.specs.Commands.{Does, StandsYanked, Step, with_changes}
 use Rattle.rl_session.specs.Forgetting.{Forgets}
 use Rattle.rl_session.specs.History.{Holds, MayStandInGroup, StandsAfter, WasRefused}
 use Rattle.rl_session.specs.KillRuns.{IsDirectedKill}
 use Rattle.rl_session.specs.Options.{no_bound}
+use Rattle.rl_session.specs.Replies.{replied}
 use Rattle.rl_session.specs.Run.{Row}
 use Rattle.rl_session.specs.State.{State}
 use Rattle.rl_session.specs.declared.session.Command.{Command}
 use Rattle.rl_session.specs.declared.session.Command.TheVariants.{Abandon, Copy, EditWord, Indent, Insert, InsertStr, Keep, KeepUndone, LinePlace, Move, Part, Paste, Redo, Reopen, Replace, SetPos, TransposeChars, TransposeWords, Truncate, Undo, Update, Yank, YankPop}
+use Rattle.rl_session.specs.declared.session.Fault.{Fault}
 use Rattle.rl_session.specs.declared.session.Fault.TheVariants.{NoMemory, TooLong}
 use Rattle.rl_session.specs.declared.session.Reply.{Reply}
 use Rattle.rl_session.specs.declared.session.Reply.TheVariants.{Answer, Refused}
@@ -68,6 +70,11 @@ Bars false s command = ¬ (IsBarred s command)
 
 abbrev pub BarsWith : List ℕ → (String Global → Command) → Bool → State → Type 0
 BarsWith bytes make asked s = (text : String Global) → string_bytes text ≡ bytes → Bars asked s (make text)
+
+-- an undo or a redo was done, or the limit barred it
+abbrev pub DoesWithin : State → Command → Option (Result Bool Fault) → State → Type 0
+DoesWithin old command result new =
+    MatchOption result (IsBarred old command × (new ≡ old)) (λ done. ¬ (IsBarred old command) × Does old command (replied Answer done) new)
 
 -- an undo takes no more units than were made in the group that was opened last and is open
 abbrev pub within_group : Option ℕ → ℕ → ℕ

@@ -18,15 +18,7 @@ use rl_base::{Refusal, RepeatCount};
 use std::alloc::Global;
 
 impl Changeset {
-    /// Whether an undo of `n` would leave the line's limit as it is: whether the text keeps to it all the way.
-    #[inline(always)]
-    pub fn undo_fits(&self, line: &LineBuffer, n: RepeatCount) -> bool
-        ensures { result ≡ nat_le (greatest_back_over (last_of n self.now.recorded) (length line.now.text)) line.now.limit }
-    {
-        self.way_fits(line, Way::Back, usize::from(n))
-    }
-
-    /// Whether an abandon would, as `undo_fits` tells it of an undo.
+    /// Whether the text keeps to the line's limit all the way of an abandon.
     pub fn abandon_fits(&self, line: &LineBuffer) -> bool
         ensures { result ≡ nat_le (greatest_back_over (open_group self.now.recorded) (length line.now.text)) line.now.limit }
     {
@@ -34,25 +26,14 @@ impl Changeset {
             return line.len() <= line.limit();
         }
         let size = units::open_size(self.recorded());
-        self.way_fits(line, Way::Back, size)
+        self.units_fit(line, Way::Back, size)
     }
 
-    /// Whether a redo would, as `undo_fits` tells it of an undo.
-    #[inline(always)]
-    pub fn redo_fits(&self, line: &LineBuffer) -> bool
-        ensures { result ≡ nat_le (greatest_ahead_over (redo_of self.now.pending) (length line.now.text)) line.now.limit }
-    {
-        self.way_fits(line, Way::Ahead, 1)
-    }
-
-    // Mostly it is about one change alone, and then it costs no call.
-    #[inline(always)]
-    fn way_fits(&self, line: &LineBuffer, way: Way, n: usize) -> bool
+    // Whether it does all the way over these units.
+    #[inline(never)]
+    pub(super) fn units_fit(&self, line: &LineBuffer, way: Way, n: usize) -> bool
         ensures { result ≡ nat_le (longest_over way (unit_of way n self.now) (length line.now.text)) line.now.limit }
     {
-        if let Some(change) = self.alone(way, n) {
-            return change.keeps_to(way, line.len(), line.limit());
-        }
         keeps_to(self.unit(way, n), way, line.len(), line.limit())
     }
 

@@ -445,11 +445,10 @@ impl Session {
         let Some(n) = self.to_undo(n) else {
             return Ok(false);
         };
-        if !self.pair.changes.undo_fits(&self.line, n) {
+        // The ring is reset after it, since what is barred leaves it.
+        let Some(done) = self.undo_within(n) else {
             return Err(Fault::TooLong);
-        }
-        // The ring is reset after it, so that nothing is written between what is asked of the record and what is done.
-        let done = self.do_undo(n);
+        };
         self.reset_ring();
         self.forget();
         done
@@ -462,10 +461,9 @@ impl Session {
     pub fn redo(&mut self) -> Result<bool, Fault>
         ensures { Performed self.old Command.Redo (replied Reply.Answer result) self.new }
     {
-        if !self.pair.changes.redo_fits(&self.line) {
+        let Some(done) = self.redo_within() else {
             return Err(Fault::TooLong);
-        }
-        let done = self.do_redo();
+        };
         self.reset_ring();
         self.forget();
         done

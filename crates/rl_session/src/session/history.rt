@@ -3,6 +3,7 @@ ghost use Rattle.std.specs.Prelude.{◌≡◌, List, ℕ};
 ghost use Rattle.rl_line.specs.Record.{is_saved};
 ghost use Rattle.rl_line.specs.Units.{has_change, last_of, level, redo_of};
 ghost use Rattle.rl_session.specs.Commands.{Does};
+ghost use Rattle.rl_session.specs.Performing.{DoesWithin};
 ghost use Rattle.rl_session.specs.Replies.{replied};
 ghost use Rattle.rl_session.specs.State.{ChangedFrom, ReportedFrom, saved_now};
 ghost use Rattle.rl_session.specs.declared.session.Command.{Command};
@@ -125,6 +126,34 @@ impl Session {
         let watch = &mut self.pair.watch;
         let done = self.pair.changes.redo_telling(&mut self.line, watch)?;
         Ok(done)
+    }
+
+    // Undoes n units as `do_undo` does. None, and nothing is changed, if the limit bars that.
+    #[inline(always)]
+    pub(super) fn undo_within(&mut self, n: RepeatCount) -> Option<Result<bool, Fault>>
+        ensures { DoesWithin self.old (Command.Undo n) result self.new }
+    {
+        self.stands();
+        let watch = &mut self.pair.watch;
+        match self.pair.changes.undo_within(&mut self.line, n, watch) {
+            Ok(Some(done)) => Some(Ok(done)),
+            Ok(None) => None,
+            Err(_) => Some(Err(Fault::NoMemory)),
+        }
+    }
+
+    // Redoes as `do_redo` does, or answers None in the same way.
+    #[inline(always)]
+    pub(super) fn redo_within(&mut self) -> Option<Result<bool, Fault>>
+        ensures { DoesWithin self.old Command.Redo result self.new }
+    {
+        self.stands();
+        let watch = &mut self.pair.watch;
+        match self.pair.changes.redo_within(&mut self.line, watch) {
+            Ok(Some(done)) => Some(Ok(done)),
+            Ok(None) => None,
+            Err(_) => Some(Err(Fault::NoMemory)),
+        }
     }
 
     #[tactic(auto, using(crate::proofs::Sessions::SessionLemmas::resting))]
