@@ -153,7 +153,7 @@ impl Changeset {
 
     /// Opens a group as `begin` does, but what was undone stays, and waits to be redone after the begin. Refused, it changes
     /// nothing.
-    #[tactic(auto, using(crate::proofs::Records::WaitingLemmas::groups_waiting))]
+    #[tactic(auto, using(crate::proofs::Records::LevelLemmas::levels))]
     pub fn open_group(&mut self) -> Result<usize, Refusal>
         ensures done { IfOk result (λ answer. (answer ≡ length self.old.recorded) × (self.new ≡ still_waiting (self.old.recorded ++ Begin ∷ []) self.old)) }
         ensures err { IfErr result (λ r. (r ≡ NoMemory) × (self.new ≡ self.old)) }
@@ -166,7 +166,6 @@ impl Changeset {
 
     /// Closes so many groups, the one that was opened last first, if they are empty and something waits to be redone: they
     /// are removed from the record, and what was undone stays. Answers whether it did; else it changes nothing.
-    #[tactic(auto, using(crate::proofs::Records::WaitingLemmas::groups_waiting))]
     pub fn close_empty(&mut self, count: usize) -> bool
         requires { count ≤ level self.old.recorded }
         ensures answer { result ≡ (not (adds_end count self.old.recorded) && waits self.old.pending) }
