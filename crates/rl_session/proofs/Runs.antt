@@ -9,4 +9,5 @@ pub mod CursorLemmas
 pub mod GiveBackLemmas
 pub mod KillRunLemmas
 pub mod CallLemmas
+pub mod EmptyGroupLemmas
 pub mod UnitLawLemmas

@@ -242,6 +242,13 @@ pub record HoldsFrom (held : List (List ℕ)) (s : State) : Type 0 where
   pub stands : StandsAfter before begin held
   pub holds : Holds begin (begin ∷ stands.rest) s
 
+-- what ends or abandons the group that was opened last alone, where so many were open before its begin
+abbrev pub EndsLast : ℕ → Command → Type 0
+EndsLast below End = below ≡ 0
+EndsLast below EndOne = Unit {0}
+EndsLast below Abandon = Unit {0}
+EndsLast below _ = ⊥
+
 -- ---- what a command of several steps made
 -- such a command was done on a session without a bound, and something was recorded, which became one unit
 pub record MadeUnit (old : State) (command : Command) (reply : Reply) (new : State) : Type 0 where

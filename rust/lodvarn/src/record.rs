@@ -116,8 +116,8 @@ impl Session {
     }
 
     /// Begins an undo group: once it is closed, one undo takes back all its changes. It may stay open from one key to
-    /// the next, where the guard of [`group`](Session::group) can't be held. The undone changes are dropped, or kept with
-    /// [`Options::keeps_undone`], also if nothing changes in the group.
+    /// the next, where the guard of [`group`](Session::group) can't be held. The undone changes stay until something changes in
+    /// the group, or are kept with [`Options::keeps_undone`].
     /// # Errors
     /// [`Fault::NoMemory`].
     pub fn begin_group(&mut self) -> Result<(), Fault> {

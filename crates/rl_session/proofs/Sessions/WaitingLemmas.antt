@@ -145,12 +145,19 @@ made-marks EndOne r empty = inr (min 1 (level r.recorded), not-true _ empty, ref
 made-marks Abandon r empty = let none = not-true _ (and_parts (is_open r.recorded) _ empty).1 in inr (1, none, (given_up r none).recorded)
 made-marks _ r empty = cc
 
+pub made-pending : (command : Command) (r : Record) → is_empty_group r.recorded command ≡ true → (made_of command r).pending ≡ []
+made-pending Begin r empty = refl
+made-pending End r empty = refl
+made-pending EndOne r empty = refl
+made-pending Abandon r empty = (given_up r (not-true _ (and_parts (is_open r.recorded) _ empty).1)).pending
+made-pending _ r empty = cc
+
 -- so the text stays, and marks alone are put or taken off before what waits
 pub record LeftMarks (old left : State) : Type 0 where
   pub text_is : left.line.text ≡ old.line.text
   pub marks : MarksMoved old.pair.changes.recorded left.pair.changes.recorded
 
-same-command : (command : Command) (old : State) → is_empty_group old.pair.changes.recorded command ≡ true → (carried old command ≡ command) × (is_one_unit command ≡ false)
+pub same-command : (command : Command) (old : State) → is_empty_group old.pair.changes.recorded command ≡ true → (carried old command ≡ command) × (is_one_unit command ≡ false)
 same-command Begin old empty = (refl, refl)
 same-command End old empty = (refl, refl)
 same-command EndOne old empty = (refl, refl)
