@@ -158,10 +158,10 @@ impl Changeset {
         ensures done { IfOk result (λ answer. (answer ≡ length self.old.recorded) × (self.new ≡ still_waiting (self.old.recorded ++ Begin ∷ []) self.old)) }
         ensures err { IfErr result (λ r. (r ≡ NoMemory) × (self.new ≡ self.old)) }
     {
-        let before = self.entries.len();
+        let mark = self.entries.len();
         self.entries.open_group()?;
         self.level += 1;
-        Ok(before)
+        Ok(mark)
     }
 
     /// Closes so many groups, the one that was opened last first, if they are empty and something waits to be redone: they

@@ -298,6 +298,7 @@ impl Session {
 
     /// Opens a group of changes. Says how many entries the record had. What was undone waits until the group changes
     /// something. `NoMemory` leaves the record as it was.
+    #[tactic(auto, using(crate::proofs::Sessions::PerformLemmas::performing, crate::proofs::Sessions::WaitingLemmas::leaving))]
     pub fn begin(&mut self) -> Result<usize, Fault>
         ensures { Performed self.old Command.Begin (replied Reply.Mark result) self.new }
     {
@@ -310,6 +311,7 @@ impl Session {
 
     /// Closes all open groups. Answers whether one of them holds something; if none does, what was undone stays.
     /// `NoMemory` leaves the record as it was.
+    #[tactic(auto, using(crate::proofs::Sessions::PerformLemmas::performing, crate::proofs::Sessions::WaitingLemmas::leaving))]
     pub fn end(&mut self) -> Result<bool, Fault>
         ensures { Performed self.old Command.End (replied Reply.Answer result) self.new }
     {
@@ -322,6 +324,7 @@ impl Session {
 
     /// Closes the group that was opened last. Answers whether it holds something; if not, what was undone stays.
     /// `NoMemory` leaves the record as it was.
+    #[tactic(auto, using(crate::proofs::Sessions::PerformLemmas::performing, crate::proofs::Sessions::WaitingLemmas::leaving))]
     pub fn end_one(&mut self) -> Result<bool, Fault>
         ensures { Performed self.old Command.EndOne (replied Reply.Answer result) self.new }
     {
@@ -348,6 +351,7 @@ impl Session {
     /// and it is forgotten with its begin, so that nothing waits to be redone; but what was undone stays if the group is
     /// empty. The ring keeps what was killed. Answers whether a group is open; else it changes nothing. `NoMemory`
     /// leaves text and record as they were.
+    #[tactic(auto, using(crate::proofs::Sessions::PerformLemmas::performing, crate::proofs::Sessions::WaitingLemmas::leaving))]
     pub fn abandon(&mut self) -> Result<bool, Fault>
         ensures { Performed self.old Command.Abandon (replied Reply.Answer result) self.new }
     {
