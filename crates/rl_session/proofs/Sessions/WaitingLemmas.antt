@@ -5,7 +5,7 @@ use Rattle.std.specs.Prelude.{IsSome}
 use Rattle.std.specs.Str.{IsCharBoundary}
 use Rattle.rl_base.specs.Watch.{watch_step}
 use Rattle.rl_line.specs.Plan.{listener_after}
-use Rattle.rl_line.specs.Undo.{line_ahead, line_back, steps_back}
+use Rattle.rl_line.specs.Undo.{Abandoned, line_ahead, line_back, steps_back}
 use Rattle.rl_line.specs.Units.{abandoned, adds_end, ended, ended_one, is_open, open_group, still_waiting, unit_start, waits}
 use Rattle.rl_line.specs.Record.{Begin as AddsBegin}
 use Rattle.rl_line.proofs.Records.WaitingLemmas.{MarksMoved, back-begin, given_up}
@@ -88,7 +88,7 @@ abandoned_waiting old mid made new forgets resets is h free =
     let line_is : made.line ≡ old.line = ap (λ (s : State). s.line) (resets ∙ ap (λ (s : State). with_ring (reset s.pair.ring) s) is) in
     let at = subst (λ (l : Line). IsCharBoundary l.text l.cursor) line_is forgets.before.stands.cursor in
     let within = subst (λ (l : Line). length l.text ≤ l.limit) line_is forgets.before.stands.within in
-    let went = record { line_is = ap (λ es. line_back es old.line) g.group ∙ back-begin old.line at within; record_is = refl; answer_is = sym g.opened } in
+    let went : Abandoned r (abandoned r) old.line old.line true = record { line_is = ap (λ es. line_back es old.line) g.group ∙ back-begin old.line at within; record_is = refl; answer_is = sym g.opened } in
     waiting_done Abandon old mid made new (says.Answer true) (abandoned r) refl refl refl refl free (λ s. refl) g.pending h forgets resets
     (is ∙ ap (λ es. with_changes (still_waiting es r) old) (sym g.recorded)) (went, refl, ap (λ es. listener_after watch_step old.line.cursor (steps_back old.line.cursor es) old.pair.watch) (sym g.group))
 
