@@ -69,16 +69,19 @@ adds-none es = ap (λ b. not b || false) (ends_in_begin-begin es)
 opened : (es : List Entry) → is_open (es ++ AddsBegin ∷ []) ≡ true
 opened es = ap not (ne_eqb (level (es ++ AddsBegin ∷ [])) 0 (λ e. omega (arith, e, level-begin es)))
 
+one-level : (es : List Entry) → min 1 (level (es ++ AddsBegin ∷ [])) ≡ 1
+one-level es = omega (arith, level-begin es)
+
 ends-empty : (command : Command) (es : List Entry) → EndsLast (level es) command → is_empty_group (es ++ AddsBegin ∷ []) command ≡ true
 ends-empty End es last = ap (λ n. not (adds_end n (es ++ AddsBegin ∷ []))) (level-begin es ∙ ap suc last) ∙ ap not (adds-none es)
-ends-empty EndOne es last = ap (λ n. not (adds_end (min 1 n) (es ++ AddsBegin ∷ []))) (level-begin es) ∙ ap not (adds-none es)
+ends-empty EndOne es last = ap (λ n. not (adds_end n (es ++ AddsBegin ∷ []))) (one-level es) ∙ ap not (adds-none es)
 ends-empty Abandon es last = and_from (is_open (es ++ AddsBegin ∷ [])) _ (opened es) (ap not (adds-none es))
 ends-empty _ es last = absurd last
 
 takes-off : (command : Command) (r : Record) (es : List Entry) → r.recorded ≡ es ++ AddsBegin ∷ [] → EndsLast (level es) command → (made_of command r).recorded ≡ es
 takes-off End r es is last =
     ap (λ l. end_times (level l) l) is ∙ ap (λ n. end_times n (es ++ AddsBegin ∷ [])) (level-begin es ∙ ap suc last) ∙ end_one-begin es
-takes-off EndOne r es is last = ap (λ l. end_times (min 1 (level l)) l) is ∙ ap (λ n. end_times (min 1 n) (es ++ AddsBegin ∷ [])) (level-begin es) ∙ end_one-begin es
+takes-off EndOne r es is last = ap (λ l. end_times (min 1 (level l)) l) is ∙ ap (λ n. end_times n (es ++ AddsBegin ∷ [])) (one-level es) ∙ end_one-begin es
 takes-off Abandon r es is last = (given_up r (ap (adds_end 1) is ∙ adds-none es)).recorded ∙ ap end_one is ∙ end_one-begin es
 takes-off _ r es is last = absurd last
 

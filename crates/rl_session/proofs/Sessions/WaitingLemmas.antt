@@ -74,11 +74,15 @@ ended_waiting old mid made new forgets resets is h =
     let l = leaves old End h in
     waiting_done End old mid made new (says.Answer false) (ended old.pair.changes) refl refl refl l.keeps (λ x. x) (λ s. refl) refl h forgets resets is (sym (not-true _ l.empty), refl)
 
-pub ended_one_waiting : (old mid made new : State) → Forgets made new → made ≡ with_ring (reset mid.pair.ring) mid
-    → mid ≡ with_changes (still_waiting (end_times (min 1 (level old.pair.changes.recorded)) old.pair.changes.recorded) old.pair.changes) old → leaves_waiting old EndOne ≡ true → Performed old EndOne (says.Answer false) new
-ended_one_waiting old mid made new forgets resets is h =
-    let l = leaves old EndOne h in
-    waiting_done EndOne old mid made new (says.Answer false) (ended_one old.pair.changes) refl refl refl l.keeps (λ x. x) (λ s. refl) refl h forgets resets is (sym (not-true _ l.empty), refl)
+pub ended_one_waiting : (count : ℕ) (old mid made new : State) → count ≡ min 1 (level old.pair.changes.recorded) → Forgets made new → made ≡ with_ring (reset mid.pair.ring) mid
+    → mid ≡ with_changes (still_waiting (end_times count old.pair.changes.recorded) old.pair.changes) old
+    → (not (adds_end count old.pair.changes.recorded) && (not old.options.keeps && waits old.pair.changes.pending)) ≡ true → Performed old EndOne (says.Answer false) new
+ended_one_waiting count old mid made new few forgets resets is h =
+    let r = old.pair.changes in
+    let leaving : leaves_waiting old EndOne ≡ true = subst (λ n. (not (adds_end n r.recorded) && (not old.options.keeps && waits r.pending)) ≡ true) few h in
+    let l = leaves old EndOne leaving in
+    waiting_done EndOne old mid made new (says.Answer false) (ended_one r) refl refl refl l.keeps (λ x. x) (λ s. refl) refl leaving forgets resets
+    (is ∙ ap (λ n. with_changes (still_waiting (end_times n r.recorded) r) old) few) (sym (not-true _ l.empty), refl)
 
 pub abandoned_waiting : (old mid made new : State) → Forgets made new → made ≡ with_ring (reset mid.pair.ring) mid
     → mid ≡ with_changes (still_waiting (end_times 1 old.pair.changes.recorded) old.pair.changes) old → leaves_waiting old Abandon ≡ true → ¬ (IsStopped old Abandon) → Performed old Abandon (says.Answer true) new
