@@ -373,5 +373,7 @@ limit-Performed old new command reply (inr (inr done)) h =
     let marks = λ (s : State) (changes : Record) (l : LimitStays old s). limit-changes old s changes l in
     let apart = set_apart-keeps (LimitStays old) marks done.kept command kept.0 in
     let left = step_limit (set_apart done.kept command) done.left (carried old command) reply (barred_apart command old done.kept kept.1) done.step apart.0 in
-    let made = Unites-keeps (LimitStays old) marks (is_one_unit command) (unit_start (put_in done.kept command) done.kept.pair.changes) done.left done.made done.unites (left.0, left.1 ∙ apart.1) in
+    let waiting = waiting-keeps (LimitStays old) marks old command done.left (left.0, left.1 ∙ apart.1) in
+    let start = unit_start (put_in done.kept command) done.kept.pair.changes in
+    let made = Unites-keeps (LimitStays old) marks (is_one_unit command) start (with_waiting old command done.left) done.made done.unites waiting in
     subst (λ s. LimitStays old s) (sym done.forgets.is) (record { stands = Stands-forgets done.made made.0.stands; grows_not = made.0.grows_not }, made.1)
