@@ -43,6 +43,7 @@ moved-within k m len len' (Some n) kept a b e =
   where
     some : (n : ℕ) → n ≤ len' → kept_point len' (Some n) ≡ Some n
     some n le = ap (λ (x : Bool). cond x (Some n) None) (le-leb n len' le)
+
     stands : (n : ℕ) → kept_point len (Some n) ≡ Some n → n ≤ len
     stands n h = cond_both (nat_le n len) (Some n) None (λ p. p ≡ Some n → n ≤ len) (λ h _. leb-true n len h) (λ _ e. cc) h
 

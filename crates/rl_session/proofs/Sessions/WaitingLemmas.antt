@@ -1,5 +1,5 @@
 -- A group that is begun, or an empty one that is ended or abandoned: what waits to be redone stays.
-use Rattle.rl_session.proofs.Common.{◌≡◌, ◌≤◌, ◌&&◌, ◌||◌, ◌==◌, ◌⊎◌, Some, same_Some, ◌∙◌, ℕ, ap, cond, min, not, Bool, false, true, List, [], ◌∷◌, ◌++◌, length, inl, inr, refl, subst, sym, reset, Line, Entry, Record, begun, end_times, level, Does, Ends, State, with_ring, Command, Reply, WasRefused}
+use Rattle.rl_session.proofs.Common.{◌≡◌, ◌≤◌, ◌&&◌, ◌⊎◌, Some, same_Some, ◌∙◌, ℕ, ap, cond, min, not, Bool, false, true, [], ◌∷◌, ◌++◌, length, inl, inr, refl, subst, sym, reset, Line, Record, begun, end_times, level, Does, Ends, State, with_ring, Command, Reply, WasRefused}
 use Rattle.std.proofs.lemmas.Bool.{and_parts, not-true}
 use Rattle.std.specs.Prelude.{IsSome}
 use Rattle.std.specs.Str.{IsCharBoundary}
