@@ -473,8 +473,8 @@ int lodvarn_part(lodvarn *s);
 int lodvarn_set_saved(lodvarn *s);
 
 /* Begins an undo group: once it is closed, one undo takes back all its changes. Groups may be nested. What was undone
- * is forgotten, or kept if keeps_undone is set, also if nothing changes in the group: begin one only if a change is to
- * come. Errors: NO_MEMORY. */
+ * can be redone until something changes in the group, and after it if nothing did; or it is kept if keeps_undone is set.
+ * Errors: NO_MEMORY. */
 int lodvarn_begin_group(lodvarn *s);
 
 /* Closes the innermost group; lodvarn_end_all_groups all that are open. Returns NOTHING if it had no change, or none is
@@ -488,8 +488,8 @@ int lodvarn_end_all_groups(lodvarn *s);
 int lodvarn_reopen_group(lodvarn *s);
 
 /* Takes back the innermost group that is open, with those that were closed in it, and forgets it, as for a completion
- * that is tried and dropped. Text and record are as they were at its begin, and nothing can be redone. The cursor goes
- * to where it was before the first change of the group, and the ring keeps what was killed. Returns NOTHING if no group
+ * that is tried and dropped. Text and record are as they were at its begin, and nothing can be redone unless it is empty. The
+ * cursor goes to where it was before its first change, and the ring keeps what was killed. Returns NOTHING if no group
  * is open, and text and record stay. Errors: NO_ROOM as for an undo, NO_MEMORY. */
 int lodvarn_abandon_group(lodvarn *s);
 

@@ -764,7 +764,7 @@ class Session:
     def begin_group(self) -> None:
         """Begins an undo group: once it is closed, one undo takes back all its changes. Groups may be nested.
 
-        What was undone is forgotten, or kept with `keeps_undone`, also if nothing changes in the group.
+        What was undone can be redone until something changes in the group; with `keeps_undone` it is kept.
         """
         self._do(lib.py_begin_group)
 
@@ -787,8 +787,8 @@ class Session:
     def abandon_group(self) -> bool:
         """Takes back the innermost group that is open, and forgets it, as for a completion that is tried and dropped.
 
-        Text and record are as they were at its begin, and nothing can be redone. The cursor goes to where it was before
-        the first change of the group, and the ring keeps what was killed. Returns False if no group is open.
+        Text and record are as they were at its begin, and nothing can be redone unless it is empty. The cursor goes to
+        where it was before its first change, and the ring keeps what was killed. Returns False if no group is open.
         """
         return self._do(lib.py_abandon_group)
 

@@ -130,12 +130,20 @@ static void add_undo(struct typed *t) {
     else add(lodvarn_can_undo(t->s) ? "undo 1" : "where");
 }
 
+/* A begin, end or abandon of a group that drops what was undone also by a call, if something was: of no empty group. */
+static void add_mark(struct typed *t) {
+    static const char *const marks[] = {"begin", "begin", "end", "endone", "endone", "abandon"};
+    const char *mark = ONE_OF(marks);
+    int empty = *mark == 'b' || !lodvarn_level(t->s) || !lodvarn_can_undo(t->s);
+    add("%s", empty && lodvarn_can_redo(t->s) ? "where" : mark);
+}
+
 /* Any other line. */
 static void add_other(struct typed *t) {
-    static const char *const plain[] = {"tchars", "begin", "begin", "end", "endone", "endone", "part", "redo",
-                                        "redo", "reopen", "abandon", "keepundone", "keepundone", "where"};
+    static const char *const plain[] = {"tchars", "part", "redo", "redo", "reopen", "keepundone", "keepundone", "where"};
     static const char *const cases[] = {"cap", "low", "up"};
-    switch (below(15)) {
+    switch (below(17)) {
+    case 16: case 15: add_mark(t); break;
     case 14: add_yank_pop(t); break;
     case 13: add("keep "); add_text(); break;
     case 0: add("pos %u", place(t)); break;

@@ -534,8 +534,10 @@ static int comes_back(void) {
     return 0;
 }
 
-/* The call keeps what was undone if that is chosen; or it does not, and what was undone waits on or is forgotten. */
+/* The call keeps what was undone if that is chosen, and else it waits on or not; or it does not, and what was undone waits
+ * on or is forgotten. */
 #define KEEPS(call) UNDONE(call, comes_back() == keeps)
+#define STAYS(call) UNDONE(call, !keeps == (lodvarn_redo(s) == LODVARN_DONE))
 #define PASSES(call) UNDONE(call, lodvarn_can_redo(s) && !comes_back())
 #define FORGETS(call) UNDONE(call, !lodvarn_can_redo(s) && !comes_back())
 #define UNDONE(call, holds)                                                                              \
@@ -569,6 +571,10 @@ static void edits_keep_what_was_undone(void) {
     KEEPS(lodvarn_begin_group(s));
     KEEPS(lodvarn_end_group(s));
     KEEPS(lodvarn_end_all_groups(s));
+    STAYS(lodvarn_begin_group(s));
+    STAYS((lodvarn_begin_group(s), lodvarn_end_group(s)));
+    STAYS((lodvarn_begin_group(s), lodvarn_begin_group(s), lodvarn_end_all_groups(s)));
+    STAYS((lodvarn_begin_group(s), lodvarn_abandon_group(s)));
     PASSES(lodvarn_insert(s, '+', 0));
     PASSES(lodvarn_insert(s, '+', 65535));
     PASSES(lodvarn_insert(s, '+', 65536));

@@ -288,6 +288,15 @@ class Groups(Scripts):
             session.redo()
         self.assertEqual((session.text, session.undo(), session.text), ("é日", True, "é"))
 
+    def test_an_empty_group_leaves_the_redo(self):
+        for end in (Session.end_group, Session.end_all_groups, Session.abandon_group):
+            session = Session("")
+            session.insert("é")
+            session.undo()
+            session.begin_group()
+            end(session)
+            self.assertEqual((session.level, session.entries, session.redo(), session.text), (0, 0, True, "é"))
+
     def test_a_group_goes_on(self):
         session = Session("one")
         for letter in "ab":

@@ -32,6 +32,7 @@ pub mod AbandonLemmas
 pub mod KeepLemmas
 pub mod RoundLemmas
 pub mod UnitingLemmas
+pub mod WaitingLemmas
 pub mod UnitLawLemmas
 pub mod ForgettingLemmas
 pub mod RedoLemmas

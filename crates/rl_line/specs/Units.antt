@@ -1,5 +1,5 @@
 -- Undo groups: the units that an undo takes off and a redo puts back, and what each call makes of the record.
-use Rattle.std.specs.Prelude.{◌≡◌, ℕ, zero, suc, ◌-◌, max, min, nat_le, not, ◌||◌, ◌&&◌, ◌==◌, Bool, true, false, List, [], ◌∷◌, ◌++◌, length, map, take, drop, reverse, Option, Some, None, IsSome, IsTrue, option_and_then, if◌then◌else◌}
+use Rattle.std.specs.Prelude.{◌≡◌, ℕ, zero, suc, ◌+◌, ◌-◌, max, min, nat_le, not, ◌||◌, ◌&&◌, ◌==◌, Bool, true, false, List, [], ◌∷◌, ◌++◌, length, map, take, drop, reverse, Option, Some, None, IsSome, IsTrue, option_and_then, if◌then◌else◌}
 use Rattle.std.specs.Option.{option_map_or}
 use Rattle.rl_base.specs.Event.{Event}
 use Rattle.rl_line.specs.declared.change.Freshness.TheVariants.{Stale}
@@ -180,6 +180,15 @@ waits (e ∷ es) = true
 -- entries of which all groups are closed
 abbrev pub closed_all : List Entry → List Entry
 closed_all es = end_times (level es) es
+
+-- a save point once m entries are recorded in place of k, where those after them stay: it stays where it was among its entries
+abbrev pub point_moved : ℕ → ℕ → Option ℕ → Option ℕ
+point_moved k m None = None
+point_moved k m (Some n) = if nat_le n k then kept_point m (Some n) else Some ((n - k) + m)
+
+-- the record once these entries are recorded, where what waits to be redone stays
+abbrev pub still_waiting : List Entry → Record → Record
+still_waiting es r = arrived es r.pending (point_moved (length r.recorded) (length es) r.saved)
 
 -- what waited to be redone, with its groups closed, and then the other way round
 abbrev pub there_and_back : List Entry → List Entry

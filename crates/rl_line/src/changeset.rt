@@ -1,5 +1,5 @@
 //! The record of the changes of a line, which undoes them, in groups where they were made in groups, and redoes them.
-ghost use Rattle.std.specs.Prelude.{◌≡◌, ◌<◌, ◌≤◌, [], ◌∷◌, ◌++◌, drop, map, min, take, true, false, length, All, IsSome, Some, IfOk, IfErr, IfSome, OnOk, OnErr};
+ghost use Rattle.std.specs.Prelude.{◌≡◌, ◌<◌, ◌≤◌, ◌&&◌, not, [], ◌∷◌, ◌++◌, drop, map, min, take, true, false, length, All, IsSome, Some, IfOk, IfErr, IfSome, OnOk, OnErr};
 ghost use Rattle.rl_base.specs.Event.{InsertChar, InsertStr, Delete, Replace};
 ghost use Rattle.rl_base.specs.declared.listeners.Direction.TheVariants.{Forward};
 ghost use Rattle.rl_base.specs.declared.listeners.Refusal.TheVariants.{NoMemory};
@@ -8,7 +8,7 @@ ghost use Rattle.rl_line.specs.Change.{entries_to_undo};
 ghost use Rattle.rl_line.specs.Plan.{NeverRefuses};
 ghost use Rattle.rl_line.specs.Record.{Begin, End, IsOfKind, Record, entry_of, is_saved, no_changes, parted, record_step, saved_here};
 ghost use Rattle.rl_line.specs.Undo.{Abandoned, GoesOver, LineOutOfRoom, OutOfRoom, Redone, StandsStill, Undone, line_ahead, line_back, line_over, listener_ahead, listener_back, listener_over, texts_ahead, texts_back, texts_over, unit_of};
-ghost use Rattle.rl_line.specs.Units.{BothMatched, IsMatched, adds_end, begun, ended, ended_one, ends_in_end, has_change, is_change, last_of, level, open_group, redo_of, reopened, truncated, units_in_group, with_closed, kept_of, kept_undone, makes_group, taken_in, unit_start, united, waits};
+ghost use Rattle.rl_line.specs.Units.{BothMatched, IsMatched, adds_end, begun, ended, ended_one, ends_in_end, has_change, is_change, last_of, level, open_group, redo_of, reopened, truncated, units_in_group, with_closed, kept_of, kept_undone, makes_group, end_times, still_waiting, taken_in, unit_start, united, waits};
 
 mod questions;
 mod saved;
@@ -150,6 +150,42 @@ impl Changeset {
     {
         let open = self.level();
         self.close(open.min(1))
+    }
+
+    /// Opens a group as `begin` does, but what was undone stays, and waits to be redone after the begin. Refused, it changes
+    /// nothing.
+    #[tactic(auto, using(crate::proofs::Records::LevelLemmas::levels))]
+    pub fn open_group(&mut self) -> Result<usize, Refusal>
+        ensures done { IfOk result (λ answer. (answer ≡ length self.old.recorded) × (self.new ≡ still_waiting (self.old.recorded ++ Begin ∷ []) self.old)) }
+        ensures err { IfErr result (λ r. (r ≡ NoMemory) × (self.new ≡ self.old)) }
+    {
+        let mark = self.entries.len();
+        self.entries.open_group()?;
+        self.level += 1;
+        Ok(mark)
+    }
+
+    /// Closes so many groups, the one that was opened last first, if they are empty and something waits to be redone: they
+    /// are removed from the record, and what was undone stays. Answers whether it did; else it changes nothing.
+    pub fn close_empty(&mut self, count: usize) -> bool
+        requires { count ≤ level self.old.recorded }
+        ensures answer { result ≡ (not (adds_end count self.old.recorded) && waits self.old.pending) }
+        ensures done { result ≡ true → self.new ≡ still_waiting (end_times count self.old.recorded) self.old }
+        ensures none { result ≡ false → self.new ≡ self.old }
+    {
+        if !self.has_waiting() || entries::adds_end(self.recorded(), count) {
+            return false;
+        }
+        self.entries.drop_begins(count);
+        self.level -= count;
+        true
+    }
+
+    /// Whether something was undone and waits to be redone, be it an empty group.
+    pub fn has_waiting(&self) -> bool
+        ensures { result ≡ waits self.now.pending }
+    {
+        !self.pending().is_empty()
     }
 
     /// Takes the group up again that was closed last, if nothing was recorded after it: it is open then, and what comes is a

@@ -1,13 +1,14 @@
 //! The entries of a record: what an event makes of them, and how its groups are closed. A function that records drops what
 //! was undone; refused, it leaves every entry.
-ghost use Rattle.std.specs.Prelude.{◌≡◌, ◌+◌, ◌^◌, ◌≤◌, ◌<◌, [], ◌++◌, All, encode_utf8, length, map, take, drop, true, false, None, IfOk, IfErr, IfSome, OnOk, OnErr, reverse};
+ghost use Rattle.std.specs.Prelude.{◌≡◌, ◌+◌, ◌^◌, ◌≤◌, ◌<◌, ◌-◌, [], ◌∷◌, ◌++◌, All, encode_utf8, length, map, take, drop, true, false, None, IfOk, IfErr, IfSome, OnOk, OnErr, reverse};
+ghost use Rattle.std.specs.Option.{option_map_or};
 ghost use Rattle.std.specs.Vec.{vec_len, vec_capacity};
 ghost use Rattle.rl_base.specs.Event.{InsertChar, InsertStr, Delete, Replace, Cursors};
 ghost use Rattle.rl_base.specs.declared.listeners.Direction.TheVariants.{Forward};
 ghost use Rattle.rl_base.specs.declared.listeners.Refusal.TheVariants.{NoMemory};
 ghost use Rattle.rl_line.specs.declared.change.Freshness.TheVariants.{Added, Stale};
-ghost use Rattle.rl_line.specs.Record.{Changed, Insertion, IsOfKind, untold, entry_of, freshness_at, freshness_told, is_at, is_saved, kept_point, no_changes, parted, point_past, record_step, saved_here, arrived, flipped, inverse};
-ghost use Rattle.rl_line.specs.Units.{adds_end, end_one, end_times, ends_in_begin, ends_in_end, grouped_from, point_closed, truncated, with_closed, IsMatched, level, there_and_back};
+ghost use Rattle.rl_line.specs.Record.{Begin, Changed, Insertion, IsOfKind, untold, entry_of, freshness_at, freshness_told, is_at, is_saved, kept_point, no_changes, parted, point_past, record_step, saved_here, arrived, flipped, inverse};
+ghost use Rattle.rl_line.specs.Units.{adds_end, end_one, end_times, ends_in_begin, ends_in_end, grouped_from, point_closed, point_moved, still_waiting, truncated, with_closed, IsMatched, level, there_and_back};
 ghost use Rattle.rl_line.specs.Entries.{Joins, added, cut_at, settled};
 
 use crate::change::{Change, Freshness, Texts, copied, seldom};
@@ -309,6 +310,33 @@ impl Entries {
         Ok(())
     }
 
+    /// Records a Begin before what waits to be redone.
+    #[tactic(auto, using(crate::proofs::Records::WaitingLemmas::waiting))]
+    pub(crate) fn open_group(&mut self) -> Result<(), Refusal>
+        ensures done { OnOk result (self.new ≡ still_waiting (self.old.recorded ++ Begin ∷ []) self.old) }
+        ensures err { IfErr result (λ r. (r ≡ NoMemory) × (self.new ≡ self.old)) }
+    {
+        let opened = self.recorded + 1;
+        self.list.insert(self.recorded, Change::Begin)?;
+        self.saved = point_moved(self.saved, self.recorded, opened);
+        self.recorded = opened;
+        self.fresh = freshness_at(opened, self.saved);
+        Ok(())
+    }
+
+    /// Takes the last `count` recorded entries off, where these are Begins. What waits to be redone stays.
+    #[tactic(auto, using(crate::proofs::Records::WaitingLemmas::waiting))]
+    pub(crate) fn drop_begins(&mut self, count: usize)
+        requires { adds_end count self.old.recorded ≡ false }
+        ensures { self.new ≡ still_waiting (end_times count self.old.recorded) self.old }
+    {
+        let left = self.recorded - count;
+        self.list.drain(left..self.recorded);
+        self.saved = point_moved(self.saved, self.recorded, left);
+        self.recorded = left;
+        self.fresh = freshness_at(left, self.saved);
+    }
+
     /// Marks the text as saved here, and parts what comes from it.
     pub(crate) fn set_saved(&mut self)
         ensures { self.new ≡ saved_here self.old }
@@ -461,6 +489,17 @@ fn point_past(saved: Option<usize>, count: usize) -> Option<usize>
     saved?.checked_sub(count)
 }
 
+/// The save point once `to` entries are recorded in place of `from`, where those after them stay.
+fn point_moved(saved: Option<usize>, from: usize, to: usize) -> Option<usize>
+    requires { to + option_map_or (λ n. n - from) saved 0 < 2 ^ 64 }
+    ensures { result ≡ point_moved from to saved }
+{
+    match saved {
+        Some(at) if at > from => Some(at - from + to),
+        _ => kept_point(saved, to),
+    }
+}
+
 /// Whether so many entries stand before the save point.
 fn is_at(len: usize, saved: Option<usize>) -> bool
     ensures { result ≡ is_at len saved }
@@ -491,7 +530,7 @@ pub(crate) fn first(entries: &[Change], len: usize) -> &[Change]
 
 /// Whether closing `count` groups adds an End: it does if one of them is not empty.
 #[tactic(auto, using(crate::proofs::Records::EntryLemmas::at_the_end))]
-fn adds_end(entries: &[Change], count: usize) -> bool
+pub(crate) fn adds_end(entries: &[Change], count: usize) -> bool
     ensures { result ≡ adds_end count (map entry_of entries.now) }
 {
     let mut left = count;

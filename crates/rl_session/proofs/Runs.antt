@@ -9,5 +9,6 @@ pub mod CursorLemmas
 pub mod GiveBackLemmas
 pub mod KillRunLemmas
 pub mod CallLemmas
+pub mod EmptyGroupLemmas
 pub mod UnitLawLemmas
 pub mod CallGroupLemmas

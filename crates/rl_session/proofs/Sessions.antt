@@ -12,3 +12,4 @@ pub mod QuietLemmas
 pub mod StepLemmas
 pub mod LimitLemmas
 pub mod PerformLemmas
+pub mod WaitingLemmas

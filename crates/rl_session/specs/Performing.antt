@@ -1,5 +1,5 @@
 -- What a session makes of a command by its options.
-use Rattle.std.specs.Prelude.{◌≡◌, ◌⊎◌, ℕ, ◌+◌, ◌-◌, ◌*◌, max, min, nat_le, Bool, true, false, ◌&&◌, ◌<◌, length, take, encode_utf8, List, [], ◌∷◌, ◌++◌, Option, Some, None, unwrap_or, String, Result, MatchOption, if◌then◌else◌}
+use Rattle.std.specs.Prelude.{◌≡◌, ◌⊎◌, ℕ, ◌+◌, ◌-◌, ◌*◌, max, min, nat_le, Bool, true, false, ◌&&◌, ◌<◌, length, take, encode_utf8, List, [], ◌∷◌, ◌++◌, Option, Some, None, unwrap_or, String, Result, MatchOption, if◌then◌else◌, not}
 use mathlib.Core.Logic.{inl, inr}
 use Rattle.std.specs.Str.{IsCharBoundary}
 use Rattle.std.specs.String.{string_bytes}
@@ -13,7 +13,7 @@ use Rattle.rl_line.specs.Line.{Line}
 use Rattle.rl_line.specs.LineRanges.{IsRange}
 use Rattle.rl_line.specs.Plan.{a_copy, longest_by, unbegun}
 use Rattle.rl_line.specs.Transpositions.{transpose_words_plan}
-use Rattle.rl_line.specs.Units.{has_change, last_of, level, makes_group, open_group, redo_of, unit_start, united, units_in_group}
+use Rattle.rl_line.specs.Units.{has_change, last_of, level, makes_group, open_group, redo_of, unit_start, united, units_in_group, adds_end, is_open, still_waiting, waits}
 use Rattle.rl_line.specs.Record.{Entry, parted}
 use Rattle.rl_line.specs.declared.changeset.UnitStart.{UnitStart}
 use Rattle.rl_session.specs.Commands.{Does, StandsYanked, Step, with_changes}
@@ -25,7 +25,7 @@ use Rattle.rl_session.specs.Replies.{replied}
 use Rattle.rl_session.specs.Run.{Row}
 use Rattle.rl_session.specs.State.{State}
 use Rattle.rl_session.specs.declared.session.Command.{Command}
-use Rattle.rl_session.specs.declared.session.Command.TheVariants.{Abandon, Copy, EditWord, Indent, Insert, InsertStr, Keep, KeepUndone, LinePlace, Move, Part, Paste, Redo, Reopen, Replace, SetPos, TransposeChars, TransposeWords, Truncate, Undo, Update, Yank, YankPop}
+use Rattle.rl_session.specs.declared.session.Command.TheVariants.{Abandon, Copy, EditWord, Indent, Insert, InsertStr, Keep, KeepUndone, LinePlace, Move, Part, Paste, Redo, Reopen, Replace, SetPos, TransposeChars, TransposeWords, Truncate, Undo, Update, Yank, YankPop, Begin, End, EndOne}
 use Rattle.rl_session.specs.declared.session.Fault.{Fault}
 use Rattle.rl_session.specs.declared.session.Fault.TheVariants.{NoMemory, TooLong}
 use Rattle.rl_session.specs.declared.session.Reply.{Reply}
@@ -100,10 +100,23 @@ IsStopped s Reopen = drops_kept s ≡ true
 IsStopped s (Undo n) = (made_in_group s ≡ Some 0) ⊎ IsBarred s (carried s (Undo n))
 IsStopped s command = IsBarred s command
 
--- what is replied if nothing is done. Whether a word fits in another letter case is seen on a copy, for which memory may be out
+-- a group is begun; or the groups that are ended, or the one that is abandoned, are empty
+abbrev pub is_empty_group : List Entry → Command → Bool
+is_empty_group es Begin = true
+is_empty_group es End = not (adds_end (level es) es)
+is_empty_group es EndOne = not (adds_end (min 1 (level es)) es)
+is_empty_group es Abandon = is_open es && not (adds_end 1 es)
+is_empty_group es _ = false
+
+-- then what waits to be redone stays, unless it is to be kept
+abbrev pub leaves_waiting : State → Command → Bool
+leaves_waiting s command = is_empty_group s.pair.changes.recorded command && (not s.options.keeps && waits s.pair.changes.pending)
+
+-- what is replied if nothing is done. Memory may be out for a Begin before what waits. Whether a word fits in another letter case is seen on a copy, for which memory may be out
 abbrev pub Stops : State → Command → Reply → Type 0
 Stops s Reopen (Answer false) = drops_kept s ≡ true
 Stops s (Undo n) (Answer false) = made_in_group s ≡ Some 0
+Stops s Begin (Refused NoMemory) = leaves_waiting s Begin ≡ true
 Stops s (EditWord action) (Refused NoMemory) = unbegun a_copy (edit_word_plan s.line action)
 Stops s command (Refused TooLong) = IsBarred s (carried s command)
 Stops s _ _ = ⊥
@@ -156,14 +169,18 @@ put_in s _ = 0
 abbrev pub set_apart : State → Command → State
 set_apart s command = if is_one_unit command then with_changes (parted s.pair.changes) s else s
 
+-- what waited to be redone before a command still waits after it, if it leaves that
+abbrev pub with_waiting : State → Command → State → State
+with_waiting old command left = if leaves_waiting old command then with_changes (still_waiting left.pair.changes.recorded old.pair.changes) left else left
+
 -- what was recorded since a unit began became one, if it is to be; without memory for its marks it stays as it is
 abbrev pub Unites : Bool → UnitStart → State → State → Type 0
 Unites false start left made = made ≡ left
 Unites true start left made =
     (made ≡ with_changes (united start left.pair.changes) left) ⊎ ((makes_group start left.pair.changes ≡ true) × (made ≡ left))
 
--- a command was done: first what was undone was kept, if that was asked for; what it changed became one unit; and at last what is
--- beyond the bounds was forgotten
+-- a command was done: first what was undone was kept, if that was asked for; what waited still waits, if it is left; what it changed
+-- became one unit; and at last what is beyond the bounds was forgotten
 pub record Carried (old : State) (command : Command) (reply : Reply) (new : State) : Type 0 where
   pub free : ¬ (IsStopped old command)
   pub kept : State
@@ -171,7 +188,7 @@ pub record Carried (old : State) (command : Command) (reply : Reply) (new : Stat
   pub left : State
   pub step : Step (set_apart kept command) (carried old command) reply left
   pub made : State
-  pub unites : Unites (is_one_unit command) (unit_start (put_in kept command) kept.pair.changes) left made
+  pub unites : Unites (is_one_unit command) (unit_start (put_in kept command) kept.pair.changes) (with_waiting old command left) made
   pub forgets : Forgets made new
 
 -- a command was not begun, since what was undone could not be kept
@@ -226,10 +243,10 @@ AllCallsStandInGroup below no_call = Unit {0}
 AllCallsStandInGroup below (call {mid = mid} command reply performed calls) =
     MayStandInGroup below (level mid.pair.changes.recorded) command reply × AllCallsStandInGroup below calls
 
--- none is a command of several steps
+-- none is a command of several steps, or leaves something that waits to be redone
 abbrev pub NoneUnites : {old new : State} → Calls old new → Type 0
 NoneUnites no_call = Unit {0}
-NoneUnites (call command reply performed calls) = (is_one_unit command ≡ false) × NoneUnites calls
+NoneUnites (call {old} command reply performed calls) = (is_one_unit command ≡ false) × (leaves_waiting old command ≡ false) × NoneUnites calls
 
 -- the record leads to the present text from one of the texts that were held, and is placed among those from there on
 pub record HoldsFrom (held : List (List ℕ)) (s : State) : Type 0 where
@@ -237,6 +254,13 @@ pub record HoldsFrom (held : List (List ℕ)) (s : State) : Type 0 where
   pub before : List (List ℕ)
   pub stands : StandsAfter before begin held
   pub holds : Holds begin (begin ∷ stands.rest) s
+
+-- what ends or abandons the group that was opened last alone, where so many were open before its begin
+abbrev pub EndsLast : ℕ → Command → Type 0
+EndsLast below End = below ≡ 0
+EndsLast below EndOne = Unit {0}
+EndsLast below Abandon = Unit {0}
+EndsLast below _ = ⊥
 
 -- ---- what a command of several steps made
 -- such a command was done on a session without a bound, and something was recorded, which became one unit

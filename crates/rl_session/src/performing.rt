@@ -1,6 +1,6 @@
 //! The laws of commands that obey a session's options (`Session::perform`, and the call of each command's name): so
 //! what is said of runs holds of them.
-ghost use Rattle.std.specs.Prelude.{◌≡◌, ◌+◌, ◌++◌, ◌∷◌, [], ◌<◌, ◌≤◌, List, String, drop, length, suc, true, ℕ, Some};
+ghost use Rattle.std.specs.Prelude.{◌≡◌, ◌+◌, ◌++◌, ◌∷◌, [], ◌<◌, ◌≤◌, List, String, drop, length, suc, true, ℕ, Some, false};
 ghost use Rattle.std.specs.String.{string_bytes};
 ghost use Rattle.std.specs.declared.alloc.Global.{Global};
 ghost use Rattle.rl_line.specs.Record.{Begin, replay_entries};
@@ -8,17 +8,19 @@ ghost use Rattle.rl_line.specs.Units.{BothMatched, has_change, level};
 ghost use Rattle.rl_session.specs.History.{ClosesGroup, Holds, WasHeld, WasRefused};
 ghost use Rattle.rl_session.specs.KillRuns.{AnyTook, GivenBack, IsNoKill, NoneRefused};
 ghost use Rattle.rl_session.specs.Options.{no_bound};
-ghost use Rattle.rl_session.specs.Performing.{AllCallsStandInGroup, AllKilled, Calls, HoldsFrom, MadeUnit, NoneUnites, Performed, PerformedWith, before_unit, put_in, replies_in, rows_of};
+ghost use Rattle.rl_session.specs.Performing.{AllCallsStandInGroup, AllKilled, Calls, HoldsFrom, MadeUnit, NoneUnites, Performed, PerformedWith, before_unit, put_in, replies_in, rows_of, EndsLast, is_empty_group};
 ghost use Rattle.rl_session.specs.Run.{Leads, held_of};
 ghost use Rattle.rl_session.specs.State.{ChangedFrom, KeepsLimit, ReportedFrom, Stands, State};
 ghost use Rattle.rl_session.specs.declared.session.Command.{Command};
 ghost use Rattle.rl_session.specs.declared.session.Command.TheVariants.{Undo, Yank};
+ghost use Rattle.rl_session.specs.declared.session.Reply.TheVariants.{Mark};
 ghost use Rattle.rl_session.specs.declared.session.Reply.{Reply};
 
 /// Commands of one step on a session without a bound make a run, since nothing is forgotten after them, and their changes
-/// are units as they are. Its rows are those of the commands, in order, with one of `KeepUndone` before each edit, and
-/// before each begin or end of a group, if the options ask to keep what was undone. A command for which nothing was done
-/// has no row, and one that was not begun has only that of `KeepUndone`. A command with a text is performed as any other.
+/// are units as they are; none leaves something waiting, as the begin of a group may. Its rows are those of the commands,
+/// in order, with one of `KeepUndone` before each edit, and before each begin or end of a group, if the options ask to
+/// keep what was undone. A command for which nothing was done has no row, and one that was not begun has only that of
+/// `KeepUndone`. A command with a text is performed as any other.
 pub fn commands_make_a_run()
     ensures rows { (old new : State) (calls : Calls old new) → old.options.bound ≡ no_bound → NoneUnites calls → Leads old (rows_of calls) new }
     ensures texts { (old new : State) (text : String Global) (make : String Global → Command) (reply : Reply)
@@ -65,6 +67,17 @@ pub fn a_group_is_undone_at_once()
         → level begun.pair.changes.recorded ≡ suc below → AllCallsStandInGroup below inside
         → level mid.pair.changes.recorded ≡ suc below → Performed mid Command.Abandon last new → ¬ (WasRefused last)
         → (new.line.text ≡ old.line.text) × (new.pair.changes.recorded ++ Begin ∷ [] ≡ begun.pair.changes.recorded) }
+{}
+
+/// A begin of a group, and an end or an abandon of what is empty, leave what waits to be redone, if nothing is to be kept
+/// and they are not refused. So a group that is ended or abandoned right after its begin leaves the record as it was, if
+/// nothing is forgotten.
+pub fn an_empty_group_leaves_what_waits()
+    ensures waits { (old new : State) (command : Command) (reply : Reply) → is_empty_group old.pair.changes.recorded command ≡ true → old.options.keeps ≡ false
+        → Performed old command reply new → ¬ (WasRefused reply) → new.pair.changes.pending ≡ old.pair.changes.pending }
+    ensures record { (old mid new : State) (n : ℕ) (command : Command) (reply : Reply) → old.options.keeps ≡ false → old.options.bound ≡ no_bound
+        → EndsLast (level old.pair.changes.recorded) command → Performed old Command.Begin (Mark n) mid → Performed mid command reply new → ¬ (WasRefused reply)
+        → (new.pair.changes.recorded ≡ old.pair.changes.recorded) × (new.pair.changes.pending ≡ old.pair.changes.pending) }
 {}
 
 /// What tells of changes tells of those of every command.

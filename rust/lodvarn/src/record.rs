@@ -116,8 +116,8 @@ impl Session {
     }
 
     /// Begins an undo group: once it is closed, one undo takes back all its changes. It may stay open from one key to
-    /// the next, where the guard of [`group`](Session::group) can't be held. The undone changes are dropped, or kept with
-    /// [`Options::keeps_undone`], also if nothing changes in the group.
+    /// the next, where the guard of [`group`](Session::group) can't be held. The undone changes stay until something
+    /// changes in the group, or are kept with [`Options::keeps_undone`].
     /// # Errors
     /// [`Fault::NoMemory`].
     pub fn begin_group(&mut self) -> Result<(), Fault> {
@@ -139,9 +139,9 @@ impl Session {
     }
 
     /// Takes back the innermost group that is open, with those that were closed in it, and forgets it, as for a
-    /// completion that is tried and dropped. Text and record are as they were at its begin, and nothing can be redone.
-    /// The cursor goes to where it was before the first change of the group, and the ring keeps what was killed. False if
-    /// no group is open.
+    /// completion that is tried and dropped. Text and record are as they were at its begin, and nothing can be redone
+    /// unless it is empty. The cursor goes to where it was before its first change, and the ring keeps what was killed.
+    /// False if no group is open.
     ///
     /// ```
     /// # use lodvarn::{Fault, Session};

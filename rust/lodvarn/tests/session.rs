@@ -374,6 +374,24 @@ fn an_edit_is_one_unit() -> Result<(), Fault> {
 }
 
 #[test]
+fn an_empty_group_leaves_the_redo() -> Result<(), Fault> {
+    for end in [
+        Session::end_group,
+        Session::end_all_groups,
+        Session::abandon_group,
+    ] {
+        let mut session = opened("");
+        session.insert('é', 1)?;
+        session.undo(1)?;
+        session.begin_group()?;
+        end(&mut session)?;
+        assert_eq!((session.level(), session.entries()), (0, 0));
+        assert_eq!((session.redo(), session.text()), (Ok(true), "é"));
+    }
+    Ok(())
+}
+
+#[test]
 fn an_undo_stays_in_its_group() -> Result<(), Fault> {
     let mut session = opened("-");
     session.paste("a", 1)?;

@@ -1,27 +1,34 @@
 -- What commands keep that obey the options of a session: each is no row, or rows, and then forgets.
 use Rattle.rl_session.proofs.Common.{◌≡◌, ◌&&◌, ℕ, cond_both, not, Bool, false, true, List, [], ◌∷◌, ◌++◌, ap, refl, subst, sym, ◌∙◌, inl, inr, append-nil, append_assoc, no_bound, within_bound, Command, Holds, Leads, Record, Reply, ReportedFrom, ChangedFrom, Row, Run, State, Stands, Undo, Redo, WasHeld, WasRefused, held_of}
 use Rattle.rl_base.proofs.Ring.BoundLemmas.{IsRing-within, killing-within}
-use Rattle.rl_line.specs.Units.{kept_undone, unit_start, united}
+use Rattle.rl_line.specs.Units.{kept_undone, still_waiting, unit_start, united}
 use Rattle.rl_session.specs.Commands.{Step, with_changes}
-use Rattle.rl_session.specs.Performing.{Calls, HoldsFrom, IsBarred, IsStopped, Keeps, Performed, Stops, asks_to_keep, NoneUnites, Unites, call, carried, is_edit_or_mark, is_one_unit, keeping, made_in_group, no_call, put_in, rows_in, rows_of, set_apart, within_group}
+use Rattle.rl_session.specs.Performing.{Calls, HasKept, HoldsFrom, IsBarred, leaves_waiting, with_waiting, IsStopped, Keeps, Performed, Stops, asks_to_keep, NoneUnites, Unites, call, carried, is_edit_or_mark, is_one_unit, keeping, made_in_group, no_call, put_in, rows_in, rows_of, set_apart, within_group}
 use Rattle.rl_line.specs.Record.{parted}
 use Rattle.rl_line.specs.declared.changeset.UnitStart.{UnitStart}
 use Rattle.rl_line.specs.declared.change.Freshness.TheVariants.{Parted}
+use Rattle.rl_session.specs.History.{History}
 use Rattle.rl_session.specs.State.{KeepsLimit}
-use Rattle.rl_session.specs.declared.session.Command.TheVariants.{Abandon, Copy, EditWord, Indent, Keep, KeepUndone, LinePlace, Move, Part, Reopen, SetPos, TransposeChars, TransposeWords, Truncate, Update, YankPop}
+use Rattle.rl_session.specs.declared.session.Command.TheVariants.{Abandon, Begin, Copy, EditWord, End, EndOne, Indent, Keep, KeepUndone, LinePlace, Move, Part, Reopen, SetPos, TransposeChars, TransposeWords, Truncate, Update, YankPop}
 use Rattle.rl_session.specs.declared.session.Fault.TheVariants.{NoMemory}
 use Rattle.rl_session.specs.declared.session.Reply.TheVariants as says
 use Rattle.rl_session.specs.declared.options.Options.{Options}
 use Rattle.rl_session.proofs.Sessions.LimitLemmas.{step_limit}
-use Rattle.rl_session.proofs.Sessions.PerformLemmas.{apart-same, united-same}
+use Rattle.rl_session.proofs.Sessions.PerformLemmas.{apart-same, united-same, waiting-same}
+use Rattle.rl_session.proofs.Sessions.WaitingLemmas.{leaves-left}
 use Rattle.rl_session.proofs.Sessions.WatchLemmas.{changed_row, reported_row}
 use Rattle.rl_session.proofs.Runs.HistoryLemmas.{Holds-Leads, undo-in_run}
-use Rattle.rl_session.proofs.Runs.PlaceLemmas.{History-fresh, History-united, Placed-held, holds_forgotten, recorded-placed}
+use Rattle.rl_session.proofs.Runs.PlaceLemmas.{History-fresh, History-more, History-united, History-waiting, Placed-held, holds_forgotten, recorded-placed}
 use Rattle.rl_session.proofs.Runs.RowLemmas.{Leads-append, Step-options, held_of-append, within_bound-none}
 
 -- ---- what every step keeps, and forgetting too, a performed command keeps
 set_apart-keeps : (P : State → Type 0) → ((s : State) (changes : Record) → P s → P (with_changes changes s)) → (s : State) (command : Command) → P s → P (set_apart s command)
 set_apart-keeps P marks s command h = cond_both (is_one_unit command) (with_changes (parted s.pair.changes) s) s P (λ e. marks s (parted s.pair.changes) h) (λ e. h)
+
+waiting-keeps : (P : State → Type 0) → ((s : State) (changes : Record) → P s → P (with_changes changes s)) → (old : State) (command : Command) (left : State) → P left → P (with_waiting old command left)
+waiting-keeps P marks old command left h =
+    let changes = still_waiting left.pair.changes.recorded old.pair.changes in
+    cond_both (leaves_waiting old command) (with_changes changes left) left P (λ e. marks left changes h) (λ e. h)
 
 Unites-keeps : (P : State → Type 0) → ((s : State) (changes : Record) → P s → P (with_changes changes s)) → (one : Bool) (start : UnitStart) (left made : State) → Unites one start left made → P left → P made
 Unites-keeps P marks false start left made u h = subst P (sym u) h
@@ -40,7 +47,9 @@ module _ (P : State → Type 0) (steps : (old new : State) (command : Command) (
   Performed-keeps forgets old new command reply (inr (inr done)) h =
       let kept = Keeps-keeps (asks_to_keep old command) old done.kept done.keeps.0 done.keeps.1 h in
       let left = steps (set_apart done.kept command) done.left (carried old command) reply done.step (set_apart-keeps P marks done.kept command kept) in
-      subst P (sym done.forgets.is) (forgets done.made (Unites-keeps P marks (is_one_unit command) (unit_start (put_in done.kept command) done.kept.pair.changes) done.left done.made done.unites left))
+      let waiting = waiting-keeps P marks old command done.left left in
+      let start = unit_start (put_in done.kept command) done.kept.pair.changes in
+      subst P (sym done.forgets.is) (forgets done.made (Unites-keeps P marks (is_one_unit command) start (with_waiting old command done.left) done.made done.unites waiting))
 
 pub Performed-options : (old new : State) (command : Command) (reply : Reply) → Performed old command reply new → new.options ≡ old.options
 Performed-options old new command reply p =
@@ -56,15 +65,17 @@ keeping-Leads false old reply kept k = k.1
 keeping-Leads true old reply kept k = (refl, refl)
 
 -- with no bound nothing is forgotten, so that is the end
-pub rows_in-Leads : (old new : State) (command : Command) (reply : Reply) (p : Performed old command reply new) → old.options.bound ≡ no_bound → is_one_unit command ≡ false → Leads old (rows_in command reply p) new
-rows_in-Leads old new command reply (inl stopped) free single = stopped.1
-rows_in-Leads old new command reply (inr (inl unkept)) free single = keeping-Leads (asks_to_keep old command) old reply new unkept.2
-rows_in-Leads old new command reply (inr (inr done)) free single =
+pub rows_in-Leads : (old new : State) (command : Command) (reply : Reply) (p : Performed old command reply new) → old.options.bound ≡ no_bound → is_one_unit command ≡ false → leaves_waiting old command ≡ false
+    → Leads old (rows_in command reply p) new
+rows_in-Leads old new command reply (inl stopped) free single none = stopped.1
+rows_in-Leads old new command reply (inr (inl unkept)) free single none = keeping-Leads (asks_to_keep old command) old reply new unkept.2
+rows_in-Leads old new command reply (inr (inr done)) free single none =
     let asked = asks_to_keep old command in
     let kept = Keeps-keeps (λ s. s.options ≡ old.options) (λ a b c r s e. Step-options a b c r s ∙ e) (λ s changes e. e) asked old done.kept done.keeps.0 done.keeps.1 refl in
     let apart : set_apart done.kept command ≡ done.kept = apart-same (is_one_unit command) done.kept single in
     let same = Step-options (set_apart done.kept command) done.left (carried old command) reply done.step ∙ ap (λ (s : State). s.options) apart ∙ kept in
-    let made = united-same (is_one_unit command) (unit_start (put_in done.kept command) done.kept.pair.changes) done.left done.made single done.unites in
+    let start = unit_start (put_in done.kept command) done.kept.pair.changes in
+    let made = united-same (is_one_unit command) start (with_waiting old command done.left) done.made single done.unites ∙ waiting-same old command done.left none in
     let all = done.forgets.is ∙ ap within_bound made ∙ within_bound-none done.left (ap (λ (o : Options). o.bound) same ∙ free) in
     Leads-append (keeping asked old done.keeps.0 done.kept done.keeps.1) _ old done.kept new (keeping-Leads asked old done.keeps.0 done.kept done.keeps.1) (apart, all)
 
@@ -72,7 +83,7 @@ pub rows_of-Leads : (old new : State) (calls : Calls old new) → old.options.bo
 rows_of-Leads old new no_call free single = refl
 rows_of-Leads old new (call {mid = mid} command reply p calls) free single =
     let still = ap (λ (o : Options). o.bound) (Performed-options old mid command reply p) ∙ free in
-    Leads-append (rows_in command reply p) (rows_of calls) old mid new (rows_in-Leads old mid command reply p free single.0) (rows_of-Leads mid new calls still single.1)
+    Leads-append (rows_in command reply p) (rows_of calls) old mid new (rows_in-Leads old mid command reply p free single.0 single.1) (rows_of-Leads mid new calls still single.2)
 
 -- ---- a command that was done, if what was undone is kept in the record alone
 kept_changes : (old kept : State) (reply : Reply) → Step old KeepUndone reply kept → (changes : Record) × (kept ≡ with_changes changes old)
@@ -90,14 +101,19 @@ pub record DoneAfter (old : State) (command : Command) (reply : Reply) (new : St
   pub step : Step (with_changes changes old) command reply left
   pub forgets : new ≡ within_bound left
 
--- a command of one step that is done as it is, unless it is refused
+-- a command of one step that is done as it is, and leaves nothing waiting, unless it is refused
 abbrev pub is_plain : Command → Bool
 is_plain Reopen = false
+is_plain Begin = false
+is_plain End = false
+is_plain EndOne = false
+is_plain Abandon = false
 is_plain (Undo n) = false
 is_plain command = not (is_one_unit command)
 
 pub stopped_refused : (command : Command) (s : State) (reply : Reply) → is_plain command ≡ true → Stops s command reply → WasRefused reply
 stopped_refused Reopen s reply plain stops = cc
+stopped_refused Begin s reply plain stops = cc
 stopped_refused (Undo n) s reply plain stops = cc
 stopped_refused _ s (says.Refused why) plain stops = tt
 stopped_refused _ s _ plain stops = absurd stops
@@ -108,6 +124,10 @@ carried-same _ s plain = refl
 
 pub plain-single : (command : Command) → is_plain command ≡ true → is_one_unit command ≡ false
 plain-single Reopen plain = refl
+plain-single Begin plain = cc
+plain-single End plain = cc
+plain-single EndOne plain = cc
+plain-single Abandon plain = cc
 plain-single (Undo n) plain = refl
 plain-single (Update t q) plain = cc
 plain-single YankPop plain = cc
@@ -117,6 +137,13 @@ plain-single (EditWord a) plain = cc
 plain-single (Indent m a d) plain = cc
 plain-single _ plain = refl
 
+plain-leaves_none : (command : Command) (s : State) → is_plain command ≡ true → leaves_waiting s command ≡ false
+plain-leaves_none Begin s plain = cc
+plain-leaves_none End s plain = cc
+plain-leaves_none EndOne s plain = cc
+plain-leaves_none Abandon s plain = cc
+plain-leaves_none _ s plain = refl
+
 -- it was done unless it was refused
 pub done_after : (command : Command) (old new : State) (reply : Reply) → is_plain command ≡ true → ¬ (WasRefused reply) → Performed old command reply new → DoneAfter old command reply new
 done_after command old new reply plain allowed (inl stopped) = absurd (allowed (stopped_refused command old reply plain stopped.0))
@@ -125,7 +152,9 @@ done_after command old new reply plain allowed (inr (inr done)) =
     let kept = Keeps-changes (asks_to_keep old command) old done.kept done.keeps.0 done.keeps.1 in
     let single = plain-single command plain in
     let step = subst (λ c. Step (set_apart done.kept command) c reply done.left) (carried-same command old plain) done.step in
-    let made = united-same (is_one_unit command) (unit_start (put_in done.kept command) done.kept.pair.changes) done.left done.made single done.unites in
+    let start = unit_start (put_in done.kept command) done.kept.pair.changes in
+    let made = united-same (is_one_unit command) start (with_waiting old command done.left) done.made single done.unites
+    ∙ waiting-same old command done.left (plain-leaves_none command old plain) in
     record {
       changes = kept.0;
       left = done.left;
@@ -166,6 +195,30 @@ HoldsFrom-apart held s command h =
       holds = History-fresh h.begin (h.begin ∷ h.stands.rest) s.line.text s.pair.changes Parted h.holds;
     }) (λ e. h)
 
+-- what waits is put back
+HoldsFrom-more : (held more : List (List ℕ)) (s : State) → HoldsFrom held s → HoldsFrom (held ++ more) s
+HoldsFrom-more held more s h = record {
+  begin = h.begin;
+  before = h.before;
+  stands = record { rest = h.stands.rest ++ more; is = ap (λ x. x ++ more) h.stands.is ∙ append_assoc h.before (h.begin ∷ h.stands.rest) more };
+  holds = History-more h.begin (h.begin ∷ h.stands.rest) more s.line.text s.pair.changes h.holds;
+}
+
+HoldsFrom-waiting : (held more : List (List ℕ)) (old kept left : State) (command : Command) (reply : Reply) → HoldsFrom held old → HasKept (asks_to_keep old command) old kept
+    → Step (set_apart kept command) (carried old command) reply left → HoldsFrom (held ++ more) left → HoldsFrom (held ++ more) (with_waiting old command left)
+HoldsFrom-waiting held more old kept left command reply h keeps step l =
+    cond_both (leaves_waiting old command) (with_changes (still_waiting left.pair.changes.recorded old.pair.changes) left) left (HoldsFrom (held ++ more))
+    (λ e.
+    let m = leaves-left old kept left command reply e keeps step in
+    let o = HoldsFrom-more held more old h in
+    record {
+      begin = o.begin;
+      before = o.before;
+      stands = o.stands;
+      holds = subst (λ text. History o.begin (o.begin ∷ o.stands.rest) text (still_waiting left.pair.changes.recorded old.pair.changes)) (sym m.text_is)
+          (History-waiting o.begin (o.begin ∷ o.stands.rest) old.line.text old.pair.changes left.pair.changes.recorded m.marks l.holds.matched.recorded o.holds);
+    }) (λ e. l)
+
 HoldsFrom-united : (held : List (List ℕ)) (one : Bool) (start : UnitStart) (left made : State) → Unites one start left made → HoldsFrom held left → HoldsFrom held made
 HoldsFrom-united held false start left made u h = subst (HoldsFrom held) (sym u) h
 HoldsFrom-united held true start left made (inr u) h = subst (HoldsFrom held) (sym u.1) h
@@ -193,7 +246,9 @@ HoldsFrom-Performed held old new command reply (inr (inr done)) h =
     let all : (held ++ held_of first) ++ held_of (row ∷ []) ≡ held ++ held_of (first ++ row ∷ []) =
     append_assoc held (held_of first) (held_of (row ∷ [])) ∙ ap (λ k. held ++ k) (sym (held_of-append first (row ∷ []))) in
     let start = unit_start (put_in done.kept command) done.kept.pair.changes in
-    let made = HoldsFrom-united (held ++ held_of (first ++ row ∷ [])) (is_one_unit command) start done.left done.made done.unites (subst (λ k. HoldsFrom k done.left) all left) in
+    let more = held_of (first ++ row ∷ []) in
+    let waiting = HoldsFrom-waiting held more old done.kept done.left command reply h done.keeps done.step (subst (λ k. HoldsFrom k done.left) all left) in
+    let made = HoldsFrom-united (held ++ more) (is_one_unit command) start (with_waiting old command done.left) done.made done.unites waiting in
     subst (HoldsFrom (held ++ held_of (first ++ row ∷ []))) (sym done.forgets.is) (HoldsFrom-forgets (held ++ held_of (first ++ row ∷ [])) done.made made)
 
 pub HoldsFrom-Calls : (held : List (List ℕ)) (old new : State) (calls : Calls old new) → HoldsFrom held old → HoldsFrom (held ++ held_of (rows_of calls)) new
@@ -318,5 +373,7 @@ limit-Performed old new command reply (inr (inr done)) h =
     let marks = λ (s : State) (changes : Record) (l : LimitStays old s). limit-changes old s changes l in
     let apart = set_apart-keeps (LimitStays old) marks done.kept command kept.0 in
     let left = step_limit (set_apart done.kept command) done.left (carried old command) reply (barred_apart command old done.kept kept.1) done.step apart.0 in
-    let made = Unites-keeps (LimitStays old) marks (is_one_unit command) (unit_start (put_in done.kept command) done.kept.pair.changes) done.left done.made done.unites (left.0, left.1 ∙ apart.1) in
+    let waiting = waiting-keeps (LimitStays old) marks old command done.left (left.0, left.1 ∙ apart.1) in
+    let start = unit_start (put_in done.kept command) done.kept.pair.changes in
+    let made = Unites-keeps (LimitStays old) marks (is_one_unit command) start (with_waiting old command done.left) done.made done.unites waiting in
     subst (λ s. LimitStays old s) (sym done.forgets.is) (record { stands = Stands-forgets done.made made.0.stands; grows_not = made.0.grows_not }, made.1)

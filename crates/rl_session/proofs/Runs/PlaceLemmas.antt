@@ -1,15 +1,16 @@
 -- A record is placed among the texts that were held, whatever it hears.
-use Rattle.rl_session.proofs.Common.{RecordCall, MayCome, after_call, keeps_undone, parts_next, puts_begin, puts_end, puts_ends, reopens, shortens, texts_of_call, ◌≡◌, ◌≤◌, ℕ, List, [], ◌∷◌, ◌++◌, length, length-append, cond_both, ◌-◌, take, drop, map, reverse, Some, refl, sym, ap, subst, ◌∙◌, inl, inr, append-nil, append_assoc, arith, same_Some, take-append-drop, reverse-append, reverse-reverse, map-append, option_and_then, IsSome, IsUtf8, Event, Freshness, Cursors, replay, Line, stepped, listener_after, listener_after_step, Entry, Begin, End, Changed, Record, entries_of, entries_after, replay_entries, unwind, event_of, entries_told, last_told, level, last_of, kept_of, redo_of, end_one, end_times, min, undone, redone, truncated, with_closed, kept_within, HoldsOn, gone, StandsAfter, WasHeld, PlacedBack, Placed, History, Holds, State, texts_of_steps, Option, None}
+use Rattle.rl_session.proofs.Common.{RecordCall, MayCome, after_call, keeps_undone, parts_next, puts_begin, puts_end, puts_ends, reopens, shortens, texts_of_call, ◌≡◌, ◌≤◌, ℕ, List, [], ◌∷◌, ◌++◌, length, length-append, cond_both, ◌-◌, take, drop, map, reverse, Some, refl, sym, ap, subst, ◌∙◌, inl, inr, append-nil, append_assoc, arith, same_Some, take-append-drop, reverse-append, reverse-reverse, map-append, option_and_then, IsSome, IsUtf8, Event, Freshness, Cursors, replay, Line, stepped, listener_after, listener_after_step, Entry, Begin, End, Changed, Record, entries_of, entries_after, replay_entries, unwind, event_of, entries_told, last_told, level, last_of, kept_of, redo_of, end_one, end_times, min, undone, redone, truncated, with_closed, kept_within, HoldsOn, gone, StandsAfter, WasHeld, PlacedBack, Placed, History, Holds, State, texts_of_steps, Option, None, ◌||◌, not, true, false, zero, suc, begun}
 use Rattle.rl_base.specs.Event.{apply}
 use Rattle.rl_base.proofs.Texts.SwapLemmas.{apply-IsUtf8}
 use Rattle.rl_line.specs.Plan.{Step, after}
 use Rattle.rl_line.specs.Record.{record_step}
-use Rattle.rl_line.specs.Units.{BothMatched, ends_in_end, grouped_from, redo_dropped, there_and_back, united}
+use Rattle.rl_line.specs.Units.{BothMatched, ends_in_end, grouped_from, redo_dropped, there_and_back, united, IsMatched, adds_end, ends_in_begin, still_waiting, reopened, kept_undone}
 use Rattle.rl_line.specs.declared.changeset.UnitStart.{UnitStart}
+use Rattle.rl_line.proofs.Records.WaitingLemmas.{MarksMoved}
 use Rattle.rl_line.proofs.Records.UnitingLemmas.{BothMatched-united, replay-united, united-cases}
 use Rattle.rl_line.proofs.Records.MarkLemmas.{replay-begin, replay-end}
 use Rattle.rl_line.proofs.Records.JoinLemmas.{heard, step-cases}
-use Rattle.rl_line.proofs.Records.LastLemmas.{after-cases, end_one-cases, end_times-keeps, map-reverse}
+use Rattle.rl_line.proofs.Records.LastLemmas.{after-cases, end_one-cases, ends-past, end_times-keeps, map-reverse}
 use Rattle.rl_line.proofs.Records.MatchLemmas.{IsMatched-after, BothMatched-begun, BothMatched-closed, BothMatched-undone, BothMatched-redone, BothMatched-truncated, Redoes-of, BothMatched-step}
 use Rattle.rl_line.proofs.Records.RecordLemmas.{none_or_one, through, replay-append, replay-IsUtf8, replay-unwind, unwind-replay, entries_after-unwind}
 use Rattle.rl_line.proofs.Records.UnitLemmas.{kept-last}
@@ -104,6 +105,33 @@ PlacedBack-inside start [] ms e held still p =
     (l.before, l.text, l.stands, replay-inside start [] ms e still ∙ l.leads, l.placed)
 PlacedBack-inside start (z ∷ zs) ms e held still (before, text, stands, leads, rest) =
     (before, text, stands, replay-inside start (z ∷ zs) ms e still ∙ leads, PlacedBack-inside start zs ms e (before ++ text ∷ []) still rest)
+
+-- a mark inside is taken off
+PlacedBack-without : (start : List ℕ) (zs ms : List Entry) (e : Entry) (held : List (List ℕ)) → ((es : List Entry) → replay_entries (es ++ e ∷ []) start ≡ replay_entries es start)
+    → PlacedBack start (zs ++ e ∷ ms) held → PlacedBack start (zs ++ ms) held
+PlacedBack-without start [] ms e held still p = but_first start e ms held p
+PlacedBack-without start (z ∷ zs) ms e held still (before, text, stands, leads, rest) =
+    (before, text, stands, sym (replay-inside start (z ∷ zs) ms e still) ∙ leads, PlacedBack-without start zs ms e (before ++ text ∷ []) still rest)
+
+Placed-opened : (start : List ℕ) (xs ys : List Entry) (held : List (List ℕ)) → Placed start (xs ++ ys) held → Placed start ((xs ++ Begin ∷ []) ++ ys) held
+Placed-opened start xs ys held p =
+    let parts = subst (λ l. PlacedBack start l held) (reverse-append xs ys) p in
+    subst (λ l. Placed start l held) (sym (append_assoc xs (Begin ∷ []) ys))
+    (subst (λ l. PlacedBack start l held) (sym (reverse-inside xs ys Begin)) (PlacedBack-inside start (reverse ys) (reverse xs) Begin held (λ l. replay-begin l start) parts))
+
+Placed-closed : (n : ℕ) (start : List ℕ) (xs ys : List Entry) (held : List (List ℕ)) → adds_end n xs ≡ false → Placed start (xs ++ ys) held → Placed start (end_times n xs ++ ys) held
+Placed-closed zero start xs ys held empty p = p
+Placed-closed (suc n) start xs ys held empty p =
+    elim (end_one-cases xs) [
+      | inl c ↦
+          let rest : adds_end n (end_one xs) ≡ false = ap (λ b. not b || adds_end n (end_one xs)) (sym (ap ends_in_begin c.list_is ∙ ends-past c.front Begin [])) ∙ empty in
+          let all = ap (λ l. l ++ ys) c.list_is ∙ append_assoc c.front (Begin ∷ []) ys in
+          let parts = subst (λ l. PlacedBack start l held) (ap reverse all ∙ reverse-inside c.front ys Begin) p in
+          let without = PlacedBack-without start (reverse ys) (reverse c.front) Begin held (λ l. replay-begin l start) parts in
+          Placed-closed n start (end_one xs) ys held rest
+          (subst (λ l. Placed start (l ++ ys) held) (sym c.after_is) (subst (λ l. PlacedBack start l held) (sym (reverse-append c.front ys)) without))
+      | inr c ↦ let wrong : true ≡ false = ap (λ b. not b || adds_end n (end_one xs)) (sym c.other) ∙ empty in cc
+    ]
 
 Placed-grouped : (k : ℕ) (es : List Entry) (start : List ℕ) (held : List (List ℕ)) → Placed start es held → Placed start (grouped_from k es) held
 Placed-grouped k es start held p =
@@ -335,6 +363,23 @@ History-call call start held text r h m =
 -- the undone entries can be made again
 pub pending-leads : (start : List ℕ) (held : List (List ℕ)) (text : List ℕ) (r : Record) → History start held text r → IsSome (replay_entries r.pending text)
 pending-leads start held text r h = grind (arith, Placed-leads, replay-split)
+
+-- a Begin was put before what waits to be redone, or those of empty groups were taken off there
+pub History-waiting : (start : List ℕ) (held : List (List ℕ)) (text : List ℕ) (r : Record) (now : List Entry) → MarksMoved r.recorded now → IsMatched now → History start held text r
+    → History start held text (still_waiting now r)
+History-waiting start held text r now (inl is) matched h = record {
+  is_text = h.is_text;
+  leads = ap (λ l. replay_entries l start) is ∙ replay-begin r.recorded start ∙ h.leads;
+  placed = subst (λ l. Placed start (l ++ r.pending) held) (sym is) (Placed-opened start r.recorded r.pending held h.placed);
+  matched = record { recorded = matched; pending = h.matched.pending };
+}
+History-waiting start held text r now (inr (n, empty, is)) matched h = record {
+  is_text = h.is_text;
+  leads = ap (λ l. replay_entries l start) is
+      ∙ end_times-keeps (λ l. replay_entries l start ≡ Some text) (λ l e. replay-end_one l start ∙ e) n r.recorded h.leads;
+  placed = subst (λ l. Placed start (l ++ r.pending) held) (sym is) (Placed-closed n start r.recorded r.pending held empty h.placed);
+  matched = record { recorded = matched; pending = h.matched.pending };
+}
 
 -- ---- once the first entries went
 -- the last text of a list is the last one of each end of it

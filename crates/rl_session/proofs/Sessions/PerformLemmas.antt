@@ -5,14 +5,14 @@ use Rattle.rl_line.specs.Plan.{longest_by}
 use Rattle.std.specs.Prelude.{String}
 use Rattle.std.specs.declared.alloc.Global.{Global}
 use Rattle.rl_session.specs.Commands.{Step, with_changes}
-use Rattle.rl_session.specs.declared.session.Command.TheVariants.{InsertStr, KeepUndone, Redo, Undo}
+use Rattle.rl_session.specs.declared.session.Command.TheVariants.{Abandon, Begin, End, EndOne, InsertStr, KeepUndone, Redo, Undo}
 use Rattle.rl_session.specs.declared.session.Fault.{Fault}
 use Rattle.rl_session.specs.declared.session.Reply.TheVariants as says
 use Rattle.rl_session.proofs.Sessions.StepLemmas.{step_done}
 use Rattle.rl_session.specs.Forgetting.{Forgets}
-use Rattle.rl_session.specs.Performing.{Bars, HasKept, IsBarred, IsStopped, Keeps, Performed, Stops, Unites, asks_to_keep, carried, is_one_unit, is_within, made_in_group, put_in, set_apart, within_group}
+use Rattle.rl_session.specs.Performing.{Bars, HasKept, IsBarred, IsStopped, Keeps, Performed, Stops, Unites, asks_to_keep, carried, is_one_unit, is_within, leaves_waiting, made_in_group, put_in, set_apart, with_waiting, within_group}
 use Rattle.rl_line.specs.Record.{parted}
-use Rattle.rl_line.specs.Units.{unit_start}
+use Rattle.rl_line.specs.Units.{still_waiting, unit_start}
 use Rattle.rl_line.specs.declared.changeset.UnitStart.{UnitStart}
 use Rattle.rl_session.specs.declared.session.Fault.TheVariants.{NoMemory, TooLong}
 
@@ -58,10 +58,15 @@ apart-same one s e = ap (λ b. cond b (with_changes (parted s.pair.changes) s) s
 pub united-same : (one : Bool) (start : UnitStart) (left made : State) → one ≡ false → Unites one start left made → made ≡ left
 united-same one start left made e u = subst (λ b. Unites b start left made) e u
 
+-- nothing is left waiting
+pub waiting-same : (old : State) (command : Command) (left : State) → leaves_waiting old command ≡ false → with_waiting old command left ≡ left
+waiting-same old command left none = ap (λ b. cond b (with_changes (still_waiting left.pair.changes.recorded old.pair.changes) left) left) none
+
 -- it was done: it began where the ring was readied, after what was undone was kept, and ended as it does
 pub done : (command : Command) (old kept begun left ended new : State) (reply : Reply) → Forgets ended new → Does begun (carried old command) reply left → ended ≡ settled command reply left
-    → begun ≡ readied command kept → HasKept (asks_to_keep old command) old kept → ¬ (IsStopped old command) → is_one_unit command ≡ false → Performed old command reply new
-done command old kept begun left ended new reply forgets does settles begins keeps free single =
+    → begun ≡ readied command kept → HasKept (asks_to_keep old command) old kept → ¬ (IsStopped old command) → is_one_unit command ≡ false → leaves_waiting old command ≡ false
+    → Performed old command reply new
+done command old kept begun left ended new reply forgets does settles begins keeps free single none =
     let step = step_done (carried old command) left (begins ∙ carried-readied command old kept) does (settles ∙ carried-settled command old reply left) forgets.before in
     inr (inr (record {
       free = free;
@@ -70,13 +75,20 @@ done command old kept begun left ended new reply forgets does settles begins kee
       left = ended;
       step = subst (λ s. Step s (carried old command) reply ended) (sym (apart-same (is_one_unit command) kept single)) step;
       made = ended;
-      unites = subst (λ one. Unites one (unit_start (put_in kept command) kept.pair.changes) ended ended) (sym single) refl;
+      unites = subst (λ one. Unites one (unit_start (put_in kept command) kept.pair.changes) (with_waiting old command ended) ended) (sym single) (sym (waiting-same old command ended none));
       forgets = forgets;
     }))
 
 pub carried-unit : (command : Command) (s : State) → is_one_unit command ≡ true → command ≡ carried s command
 carried-unit (Undo n) s one = cc
 carried-unit _ s one = refl
+
+unit-leaves_none : (command : Command) (s : State) → is_one_unit command ≡ true → leaves_waiting s command ≡ false
+unit-leaves_none Begin s one = cc
+unit-leaves_none End s one = cc
+unit-leaves_none EndOne s one = cc
+unit-leaves_none Abandon s one = cc
+unit-leaves_none _ s one = refl
 
 readied-apart : (command : Command) (changes : Record) (s : State) → with_changes changes (readied command s) ≡ readied command (with_changes changes s)
 readied-apart command changes s = refl
@@ -99,7 +111,8 @@ done_as_unit command old kept ready begun left ended made new reply start forget
       left = ended;
       step = subst (λ c. Step (set_apart kept command) c reply ended) (carried-unit command old one) (subst (λ s. Step s command reply ended) set step);
       made = made;
-      unites = subst (λ s. Unites (is_one_unit command) s ended made) here (subst (λ b. Unites b start ended made) (sym one) unites);
+      unites = subst (λ s. Unites (is_one_unit command) s (with_waiting old command ended) made) here
+          (subst (λ s. Unites (is_one_unit command) start s made) (sym (waiting-same old command ended (unit-leaves_none command old one))) (subst (λ b. Unites b start ended made) (sym one) unites));
       forgets = forgets;
     }))
 
@@ -140,23 +153,23 @@ undo_done n m old left ended new reply forgets does resets is some free =
     (λ stops. elim stops [
       | inl none ↦ some none
       | inr barred ↦ free (subst (IsBarred old) is barred)
-    ]) refl
+    ]) refl refl
 
 pub redo_done : (old left ended new : State) (reply : Reply) → Forgets ended new → Does old Redo reply left → ended ≡ with_ring (reset left.pair.ring) left → ¬ (IsBarred old Redo) → Performed old Redo reply new
 redo_done old left ended new reply forgets does resets free =
     let here = subst (λ s. Does (anew old) Redo reply s) (sym resets) (redo-anew old left reply does) in
-    done Redo old old (anew old) ended ended new reply forgets here refl refl (says.Answer false, (refl, refl), λ w. w) free refl
+    done Redo old old (anew old) ended ended new reply forgets here refl refl (says.Answer false, (refl, refl), λ w. w) free refl refl
 
 -- a deletion by a movement is the command of that movement
 pub deleted : (m : Movement) (old kept begun left new : State) (reply : Reply) → CanDeleteBy m → Forgets left new → Came (edit_course nothing_more (Unit {0}) (kill_plan begun.line m) answers reply) begun left
     → begun ≡ with_ring (reset kept.pair.ring) kept → HasKept old.options.keeps old kept → Performed old (deletion_of m) reply new
-deleted BeginningOfLine old kept begun left new reply can f d b k = done DiscardLine old kept begun left left new reply f d refl b k (λ x. x) refl
-deleted EndOfLine old kept begun left new reply can f d b k = done KillLine old kept begun left left new reply f d refl b k (λ x. x) refl
-deleted (BackwardWord n word) old kept begun left new reply can f d b k = done (DeletePrevWord word n) old kept begun left left new reply f d refl b k (λ x. x) refl
-deleted (ForwardWord n at word) old kept begun left new reply can f d b k = done (DeleteWord at word n) old kept begun left left new reply f d refl b k (λ x. x) refl
-deleted (ViCharSearch n cs) old kept begun left new reply can f d b k = done (DeleteTo cs n) old kept begun left left new reply f d refl b k (λ x. x) refl
-deleted BeginningOfBuffer old kept begun left new reply can f d b k = done DiscardBuffer old kept begun left left new reply f d refl b k (λ x. x) refl
-deleted EndOfBuffer old kept begun left new reply can f d b k = done KillBuffer old kept begun left left new reply f d refl b k (λ x. x) refl
+deleted BeginningOfLine old kept begun left new reply can f d b k = done DiscardLine old kept begun left left new reply f d refl b k (λ x. x) refl refl
+deleted EndOfLine old kept begun left new reply can f d b k = done KillLine old kept begun left left new reply f d refl b k (λ x. x) refl refl
+deleted (BackwardWord n word) old kept begun left new reply can f d b k = done (DeletePrevWord word n) old kept begun left left new reply f d refl b k (λ x. x) refl refl
+deleted (ForwardWord n at word) old kept begun left new reply can f d b k = done (DeleteWord at word n) old kept begun left left new reply f d refl b k (λ x. x) refl refl
+deleted (ViCharSearch n cs) old kept begun left new reply can f d b k = done (DeleteTo cs n) old kept begun left left new reply f d refl b k (λ x. x) refl refl
+deleted BeginningOfBuffer old kept begun left new reply can f d b k = done DiscardBuffer old kept begun left left new reply f d refl b k (λ x. x) refl refl
+deleted EndOfBuffer old kept begun left new reply can f d b k = done KillBuffer old kept begun left left new reply f d refl b k (λ x. x) refl refl
 deleted _ old kept begun left new reply can f d b k = absurd can
 
 -- what the code asked of the limit

@@ -11,6 +11,7 @@ use Rattle.rl_session.proofs.Sessions.PairLemmas.{Halted-own, Done-changes, Halt
 use Rattle.rl_line.proofs.Records.RecordLemmas.{value_of}
 use Rattle.rl_line.proofs.Records.UndoLemmas.{line_ahead-replay, line_back-unwind}
 use Rattle.rl_line.proofs.Records.UnitingLemmas.{Walks-parted, Walks-united}
+use Rattle.rl_line.proofs.Records.WaitingLemmas.{Walks-dropped, Walks-opened}
 use Rattle.rl_line.proofs.Records.WalkLemmas.{Walks-truncated, Walks-Done, Walks-Halted, Walks-ahead, Walks-back, Walks-begun, Walks-closed, Walks-reopened}
 use Rattle.rl_line.proofs.Records.AbandonLemmas.{abandoned-walks}
 use Rattle.rl_line.proofs.Records.RoundLemmas.{Walks-kept}
@@ -120,7 +121,7 @@ follows_unwind r line f = grind (arith, value_of, line_back-unwind)
 pub follows_replay : (r : Record) (line : Line) → Follows line r → IsSome (replay_entries r.pending line.text)
 follows_replay r line f = grind (arith, value_of, line_ahead-replay)
 
-pub ruleset resting = (Walks-parted, Walks-united, Walks-kept, abandoned-walks, Walks-forgotten, killing-within, Walks-begun, Walks-closed, Walks-reopened, Walks-truncated, replays-all)
+pub ruleset resting = (Walks-parted, Walks-united, Walks-kept, abandoned-walks, Walks-forgotten, killing-within, Walks-begun, Walks-closed, Walks-reopened, Walks-opened, Walks-dropped, Walks-truncated, replays-all)
 
 pub ruleset places = (range-before, range-some)
 

@@ -4,13 +4,13 @@
 //! for it, an edit, and what begins or ends a group, then keeps what was undone, and is not begun without memory for
 //! that. Each resets the ring, but those whose commands go on from what the ring did last. One undo takes back all that
 //! an edit of several steps changed. After the command, what is beyond the bounds is forgotten.
-ghost use Rattle.std.specs.Prelude.{◌≡◌, true, IfErr, MatchOption, OnOk, Some};
+ghost use Rattle.std.specs.Prelude.{◌≡◌, false, true, IfErr, MatchOption, OnOk, Some};
 ghost use Rattle.rl_line.specs.Deletions.{CanDeleteBy};
 ghost use Rattle.rl_session.specs.Commands.{deletion_of, with_changes};
-ghost use Rattle.rl_session.specs.Performing.{BarsWith, HasKept, Keeps, Performed, PerformedWith, Unites, carried, made_in_group, put_in};
+ghost use Rattle.rl_session.specs.Performing.{BarsWith, HasKept, Keeps, Performed, PerformedWith, Unites, carried, leaves_waiting, made_in_group, put_in};
 ghost use Rattle.rl_session.specs.State.{Ends};
 ghost use Rattle.rl_line.specs.Record.{freshness_told, parted};
-ghost use Rattle.rl_line.specs.Units.{unit_start};
+ghost use Rattle.rl_line.specs.Units.{end_times, still_waiting, unit_start};
 ghost use Rattle.rl_session.specs.Replies.{replied};
 ghost use Rattle.rl_session.specs.declared.session.Command.{Command};
 ghost use Rattle.rl_session.specs.declared.session.Reply.{Reply};
@@ -296,25 +296,42 @@ impl Session {
         anew!(self, self.do_part())
     }
 
-    /// Opens a group of changes. Says how many entries the record had. `NoMemory` leaves the record as it was.
+    /// Opens a group of changes. Says how many entries the record had. What was undone waits until the group changes
+    /// something. `NoMemory` leaves the record as it was.
+    #[tactic(auto, using(crate::proofs::Sessions::PerformLemmas::performing, crate::proofs::Sessions::WaitingLemmas::leaving))]
     pub fn begin(&mut self) -> Result<usize, Fault>
         ensures { Performed self.old Command.Begin (replied Reply.Mark result) self.new }
     {
+        if !self.options.keeps && self.pair.changes.has_waiting() {
+            let mark = self.open_waiting()?;
+            return anew!(self, Ok(mark));
+        }
         edits!(self, self.do_begin())
     }
 
-    /// Closes all open groups. Answers whether one of them holds something. `NoMemory` leaves the record as it was.
+    /// Closes all open groups. Answers whether one of them holds something; if none does, what was undone stays.
+    /// `NoMemory` leaves the record as it was.
+    #[tactic(auto, using(crate::proofs::Sessions::PerformLemmas::performing, crate::proofs::Sessions::WaitingLemmas::leaving))]
     pub fn end(&mut self) -> Result<bool, Fault>
         ensures { Performed self.old Command.End (replied Reply.Answer result) self.new }
     {
+        let open = self.level();
+        if self.close_empty(open) {
+            return anew!(self, Ok(false));
+        }
         edits!(self, self.do_end())
     }
 
-    /// Closes the group that was opened last. Answers whether it holds something. `NoMemory` leaves the record as it
-    /// was.
+    /// Closes the group that was opened last. Answers whether it holds something; if not, what was undone stays.
+    /// `NoMemory` leaves the record as it was.
+    #[tactic(auto, using(crate::proofs::Sessions::PerformLemmas::performing, crate::proofs::Sessions::WaitingLemmas::leaving))]
     pub fn end_one(&mut self) -> Result<bool, Fault>
         ensures { Performed self.old Command.EndOne (replied Reply.Answer result) self.new }
     {
+        let open = self.level();
+        if self.close_empty(open.min(1)) {
+            return anew!(self, Ok(false));
+        }
         edits!(self, self.do_end_one())
     }
 
@@ -331,13 +348,18 @@ impl Session {
     }
 
     /// Takes back the group that was opened last and is open, as if it had never been begun: its changes are undone,
-    /// and it is forgotten with its begin, so that nothing waits to be redone. The ring keeps what was killed. Answers
-    /// whether a group is open; else it changes nothing. `NoMemory` leaves text and record as they were.
+    /// and it is forgotten with its begin, so that nothing waits to be redone; but what was undone stays if the group is
+    /// empty. The ring keeps what was killed. Answers whether a group is open; else it changes nothing. `NoMemory`
+    /// leaves text and record as they were.
+    #[tactic(auto, using(crate::proofs::Sessions::PerformLemmas::performing, crate::proofs::Sessions::WaitingLemmas::leaving))]
     pub fn abandon(&mut self) -> Result<bool, Fault>
         ensures { Performed self.old Command.Abandon (replied Reply.Answer result) self.new }
     {
         if !self.pair.changes.abandon_fits(&self.line) {
             return Err(Fault::TooLong);
+        }
+        if self.abandon_empty() {
+            return anew!(self, Ok(true));
         }
         anew!(self, self.do_abandon())
     }
@@ -350,6 +372,18 @@ impl Session {
         ensures { Performed self.old Command.KeepUndone (replied Reply.Answer result) self.new }
     {
         goes_on!(self, self.do_keep_undone())
+    }
+
+    // Closes the group that was opened last, if one is open, as `close_empty` does.
+    fn abandon_empty(&mut self) -> bool
+        ensures answer { result ≡ leaves_waiting self.old Command.Abandon }
+        ensures done { result ≡ true → self.new ≡ with_changes (still_waiting (end_times 1 self.old.pair.changes.recorded) self.old.pair.changes) self.old }
+        ensures none { result ≡ false → self.new ≡ self.old }
+    {
+        if self.level() == 0 {
+            return false;
+        }
+        self.close_empty(1)
     }
 
     // Whether the limit bars an update, an insertion at a place, a replacement. It bars none whose places are bad.

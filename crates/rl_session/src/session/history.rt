@@ -1,12 +1,13 @@
 //! Groups of changes, undo, redo, and truncation of the record, and what can be asked about them.
-ghost use Rattle.std.specs.Prelude.{◌≡◌, List, ℕ};
-ghost use Rattle.rl_line.specs.Record.{is_saved};
-ghost use Rattle.rl_line.specs.Units.{has_change, last_of, level, redo_of};
-ghost use Rattle.rl_session.specs.Commands.{Does};
+ghost use Rattle.std.specs.Prelude.{◌≡◌, List, ℕ, ◌≤◌, ◌&&◌, ◌++◌, ◌∷◌, [], IfErr, IfOk, false, length, not, true};
+ghost use Rattle.rl_line.specs.Record.{is_saved, Begin};
+ghost use Rattle.rl_line.specs.Units.{has_change, last_of, level, redo_of, adds_end, end_times, still_waiting, waits};
+ghost use Rattle.rl_session.specs.Commands.{Does, with_changes};
 ghost use Rattle.rl_session.specs.Performing.{DoesWithin};
 ghost use Rattle.rl_session.specs.Replies.{replied};
 ghost use Rattle.rl_session.specs.State.{ChangedFrom, ReportedFrom, saved_now};
 ghost use Rattle.rl_session.specs.declared.session.Command.{Command};
+ghost use Rattle.rl_session.specs.declared.session.Fault.TheVariants.{NoMemory};
 ghost use Rattle.rl_session.specs.declared.session.Reply.{Reply};
 
 use crate::session::{Fault, Session};
@@ -67,6 +68,30 @@ impl Session {
         ensures { Does self.old Command.Begin (replied Reply.Mark result) self.new }
     {
         Ok(self.pair.changes.begin()?)
+    }
+
+    // Opens a group before what waits to be redone, which stays.
+    #[tactic(auto, using(crate::proofs::Sessions::SessionLemmas::resting))]
+    pub(super) fn open_waiting(&mut self) -> Result<usize, Fault>
+        ensures ok { IfOk result (λ mark. (mark ≡ length self.old.pair.changes.recorded) × (self.new ≡ with_changes (still_waiting (self.old.pair.changes.recorded ++ Begin ∷ []) self.old.pair.changes) self.old)) }
+        ensures err { IfErr result (λ why. (why ≡ NoMemory) × (self.new ≡ self.old)) }
+    {
+        Ok(self.pair.changes.open_group()?)
+    }
+
+    // Closes so many groups, the one that was opened last first, if they are empty and something waits to be redone, which
+    // stays. Not if that is to be kept. Answers whether it did.
+    #[tactic(auto, using(crate::proofs::Sessions::SessionLemmas::resting))]
+    pub(super) fn close_empty(&mut self, count: usize) -> bool
+        requires { count ≤ level self.old.pair.changes.recorded }
+        ensures answer { result ≡ (not (adds_end count self.old.pair.changes.recorded) && (not self.old.options.keeps && waits self.old.pair.changes.pending)) }
+        ensures done { result ≡ true → self.new ≡ with_changes (still_waiting (end_times count self.old.pair.changes.recorded) self.old.pair.changes) self.old }
+        ensures none { result ≡ false → self.new ≡ self.old }
+    {
+        if self.options.keeps {
+            return false;
+        }
+        self.pair.changes.close_empty(count)
     }
 
     #[tactic(auto, using(crate::proofs::Sessions::SessionLemmas::resting))]
