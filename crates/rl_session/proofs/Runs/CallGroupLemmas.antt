@@ -2,26 +2,28 @@
 use Rattle.rl_session.proofs.Common.{◌≡◌, ◌<◌, ◌≤◌, ◌+◌, ◌∙◌, ◌||◌, cond_both, length-append, ℕ, suc, arith, Bool, true, false, List, [], ◌∷◌, ◌++◌, length, drop, Some, refl, sym, ap, subst, same_Some, inl, inr, no_bound, within_bound, Begin, End, Entry, Line, Record, IsMatched, begun, has_change, kept_of, last_of, level, with_closed, replay_entries, Command, Reply, Row, State, Undo, Holds, ClosesGroup, MayStandInGroup, WasRefused, held, held_of}
 use Rattle.std.proofs.lemmas.List.{drop-append-le}
 use Rattle.rl_line.specs.Record.{parted}
-use Rattle.rl_line.specs.Units.{AtLevel, there_and_back, unit_start, kept_undone}
+use Rattle.rl_line.specs.Units.{AtLevel, still_waiting, there_and_back, unit_start, kept_undone}
 use Rattle.rl_line.specs.declared.change.Freshness.TheVariants.{Parted}
 use Rattle.rl_line.specs.declared.changeset.UnitStart.{UnitStart}
-use Rattle.rl_line.proofs.Records.GroupLemmas.{Inside, has_change-append}
+use Rattle.rl_line.proofs.Records.GroupLemmas.{Inside, InsideOf, has_change-append}
 use Rattle.rl_line.proofs.Records.EndLemmas.{level-group}
 use Rattle.rl_line.proofs.Records.RoundLemmas.{AtLevel-round, kept-either}
 use Rattle.rl_line.proofs.Records.UnitingLemmas.{Inside-united, taken-inside}
 use Rattle.rl_session.specs.Commands.{Step, with_changes}
-use Rattle.rl_session.specs.Performing.{AllCallsStandInGroup, Calls, Keeps, Performed, Unites, asks_to_keep, call, carried, is_one_unit, keeping, no_call, put_in, set_apart}
+use Rattle.rl_session.specs.History.{History}
+use Rattle.rl_session.specs.Performing.{AllCallsStandInGroup, Calls, HasKept, Keeps, Performed, Stops, Unites, asks_to_keep, call, carried, is_one_unit, keeping, leaves_waiting, no_call, put_in, set_apart, with_waiting}
 use Rattle.rl_session.specs.declared.options.Options.{Options}
 use Rattle.rl_session.specs.declared.session.Command.TheVariants as asks
 use Rattle.rl_session.specs.declared.session.Fault.TheVariants.{NoMemory}
 use Rattle.rl_session.specs.declared.session.Reply.TheVariants as says
-use Rattle.rl_session.proofs.Runs.CallLemmas.{Calls-options, Keeps-changes, Performed-options, carried-same, keeping-Leads, is_plain, plain-single, stopped_refused}
+use Rattle.rl_session.proofs.Runs.CallLemmas.{Calls-options, Keeps-changes, Performed-options, keeping-Leads}
 use Rattle.rl_session.proofs.Runs.HistoryLemmas.{Holds-Leads, Holds-row, done_as}
-use Rattle.rl_session.proofs.Runs.PlaceLemmas.{History-fresh, History-united}
+use Rattle.rl_session.proofs.Runs.PlaceLemmas.{History-fresh, History-united, History-waiting}
 use Rattle.rl_session.proofs.Runs.RowLemmas.{Step-options, within_bound-none}
 use Rattle.rl_session.proofs.Runs.UndoGroupLemmas.{Begin-done, Inside-row, abandoned-row, closed_unit, closing-row}
 use Rattle.rl_session.proofs.Runs.UnitLawLemmas.{undo-leads}
 use Rattle.rl_session.proofs.Sessions.PerformLemmas.{apart-same, united-same}
+use Rattle.rl_session.proofs.Sessions.WaitingLemmas.{leaves-left}
 
 -- ---- inside the group
 -- a state of a history whose record stands in an open group
@@ -73,11 +75,33 @@ may-unit (asks.EditWord action) s below now reply one = tt
 may-unit (asks.Indent m amount dedent) s below now reply one = tt
 may-unit _ s below now reply one = cc
 
-may-left : (one : Bool) (command : Command) (s left made : State) (begin : UnitStart) (below : ℕ) (reply : Reply) → one ≡ is_one_unit command → Unites one begin left made
-    → MayStandInGroup below (level made.pair.changes.recorded) command reply → MayStandInGroup below (level left.pair.changes.recorded) (carried s command) reply
-may-left true command s left made begin below reply e u may = may-unit command s below (level left.pair.changes.recorded) reply (sym e)
-may-left false command s left made begin below reply e u may =
-    may-carried command s below (level left.pair.changes.recorded) reply (subst (λ (k : State). MayStandInGroup below (level k.pair.changes.recorded) command reply) u may)
+-- what is left waiting changes no line, and nothing that is recorded
+waiting-same : (old : State) (command : Command) (left : State) → ((with_waiting old command left).pair.changes.recorded ≡ left.pair.changes.recorded) × ((with_waiting old command left).line ≡ left.line)
+waiting-same old command left =
+    cond_both (leaves_waiting old command) (with_changes (still_waiting left.pair.changes.recorded old.pair.changes) left) left
+    (λ s. (s.pair.changes.recorded ≡ left.pair.changes.recorded) × (s.line ≡ left.line)) (λ _. (refl, refl)) (λ _. (refl, refl))
+
+Holds-waiting : (start : List ℕ) (texts then : List (List ℕ)) (old kept left : State) (command : Command) (reply : Reply) → Holds start texts old → HasKept (asks_to_keep old command) old kept
+    → Step (set_apart kept command) (carried old command) reply left → Holds start then left → (now : List (List ℕ)) × Holds start now (with_waiting old command left)
+Holds-waiting start texts then old kept left command reply h keeps step holds =
+    cond_both (leaves_waiting old command) (with_changes (still_waiting left.pair.changes.recorded old.pair.changes) left) left (λ s. (now : List (List ℕ)) × Holds start now s)
+    (λ e.
+    let m = leaves-left old kept left command reply e keeps step in
+    (texts, subst (λ text. History start texts text (still_waiting left.pair.changes.recorded old.pair.changes)) (sym m.text_is)
+    (History-waiting start texts old.line.text old.pair.changes left.pair.changes.recorded m.marks holds.matched.recorded h))) (λ _. (then, holds))
+
+in-waiting : (start : List ℕ) (front : List Entry) (old kept left : State) (command : Command) (reply : Reply) → StandsInside start front old → HasKept (asks_to_keep old command) old kept
+    → Step (set_apart kept command) (carried old command) reply left → StandsInside start front left → StandsInside start front (with_waiting old command left)
+in-waiting start front old kept left command reply h keeps step l =
+    let now = Holds-waiting start h.texts l.texts old kept left command reply h.holds keeps step l.holds in
+    record { inside = subst (InsideOf front) (sym (waiting-same old command left).0) l.inside; texts = now.0; holds = now.1 }
+
+may-left : (one : Bool) (command : Command) (old left made : State) (begin : UnitStart) (below : ℕ) (reply : Reply) → one ≡ is_one_unit command → Unites one begin (with_waiting old command left) made
+    → MayStandInGroup below (level made.pair.changes.recorded) command reply → MayStandInGroup below (level left.pair.changes.recorded) (carried old command) reply
+may-left true command old left made begin below reply e u may = may-unit command old below (level left.pair.changes.recorded) reply (sym e)
+may-left false command old left made begin below reply e u may =
+    let same = ap (λ (s : State). s.pair.changes.recorded) u ∙ (waiting-same old command left).0 in
+    may-carried command old below (level left.pair.changes.recorded) reply (subst (λ es. MayStandInGroup below (level es) command reply) same may)
 
 -- nothing is forgotten without a bound
 ends-made : (old new : State) (command : Command) (reply : Reply) (p : Performed old command reply new) → old.options.bound ≡ no_bound → (made : State) → new ≡ within_bound made → made.options ≡ new.options → new ≡ made
@@ -98,7 +122,8 @@ in-Performed start front old new command reply m free may (inr (inr done)) h =
     let row : Row = record { before = set_apart done.kept command; command = carried old command; reply = reply; after = done.left; step = done.step } in
     let apart = cond_both (is_one_unit command) (with_changes (parted done.kept.pair.changes) done.kept) done.kept (StandsInside start front) (λ _. in-fresh start front done.kept kept) (λ _. kept) in
     let left = in-row start front row m may_left apart in
-    subst (StandsInside start front) (sym is_made) (in-united start front begin (is_one_unit command) done.left done.made later done.unites left)
+    let waiting = in-waiting start front old done.kept done.left command reply h done.keeps done.step left in
+    subst (StandsInside start front) (sym is_made) (in-united start front begin (is_one_unit command) (with_waiting old command done.left) done.made later done.unites waiting)
 
 in-Calls : (start : List ℕ) (front : List Entry) (old new : State) (calls : Calls old new) → IsMatched front → old.options.bound ≡ no_bound → AllCallsStandInGroup (level front) calls
     → StandsInside start front old → StandsInside start front new
@@ -106,26 +131,66 @@ in-Calls start front old new no_call m free may h = h
 in-Calls start front old new (call {mid = mid} command reply p calls) m free may h =
     in-Calls start front mid new calls m (ap (λ (o : Options). o.bound) (Performed-options old mid command reply p) ∙ free) may.1 (in-Performed start front old mid command reply m free may.0 p h)
 
--- ---- a command of one step that was done
-record PlainDone (old : State) (command : Command) (reply : Reply) (new : State) : Type 0 where
+-- ---- the begin of a group, its end or its abandon, if it was done
+abbrev is_mark : Command → Bool
+is_mark asks.Begin = true
+is_mark asks.End = true
+is_mark asks.EndOne = true
+is_mark asks.Abandon = true
+is_mark _ = false
+
+mark-single : (command : Command) → is_mark command ≡ true → is_one_unit command ≡ false
+mark-single asks.Begin mark = refl
+mark-single asks.End mark = refl
+mark-single asks.EndOne mark = refl
+mark-single asks.Abandon mark = refl
+mark-single _ mark = cc
+
+mark-carried : (command : Command) (s : State) → is_mark command ≡ true → carried s command ≡ command
+mark-carried (Undo n) s mark = cc
+mark-carried _ s mark = refl
+
+mark-stopped : (command : Command) (s : State) (reply : Reply) → is_mark command ≡ true → Stops s command reply → WasRefused reply
+mark-stopped command s (says.Refused why) mark stops = tt
+mark-stopped (Undo n) s (says.Answer a) mark stops = cc
+mark-stopped asks.Reopen s (says.Answer a) mark stops = cc
+mark-stopped _ s _ mark stops = absurd stops
+
+record MarkDone (start : List ℕ) (texts : List (List ℕ)) (old : State) (command : Command) (reply : Reply) (new : State) : Type 0 where
   said : Reply
   kept : State
   keeps : Keeps (asks_to_keep old command) old said kept
-  step : Step kept command reply new
+  left : State
+  step : Step kept command reply left
+  recorded : new.pair.changes.recorded ≡ left.pair.changes.recorded
+  line : new.line ≡ left.line
+  holds : (now : List (List ℕ)) × Holds start now new
 
-plain_done : (command : Command) (old new : State) (reply : Reply) → is_plain command ≡ true → old.options.bound ≡ no_bound → ¬ (WasRefused reply) → Performed old command reply new → PlainDone old command reply new
-plain_done command old new reply plain free allowed (inl stopped) = absurd (allowed (stopped_refused command old reply plain stopped.0))
-plain_done command old new reply plain free allowed (inr (inl unkept)) = absurd (allowed unkept.1)
-plain_done command old new reply plain free allowed (inr (inr done)) =
-    let single = plain-single command plain in
-    let step = subst (λ c. Step (set_apart done.kept command) c reply done.left) (carried-same command old plain) done.step in
-    let made = united-same (is_one_unit command) (unit_start (put_in done.kept command) done.kept.pair.changes) done.left done.made single done.unites in
-    let is_made = ends-made old new command reply (inr (inr done)) free done.made done.forgets.is (sym (ap (λ (s : State). s.options) done.forgets.is)) in
+mark_done : (start : List ℕ) (texts : List (List ℕ)) (command : Command) (old new : State) (reply : Reply) → Holds start texts old → is_mark command ≡ true → old.options.bound ≡ no_bound → ¬ (WasRefused reply)
+    → Performed old command reply new → MarkDone start texts old command reply new
+mark_done start texts command old new reply h mark free allowed (inl stopped) = absurd (allowed (mark-stopped command old reply mark stopped.0))
+mark_done start texts command old new reply h mark free allowed (inr (inl unkept)) = absurd (allowed unkept.1)
+mark_done start texts command old new reply h mark free allowed (inr (inr done)) =
+    let single = mark-single command mark in
+    let apart = apart-same (is_one_unit command) done.kept single in
+    let step = subst (λ c. Step (set_apart done.kept command) c reply done.left) (mark-carried command old mark) done.step in
+    let made = united-same (is_one_unit command) (unit_start (put_in done.kept command) done.kept.pair.changes) (with_waiting old command done.left) done.made single done.unites in
+    let is = ends-made old new command reply (inr (inr done)) free done.made done.forgets.is (sym (ap (λ (s : State). s.options) done.forgets.is)) ∙ made in
+    let asked = asks_to_keep old command in
+    let rows = keeping asked old done.keeps.0 done.kept done.keeps.1 in
+    let at_kept = Holds-Leads start rows texts old done.kept h (keeping-Leads asked old done.keeps.0 done.kept done.keeps.1) in
+    let row : Row = record { before = done.kept; command = command; reply = reply; after = done.left; step = subst (λ s. Step s command reply done.left) apart step } in
+    let at_left = Holds-row start (texts ++ held_of rows) row at_kept in
+    let now = Holds-waiting start texts ((texts ++ held_of rows) ++ held row) old done.kept done.left command reply h done.keeps done.step at_left in
     record {
       said = done.keeps.0;
       kept = done.kept;
       keeps = done.keeps.1;
-      step = subst (λ s. Step done.kept command reply s) (sym (is_made ∙ made)) (subst (λ s. Step s command reply done.left) (apart-same (is_one_unit command) done.kept single) step);
+      left = done.left;
+      step = row.step;
+      recorded = ap (λ (s : State). s.pair.changes.recorded) is ∙ (waiting-same old command done.left).0;
+      line = ap (λ (s : State). s.line) is ∙ (waiting-same old command done.left).1;
+      holds = (now.0, subst (Holds start now.0) (sym is) now.1);
     }
 
 -- ---- the begin
@@ -138,23 +203,20 @@ record Begun (start : List ℕ) (old begun : State) : Type 0 where
 
 begins : (start : List ℕ) (texts : List (List ℕ)) (old new : State) (reply : Reply) → Holds start texts old → old.options.bound ≡ no_bound → Performed old asks.Begin reply new → ¬ (WasRefused reply) → Begun start old new
 begins start texts old new reply h free p allowed =
-    let d = plain_done asks.Begin old new reply refl free allowed p in
+    let d = mark_done start texts asks.Begin old new reply h refl free allowed p in
     let asked = asks_to_keep old asks.Begin in
     let rows = keeping asked old d.said d.kept d.keeps in
     let holds = Holds-Leads start rows texts old d.kept h (keeping-Leads asked old d.said d.kept d.keeps) in
-    let row : Row = record { before = d.kept; command = asks.Begin; reply = reply; after = new; step = d.step } in
+    let row : Row = record { before = d.kept; command = asks.Begin; reply = reply; after = d.left; step = d.step } in
     let now = done_as row asks.Begin (λ r k _ _. k ≡ begun r) Begin-done refl allowed in
     let front = d.kept.pair.changes.recorded in
+    let is : new.pair.changes.recorded ≡ front ++ Begin ∷ [] = d.recorded ∙ ap (λ (r : Record). r.recorded) now in
     record {
       front = front;
       matched = holds.matched.recorded;
       leads = holds.leads ∙ ap (λ (s : State). Some s.line.text) (Keeps-changes asked old d.kept d.said d.keeps).1;
-      is = ap (λ (r : Record). r.recorded) now;
-      stands = record {
-        inside = subst (Inside front) (sym now) (record { inner = []; is = refl; matched = refl });
-        texts = (texts ++ held_of rows) ++ held row;
-        holds = Holds-row start (texts ++ held_of rows) row holds;
-      };
+      is = is;
+      stands = record { inside = record { inner = []; is = is; matched = refl }; texts = d.holds.0; holds = d.holds.1 };
     }
 
 below-is : (start : List ℕ) (old begun : State) (b : Begun start old begun) (below : ℕ) → level begun.pair.changes.recorded ≡ suc below → below ≡ level b.front
@@ -181,10 +243,10 @@ Finds-Keeps n k true old kept (says.Answer a) s f = subst (λ (s : State). Finds
 Finds-Keeps n k true old kept (says.Refused NoMemory) s f = subst (λ (s : State). Finds n k s.pair.changes) (sym (s.settles ∙ s.does.1)) f
 Finds-Keeps n k true old kept _ s f = absurd s.does
 
-closes-plain : (command : Command) (below now : ℕ) → ClosesGroup below now command → is_plain command ≡ true
-closes-plain asks.End below now c = refl
-closes-plain asks.EndOne below now c = refl
-closes-plain _ below now c = absurd c
+closes-mark : (command : Command) (below now : ℕ) → ClosesGroup below now command → is_mark command ≡ true
+closes-mark asks.End below now c = refl
+closes-mark asks.EndOne below now c = refl
+closes-mark _ below now c = absurd c
 
 record Ended (start : List ℕ) (front : List Entry) (new : State) : Type 0 where
   kept : kept_of 1 new.pair.changes.recorded ≡ front
@@ -198,18 +260,19 @@ ends : (start : List ℕ) (front : List Entry) (old new : State) (command : Comm
 ends start front old new command reply m h free closes change p allowed =
     let r = old.pair.changes in
     let n = level r.recorded in
-    let d = plain_done command old new reply (closes-plain command (level front) n closes) free allowed p in
+    let d = mark_done start h.texts command old new reply h.holds (closes-mark command (level front) n closes) free allowed p in
     let kept = in-Keeps (asks_to_keep old command) start front old d.kept d.said m d.keeps h in
     let long : suc (length front) ≤ length r.recorded = omega (arith, ap length h.inside.is, length-append front (Begin ∷ h.inside.inner)) in
     let found = Finds-Keeps n (suc (length front)) (asks_to_keep old command) old d.kept d.said d.keeps (record { opened = record { matched = h.holds.matched; level = refl }; within = long; change = change }) in
-    let row : Row = record { before = d.kept; command = command; reply = reply; after = new; step = d.step } in
+    let row : Row = record { before = d.kept; command = command; reply = reply; after = d.left; step = d.step } in
     let c = closing-row row command (level front) refl (subst (λ k. ClosesGroup (level front) k command) found.opened.level closes) allowed in
     let unit = closed_unit front d.kept.pair.changes c.0 kept.inside c.1 found.change in
+    let is = d.recorded ∙ ap (λ (k : Record). k.recorded) c.2 in
     record {
-      kept = ap (λ (k : Record). kept_of 1 k.recorded) c.2 ∙ unit.0;
-      change = ap (λ (k : Record). has_change (last_of 1 k.recorded)) c.2 ∙ unit.1;
-      texts = kept.texts ++ held row;
-      holds = Holds-row start kept.texts row kept.holds;
+      kept = ap (kept_of 1) is ∙ unit.0;
+      change = ap (λ es. has_change (last_of 1 es)) is ∙ unit.1;
+      texts = d.holds.0;
+      holds = d.holds.1;
     }
 
 -- ---- the laws
@@ -246,9 +309,9 @@ abandon-performed start texts old begun mid new below first last inside h free p
     let free_then = ap (λ (o : Options). o.bound) (Performed-options old begun asks.Begin first p) ∙ free in
     let free_mid = ap (λ (o : Options). o.bound) (Calls-options begun mid inside) ∙ free_then in
     let at_mid = inside-group start old begun mid b below inside free_then opened all in
-    let d = plain_done asks.Abandon mid new last refl free_mid abandons a in
-    let row : Row = record { before = d.kept; command = asks.Abandon; reply = last; after = new; step = d.step } in
+    let d = mark_done start at_mid.texts asks.Abandon mid new last at_mid.holds refl free_mid abandons a in
+    let row : Row = record { before = d.kept; command = asks.Abandon; reply = last; after = d.left; step = d.step } in
     let kept = subst (StandsInside start b.front) (sym d.keeps.1) at_mid in
     let left = abandoned-row start kept.texts b.front row kept.holds kept.inside
         (ap (λ (s : State). level s.pair.changes.recorded) d.keeps.1 ∙ opened_then ∙ ap suc (below-is start old begun b below opened)) refl abandons in
-    (same_Some new.line.text old.line.text (sym left.0 ∙ b.leads), ap (λ es. es ++ Begin ∷ []) left.1 ∙ sym b.is)
+    (ap (λ (l : Line). l.text) d.line ∙ same_Some d.left.line.text old.line.text (sym left.0 ∙ b.leads), ap (λ es. es ++ Begin ∷ []) (d.recorded ∙ left.1) ∙ sym b.is)

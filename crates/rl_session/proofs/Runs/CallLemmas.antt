@@ -111,18 +111,18 @@ is_plain Abandon = false
 is_plain (Undo n) = false
 is_plain command = not (is_one_unit command)
 
-pub stopped_refused : (command : Command) (s : State) (reply : Reply) → is_plain command ≡ true → Stops s command reply → WasRefused reply
+stopped_refused : (command : Command) (s : State) (reply : Reply) → is_plain command ≡ true → Stops s command reply → WasRefused reply
 stopped_refused Reopen s reply plain stops = cc
 stopped_refused Begin s reply plain stops = cc
 stopped_refused (Undo n) s reply plain stops = cc
 stopped_refused _ s (says.Refused why) plain stops = tt
 stopped_refused _ s _ plain stops = absurd stops
 
-pub carried-same : (command : Command) (s : State) → is_plain command ≡ true → carried s command ≡ command
+carried-same : (command : Command) (s : State) → is_plain command ≡ true → carried s command ≡ command
 carried-same (Undo n) s plain = cc
 carried-same _ s plain = refl
 
-pub plain-single : (command : Command) → is_plain command ≡ true → is_one_unit command ≡ false
+plain-single : (command : Command) → is_plain command ≡ true → is_one_unit command ≡ false
 plain-single Reopen plain = refl
 plain-single Begin plain = cc
 plain-single End plain = cc

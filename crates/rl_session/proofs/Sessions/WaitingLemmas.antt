@@ -66,13 +66,13 @@ pub begun_waiting : (old mid made new : State) (n : ℕ) → Forgets made new �
     → mid ≡ with_changes (still_waiting (old.pair.changes.recorded ++ AddsBegin ∷ []) old.pair.changes) old → n ≡ length old.pair.changes.recorded → leaves_waiting old Begin ≡ true
     → Performed old Begin (says.Mark n) new
 begun_waiting old mid made new n forgets resets is long h =
-    waiting_done Begin old mid made new (says.Mark n) (begun old.pair.changes) refl refl refl (leaves old Begin h).keeps (λ x. x) (λ s. refl) refl h forgets resets is (long, refl)
+    waiting_done Begin old mid made new (says.Mark n) (begun old.pair.changes) refl refl refl (leaves old Begin h).keeps (λ x. x) (λ s. refl) refl h forgets resets is ((long, tt), refl)
 
 pub ended_waiting : (old mid made new : State) → Forgets made new → made ≡ with_ring (reset mid.pair.ring) mid
     → mid ≡ with_changes (still_waiting (end_times (level old.pair.changes.recorded) old.pair.changes.recorded) old.pair.changes) old → leaves_waiting old End ≡ true → Performed old End (says.Answer false) new
 ended_waiting old mid made new forgets resets is h =
     let l = leaves old End h in
-    waiting_done End old mid made new (says.Answer false) (ended old.pair.changes) refl refl refl l.keeps (λ x. x) (λ s. refl) refl h forgets resets is (sym (not-true _ l.empty), refl)
+    waiting_done End old mid made new (says.Answer false) (ended old.pair.changes) refl refl refl l.keeps (λ x. x) (λ s. refl) refl h forgets resets is ((sym (not-true _ l.empty), tt), refl)
 
 pub ended_one_waiting : (count : ℕ) (old mid made new : State) → count ≡ min 1 (level old.pair.changes.recorded) → Forgets made new → made ≡ with_ring (reset mid.pair.ring) mid
     → mid ≡ with_changes (still_waiting (end_times count old.pair.changes.recorded) old.pair.changes) old
@@ -82,7 +82,7 @@ ended_one_waiting count old mid made new few forgets resets is h =
     let leaving : leaves_waiting old EndOne ≡ true = subst (λ n. (not (adds_end n r.recorded) && (not old.options.keeps && waits r.pending)) ≡ true) few h in
     let l = leaves old EndOne leaving in
     waiting_done EndOne old mid made new (says.Answer false) (ended_one r) refl refl refl l.keeps (λ x. x) (λ s. refl) refl leaving forgets resets
-    (is ∙ ap (λ n. with_changes (still_waiting (end_times n r.recorded) r) old) few) (sym (not-true _ l.empty), refl)
+    (is ∙ ap (λ n. with_changes (still_waiting (end_times n r.recorded) r) old) few) ((sym (not-true _ l.empty), tt), refl)
 
 pub abandoned_waiting : (old mid made new : State) → Forgets made new → made ≡ with_ring (reset mid.pair.ring) mid
     → mid ≡ with_changes (still_waiting (end_times 1 old.pair.changes.recorded) old.pair.changes) old → leaves_waiting old Abandon ≡ true → ¬ (IsStopped old Abandon) → Performed old Abandon (says.Answer true) new
