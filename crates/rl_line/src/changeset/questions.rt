@@ -4,7 +4,7 @@ ghost use Rattle.std.specs.Option.{option_map};
 ghost use Rattle.std.specs.String.{string_bytes};
 ghost use Rattle.rl_base.specs.Text.{HasText};
 ghost use Rattle.rl_base.specs.declared.listeners.Refusal.TheVariants.{NoMemory};
-ghost use Rattle.rl_line.specs.Change.{greatest_ahead_over, greatest_back_over, longest_over};
+ghost use Rattle.rl_line.specs.Change.{greatest_back_over, longest_over};
 ghost use Rattle.rl_line.specs.Record.{entry_of, last_insert, replays_to};
 ghost use Rattle.rl_line.specs.Undo.{CopiesBack, Tries, TriesAhead, TriesBack, line_ahead, line_back, line_over, unit_of};
 ghost use Rattle.rl_line.specs.Walk.{Walks};
@@ -14,7 +14,7 @@ use crate::change::{Change, Way, copied, keeps_to, patch_over, retraces, text_ov
 use crate::changeset::Changeset;
 use crate::line_buffer::LineBuffer;
 use crate::{entries, units};
-use rl_base::{Refusal, RepeatCount};
+use rl_base::Refusal;
 use std::alloc::Global;
 
 impl Changeset {

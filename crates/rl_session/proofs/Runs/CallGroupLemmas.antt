@@ -11,7 +11,7 @@ use Rattle.rl_line.proofs.Records.RoundLemmas.{AtLevel-round, kept-either}
 use Rattle.rl_line.proofs.Records.UnitingLemmas.{Inside-united, taken-inside}
 use Rattle.rl_session.specs.Commands.{Step, with_changes}
 use Rattle.rl_session.specs.History.{History}
-use Rattle.rl_session.specs.Performing.{AllCallsStandInGroup, Calls, HasKept, Keeps, Performed, Stops, Unites, asks_to_keep, call, carried, is_one_unit, keeping, leaves_waiting, no_call, put_in, set_apart, with_waiting}
+use Rattle.rl_session.specs.Performing.{AllCallsStandInGroup, Calls, HasKept, Keeps, Performed, Unites, asks_to_keep, call, carried, is_one_unit, keeping, leaves_waiting, no_call, put_in, set_apart, with_waiting}
 use Rattle.rl_session.specs.declared.options.Options.{Options}
 use Rattle.rl_session.specs.declared.session.Command.TheVariants as asks
 use Rattle.rl_session.specs.declared.session.Fault.TheVariants.{NoMemory}
@@ -23,7 +23,7 @@ use Rattle.rl_session.proofs.Runs.RowLemmas.{Step-options, within_bound-none}
 use Rattle.rl_session.proofs.Runs.UndoGroupLemmas.{Begin-done, Inside-row, abandoned-row, closed_unit, closing-row}
 use Rattle.rl_session.proofs.Runs.UnitLawLemmas.{undo-leads}
 use Rattle.rl_session.proofs.Sessions.PerformLemmas.{apart-same, united-same}
-use Rattle.rl_session.proofs.Sessions.WaitingLemmas.{leaves-left}
+use Rattle.rl_session.proofs.Sessions.WaitingLemmas.{is_mark, leaves-left, mark-carried, mark-single, mark-stopped}
 
 -- ---- inside the group
 -- a state of a history whose record stands in an open group
@@ -132,30 +132,6 @@ in-Calls start front old new (call {mid = mid} command reply p calls) m free may
     in-Calls start front mid new calls m (ap (λ (o : Options). o.bound) (Performed-options old mid command reply p) ∙ free) may.1 (in-Performed start front old mid command reply m free may.0 p h)
 
 -- ---- the begin of a group, its end or its abandon, if it was done
-abbrev is_mark : Command → Bool
-is_mark asks.Begin = true
-is_mark asks.End = true
-is_mark asks.EndOne = true
-is_mark asks.Abandon = true
-is_mark _ = false
-
-mark-single : (command : Command) → is_mark command ≡ true → is_one_unit command ≡ false
-mark-single asks.Begin mark = refl
-mark-single asks.End mark = refl
-mark-single asks.EndOne mark = refl
-mark-single asks.Abandon mark = refl
-mark-single _ mark = cc
-
-mark-carried : (command : Command) (s : State) → is_mark command ≡ true → carried s command ≡ command
-mark-carried (Undo n) s mark = cc
-mark-carried _ s mark = refl
-
-mark-stopped : (command : Command) (s : State) (reply : Reply) → is_mark command ≡ true → Stops s command reply → WasRefused reply
-mark-stopped command s (says.Refused why) mark stops = tt
-mark-stopped (Undo n) s (says.Answer a) mark stops = cc
-mark-stopped asks.Reopen s (says.Answer a) mark stops = cc
-mark-stopped _ s _ mark stops = absurd stops
-
 record MarkDone (start : List ℕ) (texts : List (List ℕ)) (old : State) (command : Command) (reply : Reply) (new : State) : Type 0 where
   said : Reply
   kept : State

@@ -8,24 +8,13 @@ use Rattle.rl_line.proofs.Records.LastLemmas.{end_one-begin}
 use Rattle.rl_line.proofs.Records.LevelLemmas.{level-begin}
 use Rattle.rl_line.proofs.Records.WaitingLemmas.{given_up}
 use Rattle.rl_session.specs.Commands.{with_changes}
-use Rattle.rl_session.specs.Performing.{EndsLast, Performed, Stops, is_empty_group, is_one_unit, leaves_waiting, put_in, with_waiting}
+use Rattle.rl_session.specs.Performing.{EndsLast, Performed, is_empty_group, is_one_unit, leaves_waiting, put_in, with_waiting}
 use Rattle.rl_session.specs.declared.options.Options.{Options}
 use Rattle.rl_session.specs.declared.session.Command.TheVariants.{Abandon, Begin, End, EndOne}
 use Rattle.rl_session.specs.declared.session.Reply.TheVariants as says
 use Rattle.rl_session.proofs.Runs.RowLemmas.{Step-options, within_bound-none}
 use Rattle.rl_session.proofs.Sessions.PerformLemmas.{united-same}
-use Rattle.rl_session.proofs.Sessions.WaitingLemmas.{left_by, made-pending, made_of, same-command, step-alone}
-
-stopped : (command : Command) (s : State) (reply : Reply) → is_empty_group s.pair.changes.recorded command ≡ true → Stops s command reply → WasRefused reply
-stopped Begin s (says.Refused why) empty stops = tt
-stopped Begin s _ empty stops = absurd stops
-stopped End s (says.Refused why) empty stops = tt
-stopped End s _ empty stops = absurd stops
-stopped EndOne s (says.Refused why) empty stops = tt
-stopped EndOne s _ empty stops = absurd stops
-stopped Abandon s (says.Refused why) empty stops = tt
-stopped Abandon s _ empty stops = absurd stops
-stopped _ s reply empty stops = cc
+use Rattle.rl_session.proofs.Sessions.WaitingLemmas.{empty-mark, left_by, made-pending, made_of, mark-single, mark-stopped, step-alone}
 
 -- what such a command left, before it forgot
 record Leaves (command : Command) (old made : State) : Type 0 where
@@ -39,12 +28,12 @@ none-waits (e ∷ es) h = cc
 
 left : (command : Command) (old new : State) (reply : Reply) → is_empty_group old.pair.changes.recorded command ≡ true → old.options.keeps ≡ false → Performed old command reply new → ¬ (WasRefused reply)
     → (made : State) × (new ≡ within_bound made) × Leaves command old made
-left command old new reply empty none (inl s) allowed = absurd (allowed (stopped command old reply empty s.0))
+left command old new reply empty none (inl s) allowed = absurd (allowed (mark-stopped command old reply (empty-mark command old.pair.changes.recorded empty) s.0))
 left command old new reply empty none (inr (inl unkept)) allowed = absurd (allowed unkept.1)
 left command old new reply empty none (inr (inr done)) allowed =
     let r = old.pair.changes in
     let step = step-alone old done.kept done.left command reply empty none done.keeps done.step in
-    let single = (same-command command old empty).1 in
+    let single = mark-single command (empty-mark command r.recorded empty) in
     let made = united-same (is_one_unit command) (unit_start (put_in done.kept command) done.kept.pair.changes) (with_waiting old command done.left) done.made single done.unites in
     let by = elim (left_by command old done.left reply empty step) as (λ _. done.left.pair.changes ≡ made_of command r) [ inl by ↦ by.changes_is | inr (refused, by) ↦ absurd (allowed refused) ] in
     let recorded = ap (λ (q : Record). q.recorded) by in

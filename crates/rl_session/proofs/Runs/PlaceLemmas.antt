@@ -8,7 +8,7 @@ use Rattle.rl_line.specs.Units.{BothMatched, ends_in_end, grouped_from, redo_dro
 use Rattle.rl_line.specs.declared.changeset.UnitStart.{UnitStart}
 use Rattle.rl_line.proofs.Records.WaitingLemmas.{MarksMoved}
 use Rattle.rl_line.proofs.Records.UnitingLemmas.{BothMatched-united, replay-united, united-cases}
-use Rattle.rl_line.proofs.Records.MarkLemmas.{replay-begin, replay-end}
+use Rattle.rl_line.proofs.Records.MarkLemmas.{replay-begin, replay-end, replay-end_one}
 use Rattle.rl_line.proofs.Records.JoinLemmas.{heard, step-cases}
 use Rattle.rl_line.proofs.Records.LastLemmas.{after-cases, end_one-cases, ends-past, end_times-keeps, map-reverse}
 use Rattle.rl_line.proofs.Records.MatchLemmas.{IsMatched-after, BothMatched-begun, BothMatched-closed, BothMatched-undone, BothMatched-redone, BothMatched-truncated, Redoes-of, BothMatched-step}

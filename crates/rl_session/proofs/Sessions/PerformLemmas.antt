@@ -1,5 +1,5 @@
 -- How what a command does becomes a command that was performed.
-use Rattle.rl_session.proofs.Common.{◌≡◌, ℕ, ap, cond, max, Record, min, None, Some, same_Some, ◌∙◌, not, string_bytes, Bool, Ok, Result, replied, false, true, inl, inr, refl, subst, sym, reset, Movement, BeginningOfLine, EndOfLine, BackwardWord, ForwardWord, ViCharSearch, BeginningOfBuffer, EndOfBuffer, CanDeleteBy, kill_plan, nothing_more, Came, Does, answers, deletion_of, edit_course, readied, settled, State, Ends, WasRefused, with_ring, Command, KillLine, KillBuffer, DiscardLine, DiscardBuffer, DeletePrevWord, DeleteWord, DeleteTo, Reply}
+use Rattle.rl_session.proofs.Common.{Err, IfErr, IfOk, Line, List, Option, Refusal, Walks, ◌≡◌, ℕ, ap, cond, max, Record, min, None, Some, same_Some, ◌∙◌, not, string_bytes, Bool, Ok, Result, replied, false, true, inl, inr, refl, subst, sym, reset, Movement, BeginningOfLine, EndOfLine, BackwardWord, ForwardWord, ViCharSearch, BeginningOfBuffer, EndOfBuffer, CanDeleteBy, kill_plan, nothing_more, Came, Does, answers, deletion_of, edit_course, readied, settled, State, Ends, WasRefused, with_ring, Command, KillLine, KillBuffer, DiscardLine, DiscardBuffer, DeletePrevWord, DeleteWord, DeleteTo, Reply}
 use Rattle.rl_line.specs.Edits.{CanInsertStr, insert_str_plan}
 use Rattle.rl_line.specs.Plan.{longest_by}
 use Rattle.std.specs.Prelude.{String}
@@ -12,7 +12,13 @@ use Rattle.rl_session.proofs.Sessions.StepLemmas.{step_done}
 use Rattle.rl_session.specs.Forgetting.{Forgets}
 use Rattle.rl_session.specs.Performing.{Bars, HasKept, IsBarred, IsStopped, Keeps, Performed, Stops, Unites, asks_to_keep, carried, is_one_unit, is_within, leaves_waiting, made_in_group, put_in, set_apart, with_waiting, within_group}
 use Rattle.rl_line.specs.Record.{parted}
+<<<<<<< HEAD
 use Rattle.rl_line.specs.Units.{still_waiting, unit_start}
+=======
+use Rattle.rl_line.specs.Trying.{DoneWithin}
+use Rattle.rl_line.specs.Undo.{OutOfRoom}
+use Rattle.rl_line.specs.Units.{unit_start}
+>>>>>>> e7708d1821566b318e87b43439207e0795c6f235
 use Rattle.rl_line.specs.declared.changeset.UnitStart.{UnitStart}
 use Rattle.rl_session.specs.declared.session.Fault.TheVariants.{NoMemory, TooLong}
 
@@ -159,6 +165,16 @@ pub redo_done : (old left ended new : State) (reply : Reply) → Forgets ended n
 redo_done old left ended new reply forgets does resets free =
     let here = subst (λ s. Does (anew old) Redo reply s) (sym resets) (redo-anew old left reply does) in
     done Redo old old (anew old) ended ended new reply forgets here refl refl (says.Answer false, (refl, refl), λ w. w) free refl refl
+
+-- an undo or a redo that the limit may bar: the record leads to the text again
+Walks-same : (r now : Record) (old new : Line) → now ≡ r → new ≡ old → Walks r old.text → Walks now new.text
+Walks-same r now old new e f w = subst (λ k. Walks k new.text) (sym e) (subst (λ (l : Line). Walks r l.text) (sym f) w)
+
+pub Walks-within : (Done : Bool → Type 0) (keeps : Bool) (texts : List (List ℕ)) (r now : Record) (old new : Line) (result : Result (Option Bool) Refusal)
+    → ((a : Bool) → Done a → Walks r old.text → Walks now new.text) → IfOk result (DoneWithin Done keeps r now old new) → IfErr result (OutOfRoom r now old new texts) → Walks r old.text → Walks now new.text
+Walks-within Done keeps texts r now old new (Ok (Some a)) leads d e w = leads a d.1 w
+Walks-within Done keeps texts r now old new (Ok None) leads d e w = Walks-same r now old new d.1 d.2 w
+Walks-within Done keeps texts r now old new (Err why) leads d e w = Walks-same r now old new e.1 e.2 w
 
 -- a deletion by a movement is the command of that movement
 pub deleted : (m : Movement) (old kept begun left new : State) (reply : Reply) → CanDeleteBy m → Forgets left new → Came (edit_course nothing_more (Unit {0}) (kill_plan begun.line m) answers reply) begun left

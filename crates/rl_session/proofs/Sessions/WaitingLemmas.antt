@@ -1,5 +1,5 @@
 -- A group that is begun, or an empty one that is ended or abandoned: what waits to be redone stays.
-use Rattle.rl_session.proofs.Common.{◌≡◌, ◌≤◌, ◌&&◌, ◌⊎◌, Some, same_Some, ◌∙◌, ℕ, ap, cond, min, not, Bool, false, true, [], ◌∷◌, ◌++◌, length, inl, inr, refl, subst, sym, reset, Line, Record, begun, end_times, level, Does, Ends, State, with_ring, Command, Reply, WasRefused}
+use Rattle.rl_session.proofs.Common.{◌≡◌, ◌≤◌, ◌&&◌, ◌⊎◌, Some, same_Some, ◌∙◌, ℕ, ap, cond, min, not, Bool, false, true, [], ◌∷◌, ◌++◌, length, inl, inr, refl, subst, sym, reset, Entry, List, Line, Record, begun, end_times, level, Does, Ends, State, with_ring, Command, Reply, WasRefused}
 use Rattle.std.proofs.lemmas.Bool.{and_parts, not-true}
 use Rattle.std.specs.Prelude.{IsSome}
 use Rattle.std.specs.Str.{IsCharBoundary}
@@ -14,8 +14,8 @@ use Rattle.rl_base.specs.Event.{apply}
 use Rattle.std.proofs.Math.Bool.{and-false}
 use Rattle.rl_session.specs.Commands.{Step, readied, settled, with_changes}
 use Rattle.rl_session.specs.Forgetting.{Forgets}
-use Rattle.rl_session.specs.Performing.{HasKept, IsStopped, Performed, Unites, asks_to_keep, carried, is_edit_or_mark, is_empty_group, is_one_unit, leaves_waiting, put_in, set_apart, with_waiting}
-use Rattle.rl_session.specs.declared.session.Command.TheVariants.{Abandon, Begin, End, EndOne}
+use Rattle.rl_session.specs.Performing.{HasKept, IsStopped, Performed, Stops, Unites, asks_to_keep, carried, is_edit_or_mark, is_empty_group, is_one_unit, leaves_waiting, put_in, set_apart, with_waiting}
+use Rattle.rl_session.specs.declared.session.Command.TheVariants.{Abandon, Begin, End, EndOne, Undo}
 use Rattle.rl_session.specs.declared.session.Fault.TheVariants.{NoMemory}
 use Rattle.rl_session.specs.declared.session.Reply.TheVariants as says
 use Rattle.rl_session.proofs.Sessions.PerformLemmas.{apart-same, keeps_nothing}
@@ -161,12 +161,42 @@ pub record LeftMarks (old left : State) : Type 0 where
   pub text_is : left.line.text ≡ old.line.text
   pub marks : MarksMoved old.pair.changes.recorded left.pair.changes.recorded
 
-pub same-command : (command : Command) (old : State) → is_empty_group old.pair.changes.recorded command ≡ true → (carried old command ≡ command) × (is_one_unit command ≡ false)
-same-command Begin old empty = (refl, refl)
-same-command End old empty = (refl, refl)
-same-command EndOne old empty = (refl, refl)
-same-command Abandon old empty = (refl, refl)
-same-command _ old empty = cc
+-- the commands that mark a group's begin, its end or its abandon
+abbrev pub is_mark : Command → Bool
+is_mark Begin = true
+is_mark End = true
+is_mark EndOne = true
+is_mark Abandon = true
+is_mark _ = false
+
+pub empty-mark : (command : Command) (es : List Entry) → is_empty_group es command ≡ true → is_mark command ≡ true
+empty-mark Begin es empty = refl
+empty-mark End es empty = refl
+empty-mark EndOne es empty = refl
+empty-mark Abandon es empty = refl
+empty-mark _ es empty = cc
+
+pub mark-single : (command : Command) → is_mark command ≡ true → is_one_unit command ≡ false
+mark-single Begin mark = refl
+mark-single End mark = refl
+mark-single EndOne mark = refl
+mark-single Abandon mark = refl
+mark-single _ mark = cc
+
+pub mark-carried : (command : Command) (s : State) → is_mark command ≡ true → carried s command ≡ command
+mark-carried (Undo n) s mark = cc
+mark-carried _ s mark = refl
+
+pub mark-stopped : (command : Command) (s : State) (reply : Reply) → is_mark command ≡ true → Stops s command reply → WasRefused reply
+mark-stopped Begin s (says.Refused why) mark stops = tt
+mark-stopped Begin s _ mark stops = absurd stops
+mark-stopped End s (says.Refused why) mark stops = tt
+mark-stopped End s _ mark stops = absurd stops
+mark-stopped EndOne s (says.Refused why) mark stops = tt
+mark-stopped EndOne s _ mark stops = absurd stops
+mark-stopped Abandon s (says.Refused why) mark stops = tt
+mark-stopped Abandon s _ mark stops = absurd stops
+mark-stopped _ s reply mark stops = cc
 
 -- nothing was kept before it
 kept-same : (asked : Bool) (old kept : State) → asked ≡ false → HasKept asked old kept → kept ≡ old
@@ -175,9 +205,9 @@ kept-same asked old kept none keeps = (subst (λ b. HasKept b old kept) none kee
 pub step-alone : (old kept left : State) (command : Command) (reply : Reply) → is_empty_group old.pair.changes.recorded command ≡ true → old.options.keeps ≡ false → HasKept (asks_to_keep old command) old kept
     → Step (set_apart kept command) (carried old command) reply left → Step old command reply left
 step-alone old kept left command reply empty none keeps step =
-    let (same, single) = same-command command old empty in
+    let mark = empty-mark command old.pair.changes.recorded empty in
     let asks : asks_to_keep old command ≡ false = ap (λ b. is_edit_or_mark command && b) none ∙ and-false (is_edit_or_mark command) in
-    subst (λ s. Step s command reply left) (apart-same (is_one_unit command) kept single ∙ kept-same (asks_to_keep old command) old kept asks keeps) (subst (λ c. Step (set_apart kept command) c reply left) same step)
+    subst (λ s. Step s command reply left) (apart-same (is_one_unit command) kept (mark-single command mark) ∙ kept-same (asks_to_keep old command) old kept asks keeps) (subst (λ c. Step (set_apart kept command) c reply left) (mark-carried command old mark) step)
 
 pub leaves-left : (old kept left : State) (command : Command) (reply : Reply) → leaves_waiting old command ≡ true → HasKept (asks_to_keep old command) old kept
     → Step (set_apart kept command) (carried old command) reply left → LeftMarks old left

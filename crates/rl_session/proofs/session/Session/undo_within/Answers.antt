@@ -1,6 +1,13 @@
 use Rattle.rl_line.proofs.Records.MoveLemmas.{undo-fits}
-use Rattle.rl_line.proofs.Records.WalkLemmas.{Walks-back}
+use Rattle.rl_line.proofs.Records.WalkLemmas.{Walks-Undone, Walks-back}
+use Rattle.rl_session.proofs.Sessions.PerformLemmas.{Walks-within}
 use Rattle.rl_session.proofs.session.Session.undo_within.Goals as goal
+
+pub invariant_of-self : goal.invariant_of-self
+invariant_of-self c = record {
+  walks = Walks-within _ _ _ _ _ _ _ c.undo_within.result (λ a d w. Walks-Undone _ _ _ _ _ a d w) c.undo_within.ensures.done c.undo_within.ensures.err c.self.invariant.walks;
+  idle = c.self.invariant.idle;
+}
 
 pub undo_within-requires-clause-follows : goal.undo_within-requires-clause-follows
 undo_within-requires-clause-follows c =
