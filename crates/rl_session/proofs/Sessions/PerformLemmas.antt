@@ -12,13 +12,9 @@ use Rattle.rl_session.proofs.Sessions.StepLemmas.{step_done}
 use Rattle.rl_session.specs.Forgetting.{Forgets}
 use Rattle.rl_session.specs.Performing.{Bars, HasKept, IsBarred, IsStopped, Keeps, Performed, Stops, Unites, asks_to_keep, carried, is_one_unit, is_within, leaves_waiting, made_in_group, put_in, set_apart, with_waiting, within_group}
 use Rattle.rl_line.specs.Record.{parted}
-<<<<<<< HEAD
-use Rattle.rl_line.specs.Units.{still_waiting, unit_start}
-=======
 use Rattle.rl_line.specs.Trying.{DoneWithin}
 use Rattle.rl_line.specs.Undo.{OutOfRoom}
-use Rattle.rl_line.specs.Units.{unit_start}
->>>>>>> e7708d1821566b318e87b43439207e0795c6f235
+use Rattle.rl_line.specs.Units.{still_waiting, unit_start}
 use Rattle.rl_line.specs.declared.changeset.UnitStart.{UnitStart}
 use Rattle.rl_session.specs.declared.session.Fault.TheVariants.{NoMemory, TooLong}
 
