@@ -86,9 +86,11 @@ Holds-waiting : (start : List ℕ) (texts then : List (List ℕ)) (old kept left
 Holds-waiting start texts then old kept left command reply h keeps step holds =
     cond_both (leaves_waiting old command) (with_changes (still_waiting left.pair.changes.recorded old.pair.changes) left) left (λ s. (now : List (List ℕ)) × Holds start now s)
     (λ e.
-    let m = leaves-left old kept left command reply e keeps step in
-    (texts, subst (λ text. History start texts text (still_waiting left.pair.changes.recorded old.pair.changes)) (sym m.text_is)
-    (History-waiting start texts old.line.text old.pair.changes left.pair.changes.recorded m.marks holds.matched.recorded h))) (λ _. (then, holds))
+    let m = leaves-left old kept left command reply e keeps step in (
+      texts,
+      subst (λ text. History start texts text (still_waiting left.pair.changes.recorded old.pair.changes)) (sym m.text_is)
+          (History-waiting start texts old.line.text old.pair.changes left.pair.changes.recorded m.marks holds.matched.recorded h),
+    )) (λ _. (then, holds))
 
 in-waiting : (start : List ℕ) (front : List Entry) (old kept left : State) (command : Command) (reply : Reply) → StandsInside start front old → HasKept (asks_to_keep old command) old kept
     → Step (set_apart kept command) (carried old command) reply left → StandsInside start front left → StandsInside start front (with_waiting old command left)
@@ -271,7 +273,7 @@ group-performed start texts old begun mid ended new below first last said inside
     let at_mid = inside-group start old begun mid b below inside free_then opened all in
     let long : length begun.pair.changes.recorded ≡ suc (length b.front) = omega (arith, ap length b.is, length-append b.front (Begin ∷ [])) in
     let k = ends start b.front mid ended command last b.matched at_mid free_mid (subst (λ n. ClosesGroup n (level mid.pair.changes.recorded) command) same closes)
-        (ap (λ n. has_change (drop n mid.pair.changes.recorded)) (sym long) ∙ change) e ends_well in
+    (ap (λ n. has_change (drop n mid.pair.changes.recorded)) (sym long) ∙ change) e ends_well in
     let leads = undo-leads start k.texts ended new said k.holds k.change u undoes in
     same_Some new.line.text old.line.text (sym leads ∙ ap (λ es. replay_entries es start) k.kept ∙ b.leads)
 
@@ -289,5 +291,5 @@ abandon-performed start texts old begun mid new below first last inside h free p
     let row : Row = record { before = d.kept; command = asks.Abandon; reply = last; after = d.left; step = d.step } in
     let kept = subst (StandsInside start b.front) (sym d.keeps.1) at_mid in
     let left = abandoned-row start kept.texts b.front row kept.holds kept.inside
-        (ap (λ (s : State). level s.pair.changes.recorded) d.keeps.1 ∙ opened_then ∙ ap suc (below-is start old begun b below opened)) refl abandons in
+    (ap (λ (s : State). level s.pair.changes.recorded) d.keeps.1 ∙ opened_then ∙ ap suc (below-is start old begun b below opened)) refl abandons in
     (ap (λ (l : Line). l.text) d.line ∙ same_Some d.left.line.text old.line.text (sym left.0 ∙ b.leads), ap (λ es. es ++ Begin ∷ []) (d.recorded ∙ left.1) ∙ sym b.is)

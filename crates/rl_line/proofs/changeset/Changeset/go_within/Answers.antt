@@ -33,10 +33,9 @@ returns-in_err-go_over_one-clause-keeps g c =
 
 pub returns-in-Some-clause-done : goal.returns-in-Some-clause-done
 returns-in-Some-clause-done g c =
-    let d = goal.at.returns-in-Some-clause-done g c in
-    (
+    let d = goal.at.returns-in-Some-clause-done g c in (
       sym (asked g d.After-keeps_to) ∙ c.if-not-keeps_to.false,
       GoesOver-of c.args.way c.args.n c.args.self.now _ c.args.line.now _ _
-      (sym ((GoesAs-one c.args.way c.in-Some.change.now _ c.in-Some.ensures.1).line c.args.line.now) ∙ c.in_ok-go_over_one.ensures.ok) (now g d.After-cut)
-      (sym (ap has_change c.in-Some.ensures.1 ∙ ap (λ b. b || false) c.in-Some.ensures.0))
+          (sym ((GoesAs-one c.args.way c.in-Some.change.now _ c.in-Some.ensures.1).line c.args.line.now) ∙ c.in_ok-go_over_one.ensures.ok) (now g d.After-cut)
+          (sym (ap has_change c.in-Some.ensures.1 ∙ ap (λ b. b || false) c.in-Some.ensures.0)),
     )
