@@ -12,3 +12,4 @@ pub mod CallLemmas
 pub mod EmptyGroupLemmas
 pub mod UnitLawLemmas
 pub mod CallGroupLemmas
+pub mod CallSavedLemmas

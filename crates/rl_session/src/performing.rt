@@ -3,14 +3,14 @@
 ghost use Rattle.std.specs.Prelude.{◌≡◌, ◌+◌, ◌++◌, ◌∷◌, [], ◌<◌, ◌≤◌, List, String, drop, length, suc, true, ℕ, Some, false};
 ghost use Rattle.std.specs.String.{string_bytes};
 ghost use Rattle.std.specs.declared.alloc.Global.{Global};
-ghost use Rattle.rl_line.specs.Record.{Begin, replay_entries};
+ghost use Rattle.rl_line.specs.Record.{Begin, is_saved, replay_entries};
 ghost use Rattle.rl_line.specs.Units.{BothMatched, has_change, level};
 ghost use Rattle.rl_session.specs.History.{ClosesGroup, Holds, WasHeld, WasRefused};
 ghost use Rattle.rl_session.specs.KillRuns.{AnyTook, GivenBack, IsNoKill, NoneRefused};
 ghost use Rattle.rl_session.specs.Options.{no_bound};
 ghost use Rattle.rl_session.specs.Performing.{AllCallsStandInGroup, AllKilled, Calls, HoldsFrom, MadeUnit, NoneUnites, Performed, PerformedWith, before_unit, put_in, replies_in, rows_of, EndsLast, is_empty_group};
 ghost use Rattle.rl_session.specs.Run.{Leads, held_of};
-ghost use Rattle.rl_session.specs.State.{ChangedFrom, KeepsLimit, ReportedFrom, Stands, State};
+ghost use Rattle.rl_session.specs.State.{ChangedFrom, KeepsLimit, ReportedFrom, Stands, State, saved_now};
 ghost use Rattle.rl_session.specs.declared.session.Command.{Command};
 ghost use Rattle.rl_session.specs.declared.session.Command.TheVariants.{Undo, Yank};
 ghost use Rattle.rl_session.specs.declared.session.Reply.TheVariants.{Mark};
@@ -78,6 +78,15 @@ pub fn an_empty_group_leaves_what_waits()
     ensures record { (old mid new : State) (n : ℕ) (command : Command) (reply : Reply) → old.options.keeps ≡ false → old.options.bound ≡ no_bound
         → EndsLast (level old.pair.changes.recorded) command → Performed old Command.Begin (Mark n) mid → Performed mid command reply new → ¬ (WasRefused reply)
         → (new.pair.changes.recorded ≡ old.pair.changes.recorded) × (new.pair.changes.pending ≡ old.pair.changes.pending) }
+{}
+
+/// Once a text was saved (`Session::set_saved`), commands that end with a record which says so end with that text, whatever
+/// was done on the way, if nothing is forgotten. It holds too where a group is begun, or an empty one ended, before what
+/// waits to be redone: then the point stays with what is recorded there.
+pub fn a_saved_text_comes_back()
+    ensures { (start : List ℕ) (held : List (List ℕ)) (old new : State) (calls : Calls (saved_now old) new)
+        → Holds start held old → old.options.bound ≡ no_bound → is_saved new.pair.changes ≡ true
+        → new.line.text ≡ old.line.text }
 {}
 
 /// What tells of changes tells of those of every command.

@@ -81,7 +81,7 @@ waiting-same old command left =
     cond_both (leaves_waiting old command) (with_changes (still_waiting left.pair.changes.recorded old.pair.changes) left) left
     (λ s. (s.pair.changes.recorded ≡ left.pair.changes.recorded) × (s.line ≡ left.line)) (λ _. (refl, refl)) (λ _. (refl, refl))
 
-Holds-waiting : (start : List ℕ) (texts then : List (List ℕ)) (old kept left : State) (command : Command) (reply : Reply) → Holds start texts old → HasKept (asks_to_keep old command) old kept
+pub Holds-waiting : (start : List ℕ) (texts then : List (List ℕ)) (old kept left : State) (command : Command) (reply : Reply) → Holds start texts old → HasKept (asks_to_keep old command) old kept
     → Step (set_apart kept command) (carried old command) reply left → Holds start then left → (now : List (List ℕ)) × Holds start now (with_waiting old command left)
 Holds-waiting start texts then old kept left command reply h keeps step holds =
     cond_both (leaves_waiting old command) (with_changes (still_waiting left.pair.changes.recorded old.pair.changes) left) left (λ s. (now : List (List ℕ)) × Holds start now s)
@@ -106,7 +106,7 @@ may-left false command old left made begin below reply e u may =
     may-carried command old below (level left.pair.changes.recorded) reply (subst (λ es. MayStandInGroup below (level es) command reply) same may)
 
 -- nothing is forgotten without a bound
-ends-made : (old new : State) (command : Command) (reply : Reply) (p : Performed old command reply new) → old.options.bound ≡ no_bound → (made : State) → new ≡ within_bound made → made.options ≡ new.options → new ≡ made
+pub ends-made : (old new : State) (command : Command) (reply : Reply) (p : Performed old command reply new) → old.options.bound ≡ no_bound → (made : State) → new ≡ within_bound made → made.options ≡ new.options → new ≡ made
 ends-made old new command reply p free made is same =
     is ∙ within_bound-none made (ap (λ (o : Options). o.bound) (same ∙ Performed-options old new command reply p) ∙ free)
 

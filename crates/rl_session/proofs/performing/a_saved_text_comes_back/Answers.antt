@@ -1,0 +1,5 @@
+use Rattle.rl_session.proofs.Runs.CallSavedLemmas.{saved-performed}
+use Rattle.rl_session.proofs.performing.a_saved_text_comes_back.Goals as goal
+
+pub returns : goal.returns
+returns c = saved-performed
