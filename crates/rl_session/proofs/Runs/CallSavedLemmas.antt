@@ -1,9 +1,9 @@
 -- A save point, which no performed command leaves with entries before it that lead to another text.
-use Rattle.rl_session.proofs.Common.{◌≡◌, ◌≤◌, ◌-◌, ◌+◌, ◌++◌, ◌∷◌, ◌==◌, ◌∙◌, [], List, None, Option, Some, true, false, Bool, ℕ, cond_both, eqb-true, nat_le, leb-true, drop, take, take-append-drop, length, length-append, length-take-le, option_and_then, append-nil, arith, refl, sym, ap, subst, same_Some, inl, inr, no_bound, Begin, Entry, Record, Command, Reply, Row, State, Holds, held, held_of, replay_entries}
+use Rattle.rl_session.proofs.Common.{◌≡◌, ◌≤◌, ◌-◌, ◌+◌, ◌++◌, ◌∷◌, ◌==◌, ◌∙◌, [], List, None, Some, true, false, Bool, ℕ, cond_both, eqb-true, nat_le, leb-true, drop, take, take-append-drop, length, length-append, option_and_then, append-nil, arith, refl, sym, ap, subst, same_Some, inl, inr, no_bound, Begin, Entry, Record, Command, Reply, Row, State, Holds, held, held_of, replay_entries}
 use Rattle.std.proofs.lemmas.Bool.{cond-false}
 use Rattle.std.proofs.Common.{leb-false}
 use Rattle.std.proofs.Math.Seq.{take-append-add, take-append-le}
-use Rattle.rl_line.specs.Record.{SavedAt, StaysSaved, is_saved, kept_point, parted}
+use Rattle.rl_line.specs.Record.{StaysSaved, is_saved, kept_point, parted}
 use Rattle.rl_line.specs.Units.{point_moved, still_waiting, unit_start, united}
 use Rattle.rl_line.specs.declared.change.Freshness.TheVariants.{Parted}
 use Rattle.rl_line.specs.declared.changeset.UnitStart.{UnitStart}
