@@ -80,9 +80,9 @@ pub fn an_empty_group_leaves_what_waits()
         → (new.pair.changes.recorded ≡ old.pair.changes.recorded) × (new.pair.changes.pending ≡ old.pair.changes.pending) }
 {}
 
-/// Once a text was saved (`Session::set_saved`), commands that end with a record which says so end with that text, whatever
-/// was done on the way, if nothing is forgotten. It holds too where a group is begun, or an empty one ended, before what
-/// waits to be redone: then the point stays with what is recorded there.
+/// Once a text was saved (`Session::set_saved`), performed commands that end with a record which says so end with that
+/// text, whatever was done on the way, also if a mark came or went among the entries before the save point.
+/// Condition: the session has no bound.
 pub fn a_saved_text_comes_back()
     ensures { (start : List ℕ) (held : List (List ℕ)) (old new : State) (calls : Calls (saved_now old) new)
         → Holds start held old → old.options.bound ≡ no_bound → is_saved new.pair.changes ≡ true

@@ -81,7 +81,7 @@ waiting-same old command left =
     cond_both (leaves_waiting old command) (with_changes (still_waiting left.pair.changes.recorded old.pair.changes) left) left
     (λ s. (s.pair.changes.recorded ≡ left.pair.changes.recorded) × (s.line ≡ left.line)) (λ _. (refl, refl)) (λ _. (refl, refl))
 
-pub Holds-waiting : (start : List ℕ) (texts then : List (List ℕ)) (old kept left : State) (command : Command) (reply : Reply) → Holds start texts old → HasKept (asks_to_keep old command) old kept
+Holds-waiting : (start : List ℕ) (texts then : List (List ℕ)) (old kept left : State) (command : Command) (reply : Reply) → Holds start texts old → HasKept (asks_to_keep old command) old kept
     → Step (set_apart kept command) (carried old command) reply left → Holds start then left → (now : List (List ℕ)) × Holds start now (with_waiting old command left)
 Holds-waiting start texts then old kept left command reply h keeps step holds =
     cond_both (leaves_waiting old command) (with_changes (still_waiting left.pair.changes.recorded old.pair.changes) left) left (λ s. (now : List (List ℕ)) × Holds start now s)
