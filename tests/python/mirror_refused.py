@@ -34,7 +34,7 @@ class Refused(test_lodvarn.Mirrors):
         super().leads_to_the_text(session, patience, kinds)
         refuse(0)
         self.assertGreater(self.refused, 500)
-        self.assertGreater(self.halfway, 10)
+        self.assertGreater(self.halfway, 5)
 
     def test_a_session_is_saved_and_loaded_or_finds_no_memory(self):
         session, loaded = test_lodvarn.edited(), 0

@@ -1,7 +1,7 @@
 -- The record after a begin, an end, a redo and a truncation leads back to the same text.
-use Rattle.rl_line.proofs.Common.{◌≡◌, ℕ, Bool, true, List, [], ◌∷◌, take, length, ◌-◌, Option, Some, None, refl, sym, ap, ◌∙◌, same_text, option_and_then, IsUtf8, Line, Entry, Begin, End, Record, cond_both, ends_in_end, reopened, event_of, inverse, agree, replays_to, unwind, Redone, begun, end_one, redo_of, truncated, with_closed, inl, inr, ◌++◌, replay_entries}
+use Rattle.rl_line.proofs.Common.{◌≡◌, ℕ, Bool, true, List, [], ◌∷◌, take, length, ◌-◌, Option, Some, None, refl, sym, ap, ◌∙◌, same_text, option_and_then, IsUtf8, Line, Entry, Begin, End, Record, ends_in_end, event_of, inverse, agree, replays_to, unwind, Redone, end_one, redo_of, truncated, inl, inr, ◌++◌, replay_entries}
 use Rattle.rl_base.specs.Event.{apply}
-use Rattle.rl_line.proofs.Records.LastLemmas.{end-last, end_times-keeps, end_one-cases}
+use Rattle.rl_line.proofs.Records.LastLemmas.{end-last, end_one-cases}
 use Rattle.rl_line.proofs.Records.OriginLemmas.{Kept}
 use Rattle.rl_line.proofs.Records.RecordLemmas.{replay-IsUtf8, unwind-append, unwind-replay, replay-append, then_some}
 use Rattle.rl_line.proofs.Records.UndoLemmas.{line_ahead-replay}

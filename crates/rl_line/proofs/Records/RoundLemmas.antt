@@ -1,6 +1,6 @@
 -- Going over what was undone there and back: it ends where it began, and undos lead where redos led. And what each call keeps
 -- that touches no line.
-use Rattle.rl_line.proofs.Common.{end_times, ends_in_end, min, ◌≡◌, ◌≤◌, ℕ, max, arith, Bool, true, List, [], ◌∷◌, ◌++◌, length, take, drop, map, reverse, Option, Some, refl, sym, ap, subst, ◌∙◌, cond_both, append-nil, append_assoc, reverse-append, take-append-le, length-reverse, option_and_then, IsSome, IsUtf8, Line, Entry, Begin, End, Changed, Record, UndoUnit, Open, Whole, AtLevel, BothMatched, IsMatched, StaysSaved, Walk, Walks, LeadsTo, arrived, closed_all, cursor_stands, cut_more, event_of, flipped, inverse, kept_of, kept_undone, last_of, level, marks, opens, point_closed, replay_entries, there_and_back, together, touched, turned_all, units, unwind, waits, None, cond, drop_at, length-map, next_of, take-append-drop, take-map, ◌<◌}
+use Rattle.rl_line.proofs.Common.{end_times, ends_in_end, min, ◌≡◌, ◌≤◌, ℕ, max, arith, Bool, true, List, [], ◌∷◌, ◌++◌, length, take, drop, map, reverse, Option, Some, refl, sym, ap, subst, ◌∙◌, cond_both, append-nil, append_assoc, reverse-append, take-append-le, length-reverse, option_and_then, IsSome, IsUtf8, Entry, Begin, End, Changed, Record, UndoUnit, Open, Whole, AtLevel, BothMatched, IsMatched, StaysSaved, Walk, Walks, LeadsTo, arrived, closed_all, cursor_stands, cut_more, event_of, flipped, inverse, kept_of, kept_undone, last_of, level, marks, opens, point_closed, replay_entries, there_and_back, together, touched, turned_all, units, unwind, waits, None, cond, drop_at, length-map, next_of, take-append-drop, take-map, ◌<◌}
 use Rattle.rl_base.specs.Event.{apply}
 use Rattle.rl_line.proofs.Records.LastLemmas.{end_times-keeps, map-reverse}
 use Rattle.rl_line.proofs.Records.LevelLemmas.{level-append}

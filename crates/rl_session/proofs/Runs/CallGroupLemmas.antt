@@ -1,5 +1,5 @@
 -- A group of performed commands is one unit, whatever was done inside, so that one undo takes it back.
-use Rattle.rl_session.proofs.Common.{◌≡◌, ◌<◌, ◌≤◌, ◌+◌, ◌∙◌, ◌||◌, cond_both, length-append, ℕ, suc, arith, Bool, true, false, List, [], ◌∷◌, ◌++◌, length, drop, Some, refl, sym, ap, subst, same_Some, inl, inr, no_bound, within_bound, Begin, End, Entry, Line, Record, IsMatched, begun, has_change, kept_of, last_of, level, with_closed, replay_entries, Command, Reply, Row, State, Undo, Holds, ClosesGroup, MayStandInGroup, WasRefused, held, held_of}
+use Rattle.rl_session.proofs.Common.{◌≡◌, ◌<◌, ◌≤◌, ◌∙◌, ◌||◌, cond_both, length-append, ℕ, suc, arith, Bool, true, false, List, [], ◌∷◌, ◌++◌, length, drop, Some, refl, sym, ap, subst, same_Some, inl, inr, no_bound, within_bound, Begin, Entry, Line, Record, IsMatched, begun, has_change, kept_of, last_of, level, replay_entries, Command, Reply, Row, State, Undo, Holds, ClosesGroup, MayStandInGroup, WasRefused, held, held_of}
 use Rattle.std.proofs.lemmas.List.{drop-append-le}
 use Rattle.rl_line.specs.Record.{parted}
 use Rattle.rl_line.specs.Units.{AtLevel, still_waiting, there_and_back, unit_start, kept_undone}
@@ -19,7 +19,7 @@ use Rattle.rl_session.specs.declared.session.Reply.TheVariants as says
 use Rattle.rl_session.proofs.Runs.CallLemmas.{Calls-options, Keeps-changes, Performed-options, keeping-Leads}
 use Rattle.rl_session.proofs.Runs.HistoryLemmas.{Holds-Leads, Holds-row, done_as}
 use Rattle.rl_session.proofs.Runs.PlaceLemmas.{History-fresh, History-united, History-waiting}
-use Rattle.rl_session.proofs.Runs.RowLemmas.{Step-options, within_bound-none}
+use Rattle.rl_session.proofs.Runs.RowLemmas.{within_bound-none}
 use Rattle.rl_session.proofs.Runs.UndoGroupLemmas.{Begin-done, Inside-row, abandoned-row, closed_unit, closing-row}
 use Rattle.rl_session.proofs.Runs.UnitLawLemmas.{undo-leads}
 use Rattle.rl_session.proofs.Sessions.PerformLemmas.{apart-same, united-same}
