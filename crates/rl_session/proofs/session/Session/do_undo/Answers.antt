@@ -11,5 +11,5 @@ returns c = search rules
 
 pub undo_telling-requires-clause-follows : goal.undo_telling-requires-clause-follows
 undo_telling-requires-clause-follows c =
-    undo-fits c.args.n c.self.inside.pair.changes.recorded c.self.inside.line
+    undo-fits _ c.self.inside.pair.changes.recorded c.self.inside.line
     (Walks-back c.self.inside.pair.changes c.self.inside.line c.self.invariant.walks (rw (← c.self.view_is) at c.stands.ensures.cursor))
