@@ -360,7 +360,7 @@ fn compare_more(typed: &[char]) {
         }
         rows! { session:
             format!("an undo at {size} by a session"), 1.0, 10, 400, |e| e.change(text, 400), |e, _| e.undo(1);
-            format!("a redo at {size} by a session"), 1.4, 10, 400,
+            format!("a redo at {size} by a session"), 1.5, 10, 400,
                 |e| { e.change(text, 400); e.undo(400); }, |e, _| e.redo();
         }
     }
