@@ -50,7 +50,7 @@
  *
  * Memory
  * It comes from malloc and realloc, and lodvarn_close frees all that a session has. A call asks for some only if its
- * comment names NO_MEMORY; but a call that goes by lines or by rows, as lodvarn_count_lines, asks for 8 bytes a line to
+ * comment names NO_MEMORY; but a call that goes by lines or by rows, as lodvarn_line_count, asks for 8 bytes a line to
  * find lines sooner, and works without them if they are refused. lodvarn_watch finds room for its whole queue. All else
  * is found by the call that needs it: a longer text, a newline, an entry of the record, a text of the ring, and copies
  * that it frees again. The record grows until lodvarn_truncate or lodvarn_restart, or up to the bound in the options;
@@ -93,7 +93,7 @@ enum lodvarn_answer {
     LODVARN_DONE = 1,            /* done */
     LODVARN_DONE_AT_END = 2,     /* done, and what was inserted went to the end of the text */
     LODVARN_NO_MEMORY = -1,      /* out of memory */
-    LODVARN_BAD_PLACE = -2,      /* a place is past the end or inside a character, or two places are out of order */
+    LODVARN_BAD_OFFSET = -2,      /* a place is past the end or inside a character, or two places are out of order */
     LODVARN_BAD_YANK_SIZE = -3,  /* no text of the yanked size ends at the cursor; see lodvarn_yank_pop */
     LODVARN_NOT_REPLAYING = -4,  /* the entries do not lead to the present text */
     LODVARN_NO_ROOM = -5,        /* the text would get longer than the limit, or is too long to be saved */
@@ -289,7 +289,7 @@ static inline lodvarn_movement lodvarn_words_forward(enum lodvarn_word word, enu
 }
 
 /* To the n-th character c, or the farthest if there are fewer. */
-static inline lodvarn_movement lodvarn_search_for(enum lodvarn_search search, uint32_t c, size_t n) {
+static inline lodvarn_movement lodvarn_to_char(enum lodvarn_search search, uint32_t c, size_t n) {
     return lodvarn_movement_(LODVARN_SEARCH_ + lodvarn_index_((uint32_t)search, LODVARN_TO, 4), c, n);
 }
 
@@ -389,7 +389,7 @@ int lodvarn_yank(lodvarn *s, size_t n);
 
 /* Replaces the text that the last call yanked by the one before it in the ring. One undo takes back this, the yank and
  * the calls of this between them; but not a yank of n above 1, of which this replaces the last text, nor what was done
- * before a lodvarn_set_saved. Returns NOTHING if lodvarn_last_was_yank is false. If the text before it is empty, what
+ * before a lodvarn_mark_saved. Returns NOTHING if lodvarn_last_was_yank is false. If the text before it is empty, what
  * was yanked is deleted. Errors: NO_ROOM, NO_MEMORY, BAD_YANK_SIZE only right after lodvarn_load, if the bytes were
  * made to say that another text was yanked than stands before the cursor. */
 int lodvarn_yank_pop(lodvarn *s);
@@ -408,7 +408,7 @@ int lodvarn_replace(lodvarn *s, lodvarn_range range, const char *text, size_t le
 /* Deletes what stands in a range. The cursor goes to its start. Errors: BAD_PLACE, NO_MEMORY. */
 int lodvarn_delete_range(lodvarn *s, lodvarn_range range);
 
-/* Deletes n clusters after the cursor; lodvarn_backspace those before it. lodvarn_covers and lodvarn_slice tell what
+/* Deletes n clusters after the cursor; lodvarn_backspace those before it. lodvarn_movement_range and lodvarn_slice tell what
  * goes. Returns NOTHING if there are none. Errors: NO_MEMORY. */
 int lodvarn_delete(lodvarn *s, size_t n);
 int lodvarn_backspace(lodvarn *s, size_t n);
@@ -436,7 +436,7 @@ int lodvarn_change_case(lodvarn *s, enum lodvarn_case to);
 /* Deletes what a movement covers. The ring keeps it, except by lodvarn_chars_back and lodvarn_chars_forward.
  * Consecutive kills become one text of the ring: what stood before the cursor goes to its front, what stood after the
  * cursor to its end. A kill that removes nothing does not end such a run. Any other command does, so that the next kill
- * begins a new text: also a motion, lodvarn_copy, lodvarn_keep, lodvarn_yank, lodvarn_undo, a begin or end of a group,
+ * begins a new text: also a motion, lodvarn_copy, lodvarn_ring_add, lodvarn_yank, lodvarn_undo, a begin or end of a group,
  * a kill by clusters, and a command that had nothing to do. These do not: lodvarn_kill_range, lodvarn_keep_undone,
  * lodvarn_set_options, the calls that tell what changed, the reads, and a call that returns NOT_UTF8, NO_SUCH_NUMBER or
  * TOO_SMALL. A new text goes after the newest, also after a lodvarn_yank_pop, so only a full ring loses one, its
@@ -449,11 +449,11 @@ int lodvarn_kill_range(lodvarn *s, lodvarn_range range, enum lodvarn_direction d
 
 /* Puts a text into the ring, as a kill of its own, whatever was done before: the next lodvarn_yank gives it, and a kill
  * after this begins another text. Text, cursor and record stay. A ring of size 0 keeps nothing. Errors: NO_MEMORY. */
-int lodvarn_keep(lodvarn *s, const char *text, size_t len);
+int lodvarn_ring_add(lodvarn *s, const char *text, size_t len);
 
 /* Drops all texts of the ring, and frees them; the bytes are not overwritten. The next kill begins a new text, and
  * lodvarn_yank_pop finds nothing. No command: all else stays. */
-int lodvarn_clear_ring(lodvarn *s);
+int lodvarn_ring_clear(lodvarn *s);
 
 /* Copies what a movement covers to out, a buffer of cap bytes, and sets *len to its length. A command: it ends a run of
  * kills. Returns NOTHING if there is nothing. Errors: TOO_SMALL with the length that is needed in *len. */
@@ -466,11 +466,11 @@ int lodvarn_indent(lodvarn *s, lodvarn_movement movement, uint8_t amount, enum l
 /* Parts what comes from what was done: the next change joins no other, so that it is undone alone, the next kill begins
  * a new text of the ring, and lodvarn_yank_pop finds nothing. Text, cursor, groups and what was undone stay. A change
  * of nothing leaves it so; an undo, a redo, lodvarn_truncate and the begin, end or abandon of a group take it back. */
-int lodvarn_part(lodvarn *s);
+int lodvarn_undo_boundary(lodvarn *s);
 
 /* Says that the text is saved as it is. The next change is undone alone, so that an undo may come back to it. No
  * command: text, cursor and ring stay. A session begins unsaved, also after lodvarn_restart. */
-int lodvarn_set_saved(lodvarn *s);
+int lodvarn_mark_saved(lodvarn *s);
 
 /* Begins an undo group: once it is closed, one undo takes back all its changes. Groups may be nested. What was undone
  * can be redone until something changes in the group, and after it if nothing did; or it is kept if keeps_undone is set.
@@ -501,8 +501,8 @@ int lodvarn_abandon_group(lodvarn *s);
  * - one letter or digit by lodvarn_insert with n = 1, and the last change an insertion that ends at its place;
  * - the deletion or kill of one letter or digit, and the last change a deletion at that place, to either side;
  * - a text by lodvarn_replace, and the last change one whose new text ends at its place.
- * Motions between them do not matter; nothing joins over where a group begins or ends, or right after lodvarn_part,
- * lodvarn_set_saved, or lodvarn_keep_undone if it kept something. Returns NOTHING if there was no change; if a group is
+ * Motions between them do not matter; nothing joins over where a group begins or ends, or right after lodvarn_undo_boundary,
+ * lodvarn_mark_saved, or lodvarn_keep_undone if it kept something. Returns NOTHING if there was no change; if a group is
  * open, the whole session stays then. Errors: NO_ROOM if a text on the way back is longer than the limit, NO_MEMORY. */
 int lodvarn_undo(lodvarn *s, size_t n);
 
@@ -588,7 +588,7 @@ int lodvarn_slice(lodvarn *s, lodvarn_range range, lodvarn_view *view);
 size_t lodvarn_pos(lodvarn *s);
 
 /* Returns the number of lines, at least 1. */
-size_t lodvarn_count_lines(lodvarn *s);
+size_t lodvarn_line_count(lodvarn *s);
 
 /* Tells the number of the line in which a place stands; a newline belongs to the line that it ends. Errors:
  * BAD_PLACE. */
@@ -596,18 +596,18 @@ int lodvarn_line_at(lodvarn *s, size_t place, size_t *line);
 
 /* Tells where the cursor is: the number of its line, and the width of the text from the start of that line to the
  * cursor, at most 65535. */
-int lodvarn_find_cursor(lodvarn *s, lodvarn_position *position);
+int lodvarn_cursor_position(lodvarn *s, lodvarn_position *position);
 
 /* Tells where a line begins, and where it ends before its newline. Returns NOTHING if there is no such line. */
-int lodvarn_find_line(lodvarn *s, size_t line, lodvarn_range *range);
+int lodvarn_line_range(lodvarn *s, size_t line, lodvarn_range *range);
 
 /* Tells what lodvarn_copy by a movement would copy with the cursor at the place from, which may be lodvarn_pos(s).
  * Returns NOTHING if there is nothing. Errors: BAD_PLACE. */
-int lodvarn_covers(lodvarn *s, size_t from, lodvarn_movement movement, lodvarn_range *range);
+int lodvarn_movement_range(lodvarn *s, size_t from, lodvarn_movement movement, lodvarn_range *range);
 
 /* Tells where lodvarn_move by a movement would go with the cursor at the place from. Returns NOTHING if there is
  * nowhere to go. Errors: BAD_PLACE. */
-int lodvarn_destination(lodvarn *s, size_t from, lodvarn_movement movement, size_t *place);
+int lodvarn_movement_target(lodvarn *s, size_t from, lodvarn_movement movement, size_t *place);
 
 /* Measures the first grapheme cluster of the text from a place on; the last one of the text before a place. They read
  * no more of the text than is near to the place. Return NOTHING if the place is the end of the text, or its start.
@@ -625,14 +625,14 @@ int lodvarn_row_above(lodvarn *s, const lodvarn_screen *screen, size_t n, size_t
 int lodvarn_row_below(lodvarn *s, const lodvarn_screen *screen, size_t n, size_t *column, size_t *place);
 
 /* Returns the number of entries of the record, the marks of groups too; and how many groups are open. */
-size_t lodvarn_entries(lodvarn *s);
-size_t lodvarn_level(lodvarn *s);
+size_t lodvarn_record_entries(lodvarn *s);
+size_t lodvarn_group_level(lodvarn *s);
 
 /* Returns whether lodvarn_undo with n = 1, or lodvarn_redo, would find a change. */
 bool lodvarn_can_undo(lodvarn *s);
 bool lodvarn_can_redo(lodvarn *s);
 
-/* Returns whether the text is the one for which lodvarn_set_saved was called last, by the record: it was not changed
+/* Returns whether the text is the one for which lodvarn_mark_saved was called last, by the record: it was not changed
  * since, or undos, redos and abandons came back to it. It is false for good once a change that was made before the save
  * is dropped, since its group was abandoned or something else was done after it was undone and not kept, or
  * forgotten. */
@@ -650,7 +650,7 @@ int lodvarn_ring_text(lodvarn *s, size_t back, lodvarn_view *view);
 bool lodvarn_last_was_yank(lodvarn *s);
 
 /* Returns how many reports wait; a folded one is one. */
-size_t lodvarn_count_reports(lodvarn *s);
+size_t lodvarn_report_count(lodvarn *s);
 
 /* Calls without a session. */
 
@@ -691,11 +691,11 @@ int lodvarn_cell(const lodvarn_screen *screen, size_t place, const char *text, s
 /* Finds which place of a text is at a cell of the screen, as where a mouse points: the last place between two clusters
  * whose cell, by lodvarn_cell, is that one or comes before it, by rows and then by columns; 0 if all come after it.
  * Errors: NO_SUCH_NUMBER also if the screen has no columns. */
-int lodvarn_place_at(const lodvarn_screen *screen, lodvarn_position cell, const char *text, size_t len, size_t *place);
+int lodvarn_offset_at(const lodvarn_screen *screen, lodvarn_position cell, const char *text, size_t len, size_t *place);
 
 /* Finds the rows of a text on a screen, as lodvarn_cell lays it out: writes the place where each begins to starts, from
  * row 0 on, as many as cap, and sets *count to how many rows there are. A row goes on to the place where the next one
- * begins. Lay out the lines that are on the screen alone, by lodvarn_find_line and lodvarn_slice, with their prompt.
+ * begins. Lay out the lines that are on the screen alone, by lodvarn_line_range and lodvarn_slice, with their prompt.
  * Errors: NO_SUCH_NUMBER also if the screen has no columns. */
 int lodvarn_rows(const lodvarn_screen *screen, const char *text, size_t len, size_t *starts, size_t cap, size_t *count);
 
@@ -705,7 +705,7 @@ int lodvarn_rows(const lodvarn_screen *screen, const char *text, size_t len, siz
  * {at, at + old_len, at + new_len}, or by the one change that lodvarn_take_change tells. If several were made since,
  * or one of several steps, that one takes in what stands between them, and a place there goes to an end of it; only
  * the reports tell more. Errors: BAD_PLACE if old_to or new_to is before from, or *moved would be past SIZE_MAX. */
-int lodvarn_moved(const lodvarn_splice *change, size_t place, enum lodvarn_side side, size_t *moved);
+int lodvarn_map_offset(const lodvarn_splice *change, size_t place, enum lodvarn_side side, size_t *moved);
 
 #ifdef __cplusplus
 }

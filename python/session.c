@@ -126,17 +126,17 @@ static long long told(session *it, int answer, lodvarn_range range, size_t out[2
 
 static long long py_covers(session *it, size_t from, lodvarn_movement movement, size_t out[2]) {
     lodvarn_range range = {0, 0};
-    return told(it, it->s ? lodvarn_covers(it->s, from, movement, &range) : LODVARN_CLOSED, range, out);
+    return told(it, it->s ? lodvarn_movement_range(it->s, from, movement, &range) : LODVARN_CLOSED, range, out);
 }
 
 static long long py_find_line(session *it, size_t line, size_t out[2]) {
     lodvarn_range range = {0, 0};
-    return told(it, it->s ? lodvarn_find_line(it->s, line, &range) : LODVARN_CLOSED, range, out);
+    return told(it, it->s ? lodvarn_line_range(it->s, line, &range) : LODVARN_CLOSED, range, out);
 }
 
 static long long py_destination(session *it, size_t from, lodvarn_movement movement, size_t out[2]) {
     lodvarn_range range = {0, 0};
-    return told(it, it->s ? lodvarn_destination(it->s, from, movement, &range.to) : LODVARN_CLOSED, range, out);
+    return told(it, it->s ? lodvarn_movement_target(it->s, from, movement, &range.to) : LODVARN_CLOSED, range, out);
 }
 
 static long long row(session *it, int answer, size_t place, size_t column, size_t out[2]) {

@@ -219,8 +219,8 @@ static size_t rows_wrapped(const struct editor *e, uint16_t columns) {
     for (size_t row = e->shown.top; row <= e->cursor.row; row++) {
         lodvarn_position start = {row, 0}, end = {row + 1, 0};
         size_t from = 0, to = 0, on = 0, pos = e->cursor.place;
-        lodvarn_place_at(&before, start, e->text, e->len, &from);
-        lodvarn_place_at(&before, end, e->text, e->len, &to);
+        lodvarn_offset_at(&before, start, e->text, e->len, &from);
+        lodvarn_offset_at(&before, end, e->text, e->len, &to);
         /* The cursor stands on a cluster, with which it may be wrapped. */
         lodvarn_first_cluster(e->text + pos, e->len - pos, &on);
         if (row == e->cursor.row && pos + on < to) to = pos + on;
@@ -421,7 +421,7 @@ static void write_file(struct editor *e, uint32_t unused) {
     (void)unused;
     lodvarn_text(e->session, &text);
     int is_written = e->path && kept_write(e->path, 0666, text.len ? text.at : "", text.len);
-    if (is_written) lodvarn_set_saved(e->session);
+    if (is_written) lodvarn_mark_saved(e->session);
     e->rings |= !is_written || !kept_save(e->kept, e->session);
 }
 

@@ -30,7 +30,7 @@ static int find_in_line(uint32_t c, size_t n) {
     size_t place = lodvarn_pos(s), line = 0, found = 0;
     lodvarn_line_at(s, place, &line);
     for (; n; n--)
-        if (lodvarn_destination(s, place, lodvarn_search_for(LODVARN_TO, c, 1), &place) <= 0) return LODVARN_NOTHING;
+        if (lodvarn_movement_target(s, place, lodvarn_to_char(LODVARN_TO, c, 1), &place) <= 0) return LODVARN_NOTHING;
     lodvarn_line_at(s, place, &found);
     return found == line ? lodvarn_set_pos(s, place) : LODVARN_NOTHING;
 }

@@ -48,9 +48,9 @@ static void draw(void) {
     lodvarn_position cursor = {0, 0}, left = {0, 0};
     lodvarn_view line = text();
     size_t pos = lodvarn_pos(s), from = 0, width = 0;
-    lodvarn_find_cursor(s, &cursor);
+    lodvarn_cursor_position(s, &cursor);
     if (cursor.column + AHEAD > columns()) left.column = cursor.column + AHEAD - columns();
-    lodvarn_place_at(&endless, left, line.at, pos, &from);
+    lodvarn_offset_at(&endless, left, line.at, pos, &from);
     lodvarn_width(LODVARN_UNICODE, line.at + from, pos - from, &width);
     dprintf(1, "\r\x1b[?7l$ %.*s\x1b[K\x1b[?7h\r\x1b[%zuC", (int)(line.len - from), line.at + from, 2 + width);
 }
@@ -211,7 +211,7 @@ static int press(uint32_t key) {
     bool goes_on = was_text;
     was_text = is_text(key);
     if (key == CONTROL('g')) return lodvarn_abandon_group(s);
-    if (key != '\t' && lodvarn_level(s) > 0) lodvarn_end_group(s); /* any other key keeps the name that is tried */
+    if (key != '\t' && lodvarn_group_level(s) > 0) lodvarn_end_group(s); /* any other key keeps the name that is tried */
     if (is_text(key)) return type(key, goes_on);
     switch (key) {
     case CONTROL('a'): return lodvarn_move(s, lodvarn_to_line_start());

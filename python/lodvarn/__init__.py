@@ -84,7 +84,7 @@ class DamagedError(LodvarnError, ValueError):
 
 _ERRORS: dict[int, type[LodvarnError]] = {
     lib.LODVARN_NO_MEMORY: NoMemoryError,
-    lib.LODVARN_BAD_PLACE: BadPlaceError,
+    lib.LODVARN_BAD_OFFSET: BadPlaceError,
     lib.LODVARN_BAD_YANK_SIZE: BadYankSizeError,
     lib.LODVARN_NOT_REPLAYING: NotReplayingError,
     lib.LODVARN_NO_ROOM: NoRoomError,
@@ -395,7 +395,7 @@ class Splice(NamedTuple):
         in the one splice that `take_change` makes of them, a place between them goes to an end of it. Raises
         BadPlaceError if `old_end` or `new_end` is before `start`, and NoSuchNumberError if a number is below 0.
         """
-        return _size(lib.lodvarn_moved, [self], place, _of(Side, side).value)
+        return _size(lib.lodvarn_map_offset, [self], place, _of(Side, side).value)
 
 
 class Report(NamedTuple):
@@ -1140,7 +1140,7 @@ def place_at(screen: Screen, cell: tuple[int, int], text: str) -> int:
     """
     given, size = _sent(text)
     row, column = cell
-    place = _size(lib.lodvarn_place_at, _on(screen), (row, column), given, size)
+    place = _size(lib.lodvarn_offset_at, _on(screen), (row, column), given, size)
     return int(lib.chars_in(given, place))
 
 

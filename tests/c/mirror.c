@@ -55,7 +55,7 @@ static void splice_changed(struct copy *c) {
 static void read_reports(struct copy *c, int has_texts, unsigned most, unsigned counts[]) {
     lodvarn_report r, again;
     while (c->holds && most-- > 0 && lodvarn_next_report(s, &r) == LODVARN_DONE) {
-        size_t waiting = lodvarn_count_reports(s);
+        size_t waiting = lodvarn_report_count(s);
         int is_whole = has_texts && r.kind != LODVARN_FOLDED;
         c->holds = r.kind <= LODVARN_FOLDED && r.pos_before <= c->len && r.at <= c->len && r.old_len <= c->len - r.at
             && r.old_text.len == (is_whole ? r.old_len : 0) && r.new_text.len == (is_whole ? r.new_len : 0)
@@ -67,7 +67,7 @@ static void read_reports(struct copy *c, int has_texts, unsigned most, unsigned 
         else c->holds = r.at + r.new_len <= text.len;
         if (c->holds) splice(c, r.at, r.old_len, is_whole ? r.new_text.at : text.at + r.at, r.new_len);
         c->holds = c->holds && r.pos_after <= c->len && lodvarn_forget_report(s) == LODVARN_DONE
-            && lodvarn_count_reports(s) == waiting - 1;
+            && lodvarn_report_count(s) == waiting - 1;
     }
 }
 
@@ -115,11 +115,11 @@ static int run_command(void) {
     case 26: return lodvarn_set_pos(s, from);
     case 27: return lodvarn_move(s, movement);
     case 28: case 29: return lodvarn_paste(s, text, size, n);
-    case 30: return lodvarn_truncate(s, lodvarn_entries(s) - below(3));
+    case 30: return lodvarn_truncate(s, lodvarn_record_entries(s) - below(3));
     case 31: case 32: return lodvarn_kill_range(s, covered, LODVARN_FORWARD + below(2));
-    case 33: return lodvarn_keep(s, text, size);
+    case 33: return lodvarn_ring_add(s, text, size);
     case 34: return bound();
-    case 35: return below(2) ? lodvarn_part(s) : lodvarn_reopen_group(s);
+    case 35: return below(2) ? lodvarn_undo_boundary(s) : lodvarn_reopen_group(s);
     case 36: return below(2) ? lodvarn_keep_undone(s) : lodvarn_abandon_group(s);
     default: return lodvarn_insert(s, c, n);
     }

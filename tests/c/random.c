@@ -126,7 +126,7 @@ static int popped;
 
 /* An undo that goes the same way in a script, which does not stay in a group. */
 static void add_undo(struct typed *t) {
-    if (!lodvarn_level(t->s)) add("undo %u", count() % 9);
+    if (!lodvarn_group_level(t->s)) add("undo %u", count() % 9);
     else add(lodvarn_can_undo(t->s) ? "undo 1" : "where");
 }
 
@@ -134,7 +134,7 @@ static void add_undo(struct typed *t) {
 static void add_mark(struct typed *t) {
     static const char *const marks[] = {"begin", "begin", "end", "endone", "endone", "abandon"};
     const char *mark = ONE_OF(marks);
-    int empty = *mark == 'b' || !lodvarn_level(t->s) || !lodvarn_can_undo(t->s);
+    int empty = *mark == 'b' || !lodvarn_group_level(t->s) || !lodvarn_can_undo(t->s);
     add("%s", empty && lodvarn_can_redo(t->s) ? "where" : mark);
 }
 
@@ -153,7 +153,7 @@ static void add_other(struct typed *t) {
     case 4: add("twords %u", count()); break;
     case 5: add("yank %u", 1 + below(2)); break;
     case 6: add_undo(t); break;
-    case 7: add("trunc %u", below((unsigned)lodvarn_entries(t->s) + 2)); break;
+    case 7: add("trunc %u", below((unsigned)lodvarn_record_entries(t->s) + 2)); break;
     default: add("%s", ONE_OF(plain));
     }
 }
@@ -189,7 +189,7 @@ static void hand_on(FILE *printed, FILE *to) {
 /* Runs the line, and writes it and what it prints. If a call made a group of its changes, they stand in one in the
  * script, and one that stands alone is parted there from what was before. */
 static void run_line(struct typed *t, FILE *script, FILE *answers) {
-    size_t entries = lodvarn_entries(t->s);
+    size_t entries = lodvarn_record_entries(t->s);
     popped = strncmp(line, "text ", 5) && (popped || (!strcmp(line, "yankpop") && lodvarn_last_was_yank(t->s)));
     if (!is_several()) {
         fprintf(script, "%s\n", line);
@@ -200,7 +200,7 @@ static void run_line(struct typed *t, FILE *script, FILE *answers) {
     must(before && said);
     typed_state(t, before);
     typed_line(t, line, said);
-    size_t more = lodvarn_entries(t->s) - entries;
+    size_t more = lodvarn_record_entries(t->s) - entries;
     fprintf(script, more > 1 ? "begin\n%s\nendone\n" : more ? "part\n%s\n" : "%s\n", line);
     if (more > 1) fprintf(answers, "mark:%zu", entries);
     else if (more) fputs("ok", answers);

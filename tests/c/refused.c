@@ -133,14 +133,14 @@ static int step(unsigned which) {
     CALL(lodvarn_keep_undone(s));
     STEPS(lodvarn_set_text(s, 3, "one two", 7));
     CALL(lodvarn_delete_by(s, lodvarn_words_forward(LODVARN_BIG, LODVARN_AFTER_END, 1)));
-    CALL(lodvarn_delete_by(s, lodvarn_search_for(LODVARN_BACK_TO, 'o', 1)));
+    CALL(lodvarn_delete_by(s, lodvarn_to_char(LODVARN_BACK_TO, 'o', 1)));
     CALL(lodvarn_set_text(s, 3, "one two", 7));
     CALL(lodvarn_delete_by(s, lodvarn_to_line_end()));
     CALL(lodvarn_delete_by(s, lodvarn_to_text_start()));
     CALL(lodvarn_paste(s, "kept and killed", 15, 1));
     CALL(lodvarn_kill_range(s, range(2, 5), LODVARN_FORWARD));
     CALL(lodvarn_kill_range(s, range(0, 2), LODVARN_BACKWARD));
-    CALL(lodvarn_keep(s, "kept", 4));
+    CALL(lodvarn_ring_add(s, "kept", 4));
     CALL(lodvarn_begin_group(s));
     CALL(lodvarn_begin_group(s));
     CALL(lodvarn_set_pos(s, 3));
@@ -187,15 +187,15 @@ static void print_state(char *to, size_t cap) {
     lodvarn_options now = LODVARN_OPTIONS;
     lodvarn_view text;
     must(lodvarn_text(s, &text) > 0 && lodvarn_get_options(s, &now) > 0);
-    snprintf(to, cap, "%.*s %zu %zu %zu %zu %d", (int)text.len, text.at, lodvarn_pos(s), now.limit, lodvarn_entries(s),
-             lodvarn_level(s), lodvarn_can_redo(s));
+    snprintf(to, cap, "%.*s %zu %zu %zu %zu %d", (int)text.len, text.at, lodvarn_pos(s), now.limit, lodvarn_record_entries(s),
+             lodvarn_group_level(s), lodvarn_can_redo(s));
 }
 
 /* After everything is undone the text is the first one. */
 static int leads_back(void) {
     lodvarn_view text;
     lodvarn_end_all_groups(s);
-    while (lodvarn_entries(s) > 0 && lodvarn_undo(s, 65535) != LODVARN_NO_MEMORY) {}
+    while (lodvarn_record_entries(s) > 0 && lodvarn_undo(s, 65535) != LODVARN_NO_MEMORY) {}
     return lodvarn_text(s, &text) == LODVARN_DONE && is(text, start);
 }
 
@@ -273,30 +273,30 @@ static int frugal_step(unsigned which) {
     size_t n, column = LODVARN_OWN_COLUMN;
     CALL(lodvarn_set_pos(s, 1));
     CALL(lodvarn_move(s, lodvarn_words_forward(LODVARN_VI, LODVARN_AT_START, 1)));
-    CALL(lodvarn_move(s, lodvarn_search_for(LODVARN_BACK_TO, 'a', 1)));
+    CALL(lodvarn_move(s, lodvarn_to_char(LODVARN_BACK_TO, 'a', 1)));
     CALL(lodvarn_move(s, lodvarn_lines_up(1)));
     CALL(lodvarn_copy(s, lodvarn_whole_text(), out, sizeof out, &n));
-    CALL(lodvarn_part(s));
+    CALL(lodvarn_undo_boundary(s));
     CALL(lodvarn_take_change(s, &splice));
     CALL(lodvarn_next_report(s, &report));
     CALL(lodvarn_forget_report(s));
     CALL(lodvarn_unwatch(s));
     CALL(lodvarn_text(s, &view));
     CALL(lodvarn_slice(s, range(1, 2), &view));
-    CALL(-!(lodvarn_pos(s) && lodvarn_count_lines(s) && lodvarn_entries(s)));
-    CALL(-!(lodvarn_can_undo(s) && !lodvarn_can_redo(s) && !lodvarn_level(s) && !lodvarn_last_was_yank(s)));
-    CALL(-!(lodvarn_ring_count(s) && lodvarn_count_reports(s) && lodvarn_version() && lodvarn_answer_name(0)));
+    CALL(-!(lodvarn_pos(s) && lodvarn_line_count(s) && lodvarn_record_entries(s)));
+    CALL(-!(lodvarn_can_undo(s) && !lodvarn_can_redo(s) && !lodvarn_group_level(s) && !lodvarn_last_was_yank(s)));
+    CALL(-!(lodvarn_ring_count(s) && lodvarn_report_count(s) && lodvarn_version() && lodvarn_answer_name(0)));
     CALL(lodvarn_ring_text(s, 0, &view));
-    CALL(lodvarn_clear_ring(s));
-    CALL(lodvarn_set_saved(s));
+    CALL(lodvarn_ring_clear(s));
+    CALL(lodvarn_mark_saved(s));
     CALL(-(int)lodvarn_is_saved(s));
-    CALL(lodvarn_find_line(s, 1, &covered));
-    CALL(lodvarn_find_cursor(s, &position));
+    CALL(lodvarn_line_range(s, 1, &covered));
+    CALL(lodvarn_cursor_position(s, &position));
     CALL(lodvarn_line_at(s, 1, &n));
     CALL(lodvarn_cluster_at(s, 1, &cluster));
     CALL(lodvarn_cluster_before(s, 1, &cluster));
-    CALL(lodvarn_covers(s, 1, lodvarn_lines_up(1), &covered));
-    CALL(lodvarn_destination(s, 1, lodvarn_to_first_nonblank(), &n));
+    CALL(lodvarn_movement_range(s, 1, lodvarn_lines_up(1), &covered));
+    CALL(lodvarn_movement_target(s, 1, lodvarn_to_first_nonblank(), &n));
     CALL(lodvarn_get_options(s, &options));
     options.ring_size = SIZE_MAX;
     options.limit = LODVARN_NO_LIMIT;
@@ -308,10 +308,10 @@ static int frugal_step(unsigned which) {
     CALL(lodvarn_first_cluster(text, LEN, &n));
     CALL(lodvarn_last_cluster(text, LEN, &n));
     CALL(lodvarn_cell(&screen, LEN, text, LEN, &position));
-    CALL(lodvarn_place_at(&screen, position, text, LEN, &n));
+    CALL(lodvarn_offset_at(&screen, position, text, LEN, &n));
     CALL(lodvarn_rows(&screen, text, LEN, NULL, 0, &n));
     CALL(lodvarn_clusters(LODVARN_UNICODE, text, LEN, &cluster, 1, &n));
-    CALL(lodvarn_moved(&(lodvarn_splice){0, 1, 2}, 1, LODVARN_AFTER, &n));
+    CALL(lodvarn_map_offset(&(lodvarn_splice){0, 1, 2}, 1, LODVARN_AFTER, &n));
     CALL(lodvarn_row_above(s, &screen, 1, &column, &n));
     CALL(lodvarn_row_below(s, &screen, 1, &column, &n));
     return NO_MORE;
@@ -321,8 +321,8 @@ static int frugal_step(unsigned which) {
  * with one text, and the table by which the text's lines are looked up. */
 static int frugal_answer(unsigned which) {
     open_it(3);
-    must(lodvarn_keep(s, "kept", 4) > 0 && lodvarn_watch(s, 3, 40) > 0 && lodvarn_paste(s, "\nab", 3, 1) > 0);
-    must(lodvarn_count_lines(s) == 2);
+    must(lodvarn_ring_add(s, "kept", 4) > 0 && lodvarn_watch(s, 3, 40) > 0 && lodvarn_paste(s, "\nab", 3, 1) > 0);
+    must(lodvarn_line_count(s) == 2);
     was_refused = 0;
     left = 0;
     int answer = frugal_step(which);
@@ -382,7 +382,7 @@ static void little_is_taken(void) {
 static void all_is_given_back(void) {
     GIVES_BACK(lodvarn_watch(s, 4, 64));
     GIVES_BACK(lodvarn_insert(s, '\n', 9));
-    GIVES_BACK(lodvarn_keep(s, "kept", 4));
+    GIVES_BACK(lodvarn_ring_add(s, "kept", 4));
     GIVES_BACK(lodvarn_restart(s, "a\nb", 3));
 }
 

@@ -70,7 +70,7 @@ static void make_file(const char *script, struct file *to, FILE *nowhere) {
     char lines[256];
     struct typed t;
     typed_begin(&t);
-    for (char *line = strtok(strcpy(lines, script), ";"); line; line = strtok(NULL, ";"), lodvarn_set_saved(t.s))
+    for (char *line = strtok(strcpy(lines, script), ";"); line; line = strtok(NULL, ";"), lodvarn_mark_saved(t.s))
         typed_line(&t, line, nowhere);
     must(save(t.s, to));
     file = *to;

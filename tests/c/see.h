@@ -88,11 +88,11 @@ static inline void each_bad_movement(void (*refuse)(lodvarn_movement)) {
     }
     EACH_OUTSIDE(LODVARN_AT_START, LODVARN_AFTER_END)
         refuse(lodvarn_words_forward(LODVARN_BIG, (enum lodvarn_stop)number, 1));
-    EACH_OUTSIDE(LODVARN_TO, LODVARN_BACK_TO_AFTER) refuse(lodvarn_search_for((enum lodvarn_search)number, 'a', 1));
+    EACH_OUTSIDE(LODVARN_TO, LODVARN_BACK_TO_AFTER) refuse(lodvarn_to_char((enum lodvarn_search)number, 'a', 1));
     for (size_t i = 0; i < COUNT(great_counts); i++) each_counted_movement(great_counts[i], refuse);
     for (size_t i = 0; i < COUNT(no_characters); i++)
         for (int search = LODVARN_TO; search <= LODVARN_BACK_TO_AFTER; search++)
-            refuse(lodvarn_search_for((enum lodvarn_search)search, no_characters[i], 1));
+            refuse(lodvarn_to_char((enum lodvarn_search)search, no_characters[i], 1));
 }
 
 #endif

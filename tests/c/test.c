@@ -166,8 +166,8 @@ static void options_are_chosen(void) {
     SEE(lodvarn_set_options(s, &second) == LODVARN_DONE && has_chosen(&second));
     SEE(lodvarn_set_options(s, &first) == LODVARN_DONE && has_chosen(&first));
     DOES(DONE, lodvarn_restart(s, "", 0), "|");
-    for (const char *c = "abcd"; *c; c++) lodvarn_keep(s, c, 1);
-    DOES(DONE, lodvarn_part(s), "|#d#c#b");
+    for (const char *c = "abcd"; *c; c++) lodvarn_ring_add(s, c, 1);
+    DOES(DONE, lodvarn_undo_boundary(s), "|#d#c#b");
     SEE(has_chosen(&first));
 }
 
@@ -175,18 +175,18 @@ static void reads_read(void) {
     static const size_t lines[][2] = {{0, 2}, {3, 3}, {4, 6}};
     lodvarn_range line = {NO, NO};
     open_at("ab\n|\ncd", 6);
-    SEE(chosen().limit == 6 && lodvarn_count_lines(s) == 3);
+    SEE(chosen().limit == 6 && lodvarn_line_count(s) == 3);
     static const size_t line_of[] = {0, 0, 0, 1, 2, 2, 2};
     for (size_t place = 0, number = NO; place <= 6; place++)
         SEE(lodvarn_line_at(s, place, &number) == LODVARN_DONE && number == line_of[place]);
-    SEE(lodvarn_find_line(s, 3, &line) == LODVARN_NOTHING && line.from == NO && line.to == NO);
+    SEE(lodvarn_line_range(s, 3, &line) == LODVARN_NOTHING && line.from == NO && line.to == NO);
     for (size_t i = 0; i < 3; i++)
-        SEE(lodvarn_find_line(s, i, &line) == LODVARN_DONE && line.from == lines[i][0] && line.to == lines[i][1]);
-    SEE(!lodvarn_entries(s) && !lodvarn_level(s) && !lodvarn_ring_count(s) && !lodvarn_count_reports(s));
+        SEE(lodvarn_line_range(s, i, &line) == LODVARN_DONE && line.from == lines[i][0] && line.to == lines[i][1]);
+    SEE(!lodvarn_record_entries(s) && !lodvarn_group_level(s) && !lodvarn_ring_count(s) && !lodvarn_report_count(s));
     SEE(!lodvarn_can_undo(s) && !lodvarn_can_redo(s) && !lodvarn_last_was_yank(s));
     lodvarn_kill(s, lodvarn_to_text_start());
     lodvarn_yank(s, 1);
-    SEE(lodvarn_last_was_yank(s) && lodvarn_entries(s) == 2 && lodvarn_can_undo(s));
+    SEE(lodvarn_last_was_yank(s) && lodvarn_record_entries(s) == 2 && lodvarn_can_undo(s));
     lodvarn_set_pos(s, 0);
     SEE(!lodvarn_last_was_yank(s));
 }
@@ -208,11 +208,11 @@ static void movements_are_asked(void) {
         {12, lodvarn_words_back(LODVARN_BIG, 2), 4, 12, 4},
         {12, lodvarn_words_forward(LODVARN_EMACS, LODVARN_AFTER_END, 1), 12, 15, 15},
         {12, lodvarn_words_forward(LODVARN_VI, LODVARN_AT_START, 1), 12, 16, 16},
-        {12, lodvarn_search_for(LODVARN_TO, 'x', 1), 12, 17, 16},
-        {12, lodvarn_search_for(LODVARN_TO_BEFORE, 'x', 1), 12, 16, 15},
-        {12, lodvarn_search_for(LODVARN_BACK_TO, 'w', 1), 5, 12, 5},
-        {12, lodvarn_search_for(LODVARN_BACK_TO_AFTER, 'w', 1), 6, 12, 6},
-        {12, lodvarn_search_for(LODVARN_TO, 'q', 1), NO, NO, NO},
+        {12, lodvarn_to_char(LODVARN_TO, 'x', 1), 12, 17, 16},
+        {12, lodvarn_to_char(LODVARN_TO_BEFORE, 'x', 1), 12, 16, 15},
+        {12, lodvarn_to_char(LODVARN_BACK_TO, 'w', 1), 5, 12, 5},
+        {12, lodvarn_to_char(LODVARN_BACK_TO_AFTER, 'w', 1), 6, 12, 6},
+        {12, lodvarn_to_char(LODVARN_TO, 'q', 1), NO, NO, NO},
         {12, lodvarn_from_first_word(), 4, 12, NO},
         {12, lodvarn_chars_back(2), 10, 12, 10},
         {12, lodvarn_chars_forward(2), 12, 14, 14},
@@ -239,7 +239,7 @@ static void movements_are_asked(void) {
     for (size_t i = 0; i < COUNT(table); i++) {
         lodvarn_range got = {NO, NO};
         size_t to = NO, from = table[i].pos;
-        int covers = lodvarn_covers(s, from, table[i].by, &got), goes = lodvarn_destination(s, from, table[i].by, &to);
+        int covers = lodvarn_movement_range(s, from, table[i].by, &got), goes = lodvarn_movement_target(s, from, table[i].by, &to);
         if (!SEE(covers == (table[i].from != NO) && got.from == table[i].from && got.to == table[i].to))
             printf("  by row %zu: %zu to %zu\n", i, got.from, got.to);
         if (!SEE(goes == (table[i].destination != NO) && to == table[i].destination))
@@ -265,13 +265,13 @@ static void clusters_of_a_session_are_measured(void) {
             printf("  before %zu: %zu, %zu\n", before[i][0], got.from, got.columns);
     SEE(lodvarn_cluster_at(s, 5, &got) == LODVARN_DONE && got.to == 6);
     lodvarn_position at = {NO, NO};
-    SEE(lodvarn_find_cursor(s, &at) == LODVARN_DONE && at.line == 1 && at.column == 3);
+    SEE(lodvarn_cursor_position(s, &at) == LODVARN_DONE && at.line == 1 && at.column == 3);
     SET(mode, LODVARN_WC_WIDTH);
     SEE(lodvarn_cluster_at(s, 9, &got) == LODVARN_DONE && got.to == 27 && got.columns == 6);
-    SEE(lodvarn_find_cursor(s, &at) == LODVARN_DONE && at.line == 1 && at.column == 7);
+    SEE(lodvarn_cursor_position(s, &at) == LODVARN_DONE && at.line == 1 && at.column == 7);
     SET(prompt, 5);
     lodvarn_set_pos(s, 1);
-    SEE(lodvarn_find_cursor(s, &at) == LODVARN_DONE && at.line == 0 && at.column == 1);
+    SEE(lodvarn_cursor_position(s, &at) == LODVARN_DONE && at.line == 0 && at.column == 1);
 }
 
 /* NOTHING, DONE, DONE_AT_END and NO_ROOM of what inserts at the cursor. */
@@ -292,14 +292,14 @@ static void insertions_return_where_they_went(void) {
     DOES(DONE_AT_END, lodvarn_paste(s, "z", 1, 2), "xyabzz|");
     open_at("|ab", 6);
     DOES(NOTHING, lodvarn_yank(s, 1), "|ab");
-    lodvarn_keep(s, "xy", 2);
+    lodvarn_ring_add(s, "xy", 2);
     DOES(NO_ROOM, lodvarn_yank(s, 3), "|ab#xy");
     SEE(!lodvarn_last_was_yank(s));
     DOES(DONE, lodvarn_yank(s, 1), "xy|ab#xy");
     lodvarn_set_pos(s, 4);
     DOES(DONE_AT_END, lodvarn_yank(s, 1), "xyabxy|");
     DOES(NO_ROOM, lodvarn_yank(s, 1), "xyabxy|");
-    lodvarn_keep(s, "", 0);
+    lodvarn_ring_add(s, "", 0);
     DOES(NOTHING, lodvarn_yank(s, 1), "xyabxy|##xy");
     open_at("ab|", 6);
     DOES(DONE, lodvarn_insert_at(s, 0, "é", 2), "é|ab");
@@ -308,23 +308,23 @@ static void insertions_return_where_they_went(void) {
 
 static void a_yank_is_popped(void) {
     open_at("ab|", 4);
-    lodvarn_keep(s, "xyz", 3);
-    lodvarn_keep(s, "c", 1);
+    lodvarn_ring_add(s, "xyz", 3);
+    lodvarn_ring_add(s, "c", 1);
     DOES(NOTHING, lodvarn_yank_pop(s), "ab|#c#xyz");
     DOES(DONE_AT_END, lodvarn_yank(s, 1), "abc|#c#xyz");
     DOES(NO_ROOM, lodvarn_yank_pop(s), "abc|#c#xyz");
-    SEE(lodvarn_entries(s) == 1 && lodvarn_last_was_yank(s));
+    SEE(lodvarn_record_entries(s) == 1 && lodvarn_last_was_yank(s));
     SET(limit, 6);
     DOES(DONE_AT_END, lodvarn_yank_pop(s), "abxyz|#xyz#c");
     lodvarn_set_pos(s, 0);
     DOES(NOTHING, lodvarn_yank_pop(s), "|abxyz#xyz#c");
-    lodvarn_keep(s, "", 0);
-    lodvarn_keep(s, "c", 1);
+    lodvarn_ring_add(s, "", 0);
+    lodvarn_ring_add(s, "c", 1);
     DOES(DONE, lodvarn_yank(s, 1), "c|abxyz#c##c#xyz");
     DOES(DONE, lodvarn_yank_pop(s), "|abxyz##c#xyz#c");
     open_at("|ab", 64);
-    lodvarn_keep(s, "xy", 2);
-    lodvarn_keep(s, "c", 1);
+    lodvarn_ring_add(s, "xy", 2);
+    lodvarn_ring_add(s, "c", 1);
     DOES(DONE, lodvarn_yank(s, 1), "c|ab");
     DOES(DONE, lodvarn_yank_pop(s), "xy|ab#xy#c");
 }
@@ -342,19 +342,19 @@ static void the_ring_has_what_was_killed_and_kept(void) {
     open_at("one two|", 64);
     DOES(DONE, lodvarn_kill(s, WORD_BACK), "one |#two");
     DOES(NOTHING, lodvarn_kill(s, lodvarn_to_text_end()), "one |#two");
-    DOES(DONE, lodvarn_part(s), "one |#two");
+    DOES(DONE, lodvarn_undo_boundary(s), "one |#two");
     DOES(DONE, lodvarn_kill(s, WORD_BACK), "|#one #two");
-    DOES(DONE, lodvarn_keep(s, "né", 3), "|#né#one #two");
-    DOES(DONE, lodvarn_keep(s, NULL, 0), "|##né#one #two");
-    SEE(lodvarn_entries(s) == 2 && lodvarn_yank_pop(s) == LODVARN_NOTHING);
-    DOES(DONE, lodvarn_clear_ring(s), "|");
-    SEE(lodvarn_yank(s, 1) == LODVARN_NOTHING && lodvarn_yank_pop(s) == LODVARN_NOTHING && lodvarn_entries(s) == 2);
+    DOES(DONE, lodvarn_ring_add(s, "né", 3), "|#né#one #two");
+    DOES(DONE, lodvarn_ring_add(s, NULL, 0), "|##né#one #two");
+    SEE(lodvarn_record_entries(s) == 2 && lodvarn_yank_pop(s) == LODVARN_NOTHING);
+    DOES(DONE, lodvarn_ring_clear(s), "|");
+    SEE(lodvarn_yank(s, 1) == LODVARN_NOTHING && lodvarn_yank_pop(s) == LODVARN_NOTHING && lodvarn_record_entries(s) == 2);
     open_at("one two|", 64);
     lodvarn_kill(s, WORD_BACK);
-    DOES(DONE, lodvarn_clear_ring(s), "one |");
+    DOES(DONE, lodvarn_ring_clear(s), "one |");
     DOES(DONE, lodvarn_kill(s, WORD_BACK), "|#one ");
     open_at("|", 64);
-    for (const char *c = "abcd"; *c; c++) lodvarn_keep(s, c, 1);
+    for (const char *c = "abcd"; *c; c++) lodvarn_ring_add(s, c, 1);
     DOES(DONE_AT_END, lodvarn_yank(s, 1), "d|#d#c#b#a");
     SEE(lodvarn_yank_pop(s) == LODVARN_DONE_AT_END && lodvarn_yank_pop(s) == LODVARN_DONE_AT_END);
     DOES(DONE, lodvarn_kill(s, WORD_BACK), "|#b#d#c#b#a");
@@ -362,11 +362,11 @@ static void the_ring_has_what_was_killed_and_kept(void) {
 
 static void a_saved_text_comes_back(void) {
     open_at("|", 64);
-    SEE(!lodvarn_is_saved(s) && lodvarn_set_saved(s) == LODVARN_DONE && lodvarn_is_saved(s));
+    SEE(!lodvarn_is_saved(s) && lodvarn_mark_saved(s) == LODVARN_DONE && lodvarn_is_saved(s));
     lodvarn_insert(s, 'a', 1);
-    SEE(!lodvarn_is_saved(s) && lodvarn_set_saved(s) == LODVARN_DONE && lodvarn_is_saved(s) && lodvarn_entries(s) == 1);
+    SEE(!lodvarn_is_saved(s) && lodvarn_mark_saved(s) == LODVARN_DONE && lodvarn_is_saved(s) && lodvarn_record_entries(s) == 1);
     lodvarn_insert(s, 'b', 1);
-    SEE(!lodvarn_is_saved(s) && lodvarn_entries(s) == 2);
+    SEE(!lodvarn_is_saved(s) && lodvarn_record_entries(s) == 2);
     DOES(DONE, lodvarn_undo(s, 1), "a|");
     SEE(lodvarn_is_saved(s) && lodvarn_redo(s) == LODVARN_DONE && !lodvarn_is_saved(s));
     DOES(DONE, lodvarn_undo(s, 2), "|");
@@ -377,34 +377,34 @@ static void a_saved_text_comes_back(void) {
     SEE(lodvarn_is_saved(s));
     lodvarn_undo(s, 1);
     lodvarn_insert(s, 'a', 1);
-    SEE(!lodvarn_is_saved(s) && lodvarn_set_saved(s) == LODVARN_DONE);
+    SEE(!lodvarn_is_saved(s) && lodvarn_mark_saved(s) == LODVARN_DONE);
     SEE(SET(max_entries, 0) == LODVARN_DONE && lodvarn_is_saved(s));
     lodvarn_insert(s, 'b', 1);
     SEE(lodvarn_undo(s, 1) == LODVARN_NOTHING && !lodvarn_is_saved(s));
-    SEE(lodvarn_set_saved(s) == LODVARN_DONE && lodvarn_restart(s, "", 0) == LODVARN_DONE && !lodvarn_is_saved(s));
+    SEE(lodvarn_mark_saved(s) == LODVARN_DONE && lodvarn_restart(s, "", 0) == LODVARN_DONE && !lodvarn_is_saved(s));
 }
 
 static void groups_are_closed(void) {
     open_at("|one", 64);
-    SEE(lodvarn_end_group(s) == LODVARN_NOTHING && lodvarn_end_all_groups(s) == LODVARN_NOTHING && !lodvarn_level(s));
-    SEE(lodvarn_begin_group(s) == LODVARN_DONE && lodvarn_entries(s) == 1);
+    SEE(lodvarn_end_group(s) == LODVARN_NOTHING && lodvarn_end_all_groups(s) == LODVARN_NOTHING && !lodvarn_group_level(s));
+    SEE(lodvarn_begin_group(s) == LODVARN_DONE && lodvarn_record_entries(s) == 1);
     DOES(DONE, lodvarn_change_case(s, LODVARN_UPPERCASE), "ONE|");
-    SEE(lodvarn_begin_group(s) == LODVARN_DONE && lodvarn_level(s) == 2 && !lodvarn_can_undo(s));
+    SEE(lodvarn_begin_group(s) == LODVARN_DONE && lodvarn_group_level(s) == 2 && !lodvarn_can_undo(s));
     lodvarn_insert(s, 'b', 1);
-    SEE(lodvarn_can_undo(s) && lodvarn_end_group(s) == LODVARN_DONE && lodvarn_level(s) == 1);
+    SEE(lodvarn_can_undo(s) && lodvarn_end_group(s) == LODVARN_DONE && lodvarn_group_level(s) == 1);
     lodvarn_begin_group(s);
-    SEE(lodvarn_end_group(s) == LODVARN_NOTHING && lodvarn_level(s) == 1);
-    SEE(lodvarn_end_group(s) == LODVARN_DONE && !lodvarn_level(s) && lodvarn_entries(s) == 9 && !lodvarn_can_redo(s));
+    SEE(lodvarn_end_group(s) == LODVARN_NOTHING && lodvarn_group_level(s) == 1);
+    SEE(lodvarn_end_group(s) == LODVARN_DONE && !lodvarn_group_level(s) && lodvarn_record_entries(s) == 9 && !lodvarn_can_redo(s));
     DOES(DONE, lodvarn_undo(s, 1), "|one");
     SEE(!lodvarn_can_undo(s) && lodvarn_can_redo(s));
     DOES(DONE, lodvarn_redo(s), "ONEb|");
-    SEE(lodvarn_reopen_group(s) == LODVARN_DONE && lodvarn_level(s) == 1);
+    SEE(lodvarn_reopen_group(s) == LODVARN_DONE && lodvarn_group_level(s) == 1);
     lodvarn_insert(s, 'c', 1);
-    SEE(lodvarn_reopen_group(s) == LODVARN_NOTHING && lodvarn_end_group(s) == LODVARN_DONE && !lodvarn_level(s));
+    SEE(lodvarn_reopen_group(s) == LODVARN_NOTHING && lodvarn_end_group(s) == LODVARN_DONE && !lodvarn_group_level(s));
     DOES(DONE, lodvarn_undo(s, 1), "|one");
     DOES(DONE, lodvarn_redo(s), "ONEbc|");
     for (int i = 0; i < 3; i++) lodvarn_begin_group(s), lodvarn_insert(s, 'd', 1);
-    SEE(lodvarn_level(s) == 3 && lodvarn_end_all_groups(s) == LODVARN_DONE && !lodvarn_level(s));
+    SEE(lodvarn_group_level(s) == 3 && lodvarn_end_all_groups(s) == LODVARN_DONE && !lodvarn_group_level(s));
     DOES(DONE, lodvarn_undo(s, 1), "ONEbc|");
 }
 
@@ -414,7 +414,7 @@ static void groups_are_closed(void) {
         open_at(marked, 64);                                         \
         DOES(DONE, call, left);                                      \
         DOES(DONE, lodvarn_undo(s, 1), marked);                      \
-        SEE(!lodvarn_entries(s) && lodvarn_redo(s) == LODVARN_DONE); \
+        SEE(!lodvarn_record_entries(s) && lodvarn_redo(s) == LODVARN_DONE); \
         DOES(NOTHING, lodvarn_redo(s), left);                        \
     } while (0)
 
@@ -427,7 +427,7 @@ static void an_edit_is_one_unit(void) {
     UNIT("  a\n  b|", lodvarn_indent(s, lodvarn_whole_text(), 1, LODVARN_DEDENT), " a\n b|");
     open_at("abc|", 64);
     lodvarn_backspace(s, 1), lodvarn_transpose_chars(s);
-    SEE(lodvarn_entries(s) == 5);
+    SEE(lodvarn_record_entries(s) == 5);
     DOES(DONE, lodvarn_undo(s, 1), "ab|");
     DOES(NOTHING, lodvarn_change_case(s, LODVARN_UPPERCASE), "ab|");
     DOES(DONE, lodvarn_redo(s), "ba|");
@@ -435,16 +435,16 @@ static void an_edit_is_one_unit(void) {
     lodvarn_insert(s, 'a', 1);
     DOES(NOTHING, lodvarn_transpose_words(s, 1), "a|");
     lodvarn_insert(s, 'b', 1);
-    SEE(lodvarn_entries(s) == 1);
+    SEE(lodvarn_record_entries(s) == 1);
 }
 
 static void a_yank_and_its_pops_are_one_unit(void) {
     open_at("|", 64);
-    for (const char *c = "abc"; *c; c++) lodvarn_keep(s, c, 1);
+    for (const char *c = "abc"; *c; c++) lodvarn_ring_add(s, c, 1);
     lodvarn_insert(s, '-', 1);
     DOES(DONE_AT_END, lodvarn_yank(s, 1), "-c|");
     DOES(DONE_AT_END, lodvarn_yank_pop(s), "-b|");
-    SEE(lodvarn_entries(s) == 6);
+    SEE(lodvarn_record_entries(s) == 6);
     DOES(DONE_AT_END, lodvarn_yank_pop(s), "-a|");
     DOES(DONE, lodvarn_undo(s, 1), "-|");
     DOES(DONE, lodvarn_redo(s), "-a|");
@@ -453,7 +453,7 @@ static void a_yank_and_its_pops_are_one_unit(void) {
     DOES(DONE_AT_END, lodvarn_yank_pop(s), "-aac|");
     DOES(DONE, lodvarn_undo(s, 1), "-aaa|");
     DOES(DONE_AT_END, lodvarn_yank(s, 1), "-aaac|");
-    SEE(lodvarn_set_saved(s) == LODVARN_DONE && lodvarn_yank_pop(s) == LODVARN_DONE_AT_END);
+    SEE(lodvarn_mark_saved(s) == LODVARN_DONE && lodvarn_yank_pop(s) == LODVARN_DONE_AT_END);
     DOES(DONE, lodvarn_undo(s, 1), "-aaac|");
     SEE(lodvarn_is_saved(s));
 }
@@ -466,17 +466,17 @@ static void an_undo_stays_in_its_group(void) {
     lodvarn_insert(s, '-', 1), lodvarn_insert(s, '+', 1);
     DOES(DONE, lodvarn_undo(s, 9), "a|");
     DOES(NOTHING, lodvarn_undo(s, 9), "a|");
-    SEE(lodvarn_level(s) == 1 && lodvarn_entries(s) == 2 && !lodvarn_can_undo(s) && lodvarn_can_redo(s));
+    SEE(lodvarn_group_level(s) == 1 && lodvarn_record_entries(s) == 2 && !lodvarn_can_undo(s) && lodvarn_can_redo(s));
     DOES(DONE, lodvarn_redo(s), "a-|");
     DOES(DONE, lodvarn_begin_group(s), "a-|");
     DOES(NOTHING, lodvarn_undo(s, 9), "a-|");
     DOES(DONE, lodvarn_transpose_chars(s), "-a|");
     DOES(DONE, lodvarn_undo(s, 9), "a-|");
-    SEE(lodvarn_level(s) == 2 && lodvarn_end_group(s) == LODVARN_NOTHING);
+    SEE(lodvarn_group_level(s) == 2 && lodvarn_end_group(s) == LODVARN_NOTHING);
     DOES(DONE, lodvarn_undo(s, 9), "a|");
     DOES(DONE, lodvarn_abandon_group(s), "a|");
     DOES(DONE, lodvarn_undo(s, 9), "|");
-    SEE(!lodvarn_level(s) && !lodvarn_entries(s));
+    SEE(!lodvarn_group_level(s) && !lodvarn_record_entries(s));
 }
 
 static void groups_are_abandoned(void) {
@@ -490,7 +490,7 @@ static void groups_are_abandoned(void) {
     lodvarn_begin_group(s), lodvarn_insert(s, 'x', 1);
     DOES(DONE, lodvarn_abandon_group(s), "|one three#two-");
     DOES(DONE, lodvarn_abandon_group(s), "one two-|#two-");
-    SEE(!lodvarn_level(s) && lodvarn_entries(s) == 1 && !lodvarn_can_redo(s));
+    SEE(!lodvarn_group_level(s) && lodvarn_record_entries(s) == 1 && !lodvarn_can_redo(s));
     DOES(NOTHING, lodvarn_abandon_group(s), "one two-|#two-");
     DOES(DONE, lodvarn_undo(s, 1), "one two|");
 }
@@ -503,7 +503,7 @@ static void what_was_undone_is_kept(void) {
     DOES(DONE, lodvarn_undo(s, 2), "one two|#two");
     DOES(DONE, lodvarn_keep_undone(s), "one two|#two");
     DOES(NOTHING, lodvarn_keep_undone(s), "one two|#two");
-    SEE(lodvarn_entries(s) == 10 && !lodvarn_level(s) && !lodvarn_can_redo(s));
+    SEE(lodvarn_record_entries(s) == 10 && !lodvarn_group_level(s) && !lodvarn_can_redo(s));
     lodvarn_set_pos(s, 0), lodvarn_insert(s, '*', 1);
     DOES(DONE, lodvarn_undo(s, 2), "one |#two");
     DOES(DONE, lodvarn_undo(s, 1), "one -+|#two");
@@ -513,7 +513,7 @@ static void what_was_undone_is_kept(void) {
     open_at("|", 64);
     SET(max_entries, 2);
     lodvarn_insert(s, '-', 1), lodvarn_insert(s, '+', 1), lodvarn_undo(s, 1);
-    SEE(lodvarn_keep_undone(s) == LODVARN_DONE && lodvarn_entries(s) == 2);
+    SEE(lodvarn_keep_undone(s) == LODVARN_DONE && lodvarn_record_entries(s) == 2);
     DOES(DONE, lodvarn_undo(s, 1), "-+|");
     DOES(DONE, lodvarn_undo(s, 9), "-|");
 }
@@ -521,15 +521,15 @@ static void what_was_undone_is_kept(void) {
 /* A session in which "-" was typed after "one two", and undone. */
 static void begin_undone(bool keeps) {
     open_at("one two|", 64);
-    must(SET(keeps_undone, keeps) > 0 && lodvarn_keep(s, "kept", 4) > 0);
+    must(SET(keeps_undone, keeps) > 0 && lodvarn_ring_add(s, "kept", 4) > 0);
     must(lodvarn_insert(s, '-', 1) > 0 && lodvarn_undo(s, 1) > 0);
 }
 
 /* Whether undos come to the text that was undone. */
 static int comes_back(void) {
     lodvarn_view text;
-    if (lodvarn_level(s)) lodvarn_end_all_groups(s);
-    while (lodvarn_entries(s) > 0 && lodvarn_undo(s, 1) >= 0)
+    if (lodvarn_group_level(s)) lodvarn_end_all_groups(s);
+    while (lodvarn_record_entries(s) > 0 && lodvarn_undo(s, 1) >= 0)
         if (lodvarn_text(s, &text) > 0 && is(text, "one two-")) return 1;
     return 0;
 }
@@ -582,9 +582,9 @@ static void edits_keep_what_was_undone(void) {
     PASSES(lodvarn_set_pos(s, 0));
     PASSES(lodvarn_move(s, WORD_BACK));
     PASSES(lodvarn_copy(s, WORD_BACK, copied, sizeof copied, &len));
-    PASSES(lodvarn_keep(s, "+", 1));
-    PASSES(lodvarn_part(s));
-    PASSES(lodvarn_set_saved(s));
+    PASSES(lodvarn_ring_add(s, "+", 1));
+    PASSES(lodvarn_undo_boundary(s));
+    PASSES(lodvarn_mark_saved(s));
     PASSES(lodvarn_undo(s, 1));
     PASSES(lodvarn_abandon_group(s));
     PASSES(lodvarn_reopen_group(s));
@@ -620,17 +620,17 @@ static void options_take_effect(void) {
     open_at("|", LODVARN_NO_LIMIT);
     DOES(DONE, SET(max_entries, 2), "|");
     for (const char *c = "-+*"; *c; c++) lodvarn_insert(s, (uint32_t)*c, 1);
-    SEE(lodvarn_entries(s) == 2 && SET(max_bytes, 1) == LODVARN_DONE && lodvarn_entries(s) == 1);
+    SEE(lodvarn_record_entries(s) == 2 && SET(max_bytes, 1) == LODVARN_DONE && lodvarn_record_entries(s) == 1);
     DOES(DONE, lodvarn_undo(s, 9), "-+|");
     SEE(!lodvarn_can_undo(s) && SET(max_bytes, LODVARN_NO_BOUND) == LODVARN_DONE);
     SET(max_entries, LODVARN_NO_BOUND);
     for (const char *c = "-+*"; *c; c++) lodvarn_insert(s, (uint32_t)*c, 1);
-    SEE(lodvarn_entries(s) == 3);
+    SEE(lodvarn_record_entries(s) == 3);
     open_at("abcd|", 64);
     DOES(DONE, SET(max_ring_bytes, 4), "abcd|");
-    DOES(DONE, lodvarn_keep(s, "x", 1), "abcd|#x");
-    DOES(DONE, lodvarn_keep(s, "yz", 2), "abcd|#yz#x");
-    DOES(DONE, lodvarn_keep(s, "w", 1), "abcd|#w#yz#x");
+    DOES(DONE, lodvarn_ring_add(s, "x", 1), "abcd|#x");
+    DOES(DONE, lodvarn_ring_add(s, "yz", 2), "abcd|#yz#x");
+    DOES(DONE, lodvarn_ring_add(s, "w", 1), "abcd|#w#yz#x");
     DOES(DONE_AT_END, lodvarn_yank(s, 1), "abcdw|#w#yz#x");
     DOES(DONE_AT_END, lodvarn_yank_pop(s), "abcdyz|#yz#x#w");
     DOES(DONE, SET(max_ring_bytes, 3), "abcdyz|#yz#w");
@@ -759,7 +759,7 @@ static const struct laid places[] = {
 
 static void see_place(const struct laid *row) {
     size_t got = NO;
-    int answer = lodvarn_place_at(&row->screen, row->cell, row->text, strlen(row->text), &got);
+    int answer = lodvarn_offset_at(&row->screen, row->cell, row->text, strlen(row->text), &got);
     if (!see(row->what, answer == LODVARN_DONE && got == row->place)) printf("  got %zu\n", got);
 }
 
@@ -937,7 +937,7 @@ static void movements_mean_what_they_say(void) {
         }
     }
     for (size_t i = 0; i < 4; i++) {
-        lodvarn_movement by = lodvarn_search_for((enum lodvarn_search)searches[i].number, 'x', 2);
+        lodvarn_movement by = lodvarn_to_char((enum lodvarn_search)searches[i].number, 'x', 2);
         mean(kills, by, 0, "kill find 2 %s x", searches[i].name, "");
         mean(moves, by, 0, "move find 2 %s x", searches[i].name, "");
         mean(deletes, by, 0, "to 2 %s x", searches[i].name, "");
@@ -992,11 +992,11 @@ static void print_state(char *to, size_t cap) {
     must(file && lodvarn_text(s, &text) == LODVARN_DONE && lodvarn_next_report(s, &report) == LODVARN_DONE);
     print_marked(file, text, lodvarn_pos(s));
     print_ring(file);
-    fprintf(file, " %zu %zu", lodvarn_entries(s), lodvarn_level(s));
+    fprintf(file, " %zu %zu", lodvarn_record_entries(s), lodvarn_group_level(s));
     fprintf(file, " %d %d", lodvarn_can_undo(s), lodvarn_can_redo(s));
     fprintf(file, " %d %u %zu %zu %zu %zu %zu", now.mode, (unsigned)now.prompt, now.limit, now.ring_size,
             now.max_entries, now.max_bytes, now.max_ring_bytes);
-    fprintf(file, " %d %zu %d %zu %zu", now.keeps_undone, lodvarn_count_reports(s), report.kind, report.at,
+    fprintf(file, " %d %zu %d %zu %zu", now.keeps_undone, lodvarn_report_count(s), report.kind, report.at,
             report.old_len);
     printed_in(file, to, cap);
 }
@@ -1004,10 +1004,10 @@ static void print_state(char *to, size_t cap) {
 /* "aé\nb " with a limit of 12 bytes, in a group, with reports. A kill was done last, or a yank. */
 static void begin_row(int yanked) {
     open_at("aé\nb cd|", 12);
-    must(lodvarn_watch(s, 9, 64) == LODVARN_DONE && lodvarn_keep(s, "kept", 4) == LODVARN_DONE);
+    must(lodvarn_watch(s, 9, 64) == LODVARN_DONE && lodvarn_ring_add(s, "kept", 4) == LODVARN_DONE);
     must(lodvarn_begin_group(s) == LODVARN_DONE && lodvarn_kill(s, WORD_BACK) == LODVARN_DONE);
     if (yanked) {
-        must(lodvarn_part(s) == LODVARN_DONE && lodvarn_kill(s, WORD_BACK) == LODVARN_DONE);
+        must(lodvarn_undo_boundary(s) == LODVARN_DONE && lodvarn_kill(s, WORD_BACK) == LODVARN_DONE);
         must(lodvarn_yank(s, 1) == LODVARN_DONE_AT_END);
     }
     must(lodvarn_forget_report(s) == LODVARN_DONE && lodvarn_take_change(s, &out.splice) == LODVARN_DONE);
@@ -1066,8 +1066,8 @@ static const lodvarn_position corner = {0, 0};
     LEAVES(wanted, lodvarn_kill(s, movement));                                           \
     LEAVES(wanted, lodvarn_copy(s, movement, out.text, sizeof out.text, &out.number));   \
     LEAVES(wanted, lodvarn_indent(s, movement, 1, LODVARN_INDENT));                      \
-    LEAVES(wanted, lodvarn_covers(s, 1, movement, &out.range));                          \
-    LEAVES(wanted, lodvarn_destination(s, 1, movement, &out.number))
+    LEAVES(wanted, lodvarn_movement_range(s, 1, movement, &out.range));                          \
+    LEAVES(wanted, lodvarn_movement_target(s, 1, movement, &out.number))
 static void refuse_movement(lodvarn_movement bad) { NO_CALL_TAKES(NO_SUCH_NUMBER, bad); }
 static void leave_movement(lodvarn_movement by) { NO_CALL_TAKES(NOTHING, by); }
 
@@ -1077,7 +1077,7 @@ static void numbers_outside_of_their_enums(void) {
         LEAVES(NO_SUCH_NUMBER, lodvarn_set_options(s, other_options(sizeof options, number)));
         LEAVES(NO_SUCH_NUMBER, lodvarn_width((enum lodvarn_mode)number, "a", 1, &out.number));
         LEAVES(NO_SUCH_NUMBER, lodvarn_cell(screen_of(10, number), 0, "a", 1, &out.position));
-        LEAVES(NO_SUCH_NUMBER, lodvarn_place_at(screen_of(10, number), corner, "a", 1, &out.number));
+        LEAVES(NO_SUCH_NUMBER, lodvarn_offset_at(screen_of(10, number), corner, "a", 1, &out.number));
         LEAVES(NO_SUCH_NUMBER, lodvarn_clusters((enum lodvarn_mode)number, "a", 1, &out.cluster, 1, &out.number));
         LEAVES(NO_SUCH_NUMBER, lodvarn_rows(screen_of(10, number), "a", 1, &out.number, 1, &out.number));
         LEAVES(NO_SUCH_NUMBER, lodvarn_row_above(s, screen_of(10, number), 1, &out.number, &out.number));
@@ -1085,14 +1085,14 @@ static void numbers_outside_of_their_enums(void) {
     EACH_OUTSIDE(LODVARN_FORWARD, LODVARN_BACKWARD)
         LEAVES(NO_SUCH_NUMBER, lodvarn_kill_range(s, range(0, 1), (enum lodvarn_direction)number));
     EACH_OUTSIDE(LODVARN_BEFORE, LODVARN_AFTER)
-        LEAVES(NO_SUCH_NUMBER, lodvarn_moved(change_of(1, 2, 2), 1, (enum lodvarn_side)number, &out.number));
+        LEAVES(NO_SUCH_NUMBER, lodvarn_map_offset(change_of(1, 2, 2), 1, (enum lodvarn_side)number, &out.number));
     EACH_OUTSIDE(LODVARN_CAPITALIZE, LODVARN_UPPERCASE)
         LEAVES(NO_SUCH_NUMBER, lodvarn_change_case(s, (enum lodvarn_case)number));
     EACH_OUTSIDE(LODVARN_INDENT, LODVARN_DEDENT)
         LEAVES(NO_SUCH_NUMBER, lodvarn_indent(s, lodvarn_whole_text(), 1, (enum lodvarn_indentation)number));
     each_bad_movement(refuse_movement);
     LEAVES(NO_SUCH_NUMBER, lodvarn_cell(screen_of(0, U), 0, "a", 1, &out.position));
-    LEAVES(NO_SUCH_NUMBER, lodvarn_place_at(screen_of(0, U), corner, "a", 1, &out.number));
+    LEAVES(NO_SUCH_NUMBER, lodvarn_offset_at(screen_of(0, U), corner, "a", 1, &out.number));
     LEAVES(NO_SUCH_NUMBER, lodvarn_rows(screen_of(0, U), "a", 1, &out.number, 1, &out.number));
     LEAVES(NO_SUCH_NUMBER, lodvarn_row_below(s, screen_of(0, U), 1, &out.number, &out.number));
     LEAVES(NO_SUCH_NUMBER, lodvarn_row_below(s, &screen, 65536, &out.number, &out.number));
@@ -1154,8 +1154,8 @@ static void texts_that_are_longer_than_the_limit(void) {
     LEAVES(NO_ROOM, lodvarn_restart(s, "1234567890123", 13));
     LEAVES(NO_ROOM, lodvarn_open(&out.opened, other_options(sizeof options, U), "123456", 6));
     LEAVES(NO_ROOM, lodvarn_set_options(s, other_options(sizeof options, U)));
-    FULL("a|b", lodvarn_keep(s, "cd", 2), lodvarn_yank(s, 1));
-    FULL("a|b", (lodvarn_keep(s, "cd", 2), lodvarn_keep(s, "e", 1), lodvarn_yank(s, 1)), lodvarn_yank_pop(s));
+    FULL("a|b", lodvarn_ring_add(s, "cd", 2), lodvarn_yank(s, 1));
+    FULL("a|b", (lodvarn_ring_add(s, "cd", 2), lodvarn_ring_add(s, "e", 1), lodvarn_yank(s, 1)), lodvarn_yank_pop(s));
     FULL("abc |d", lodvarn_set_pos(s, 4), lodvarn_transpose_words(s, 1));
     FULL("|ŉ", lodvarn_set_pos(s, 0), lodvarn_change_case(s, LODVARN_UPPERCASE));
     FULL("a|b", lodvarn_set_pos(s, 1), lodvarn_redo(s));
@@ -1193,12 +1193,12 @@ static void texts_that_are_no_utf8(void) {
         LEAVES(NOT_UTF8, lodvarn_restart(s, bad, len));
         LEAVES(NOT_UTF8, lodvarn_insert_at(s, 0, bad, len));
         LEAVES(NOT_UTF8, lodvarn_replace(s, range(0, 1), bad, len));
-        LEAVES(NOT_UTF8, lodvarn_keep(s, bad, len));
+        LEAVES(NOT_UTF8, lodvarn_ring_add(s, bad, len));
         LEAVES(NOT_UTF8, lodvarn_width(LODVARN_UNICODE, bad, len, &out.number));
         LEAVES(NOT_UTF8, lodvarn_first_cluster(bad, len, &out.number));
         LEAVES(NOT_UTF8, lodvarn_last_cluster(bad, len, &out.number));
         LEAVES(NOT_UTF8, lodvarn_cell(&screen, 0, bad, len, &out.position));
-        LEAVES(NOT_UTF8, lodvarn_place_at(&screen, corner, bad, len, &out.number));
+        LEAVES(NOT_UTF8, lodvarn_offset_at(&screen, corner, bad, len, &out.number));
         LEAVES(NOT_UTF8, lodvarn_clusters(U, bad, len, &out.cluster, 1, &out.number));
         LEAVES(NOT_UTF8, lodvarn_rows(&screen, bad, len, &out.number, 1, &out.number));
     }
@@ -1225,8 +1225,8 @@ static void places_that_are_none(void) {
         LEAVES(BAD_PLACE, lodvarn_cluster_at(s, bad, &out.cluster));
         LEAVES(BAD_PLACE, lodvarn_cluster_before(s, bad, &out.cluster));
         LEAVES(BAD_PLACE, lodvarn_line_at(s, bad, &out.number));
-        LEAVES(BAD_PLACE, lodvarn_covers(s, bad, lodvarn_whole_text(), &out.range));
-        LEAVES(BAD_PLACE, lodvarn_destination(s, bad, lodvarn_to_text_start(), &out.number));
+        LEAVES(BAD_PLACE, lodvarn_movement_range(s, bad, lodvarn_whole_text(), &out.range));
+        LEAVES(BAD_PLACE, lodvarn_movement_target(s, bad, lodvarn_to_text_start(), &out.number));
         LEAVES(BAD_PLACE, lodvarn_cell(&screen, bad, "aé\nb ", 6, &out.position));
         refuse_range(0, bad);
         refuse_range(bad, 6);
@@ -1234,10 +1234,10 @@ static void places_that_are_none(void) {
     }
     refuse_range(3, 1);
     refuse_range(6, 0);
-    LEAVES(BAD_PLACE, lodvarn_moved(change_of(2, 1, 2), 0, LODVARN_BEFORE, &out.number));
-    LEAVES(BAD_PLACE, lodvarn_moved(change_of(2, 2, 1), 0, LODVARN_AFTER, &out.number));
-    LEAVES(BAD_PLACE, lodvarn_moved(change_of(1, 1, 2), SIZE_MAX, LODVARN_AFTER, &out.number));
-    LEAVES(BAD_PLACE, lodvarn_moved(change_of(0, SIZE_MAX - 1, SIZE_MAX), SIZE_MAX, LODVARN_BEFORE, &out.number));
+    LEAVES(BAD_PLACE, lodvarn_map_offset(change_of(2, 1, 2), 0, LODVARN_BEFORE, &out.number));
+    LEAVES(BAD_PLACE, lodvarn_map_offset(change_of(2, 2, 1), 0, LODVARN_AFTER, &out.number));
+    LEAVES(BAD_PLACE, lodvarn_map_offset(change_of(1, 1, 2), SIZE_MAX, LODVARN_AFTER, &out.number));
+    LEAVES(BAD_PLACE, lodvarn_map_offset(change_of(0, SIZE_MAX - 1, SIZE_MAX), SIZE_MAX, LODVARN_BEFORE, &out.number));
     PARTS(BAD_PLACE, lodvarn_insert_at(s, 0, "12345漢", 8));
     PARTS(NOT_REPLAYING, lodvarn_truncate(s, 0));
     PARTS(NOT_REPLAYING, lodvarn_truncate(s, 1));
@@ -1255,12 +1255,12 @@ static int read_all(void) {
     lodvarn_options now = chosen();
     size_t place;
     return lodvarn_text(s, &view) > 0 && lodvarn_slice(s, range(0, 1), &view) > 0 && lodvarn_pos(s)
-        && lodvarn_count_lines(s) && lodvarn_line_at(s, 1, &place) > 0 && lodvarn_find_cursor(s, &position) > 0
-        && lodvarn_find_line(s, 0, &covered) > 0 && lodvarn_covers(s, 1, lodvarn_whole_line(), &covered) > 0
-        && lodvarn_destination(s, 1, lodvarn_chars_back(1), &place) > 0 && lodvarn_cluster_at(s, 0, &cluster) > 0
+        && lodvarn_line_count(s) && lodvarn_line_at(s, 1, &place) > 0 && lodvarn_cursor_position(s, &position) > 0
+        && lodvarn_line_range(s, 0, &covered) > 0 && lodvarn_movement_range(s, 1, lodvarn_whole_line(), &covered) > 0
+        && lodvarn_movement_target(s, 1, lodvarn_chars_back(1), &place) > 0 && lodvarn_cluster_at(s, 0, &cluster) > 0
         && lodvarn_cluster_before(s, 1, &cluster) > 0
-        && lodvarn_entries(s) + lodvarn_level(s) && lodvarn_can_undo(s) && !lodvarn_can_redo(s)
-        && lodvarn_ring_text(s, 0, &view) > 0 && lodvarn_ring_count(s) && lodvarn_count_reports(s) && now.limit
+        && lodvarn_record_entries(s) + lodvarn_group_level(s) && lodvarn_can_undo(s) && !lodvarn_can_redo(s)
+        && lodvarn_ring_text(s, 0, &view) > 0 && lodvarn_ring_count(s) && lodvarn_report_count(s) && now.limit
         && lodvarn_next_report(s, &report) > 0 && lodvarn_last_was_yank(s) + 1;
 }
 
@@ -1268,10 +1268,10 @@ static void nothing_is_done(void) {
     LEAVES(DONE, read_all());
     LEAVES(NOTHING, lodvarn_cluster_at(s, 6, &out.cluster));
     LEAVES(NOTHING, lodvarn_cluster_before(s, 0, &out.cluster));
-    LEAVES(NOTHING, lodvarn_find_line(s, 2, &out.range));
-    LEAVES(NOTHING, lodvarn_find_line(s, SIZE_MAX, &out.range));
-    LEAVES(NOTHING, lodvarn_covers(s, 6, lodvarn_to_line_end(), &out.range));
-    LEAVES(NOTHING, lodvarn_destination(s, 1, lodvarn_whole_line(), &out.number));
+    LEAVES(NOTHING, lodvarn_line_range(s, 2, &out.range));
+    LEAVES(NOTHING, lodvarn_line_range(s, SIZE_MAX, &out.range));
+    LEAVES(NOTHING, lodvarn_movement_range(s, 6, lodvarn_to_line_end(), &out.range));
+    LEAVES(NOTHING, lodvarn_movement_target(s, 1, lodvarn_whole_line(), &out.number));
     LEAVES(NOTHING, lodvarn_ring_text(s, lodvarn_ring_count(s), &out.view));
     LEAVES(NOTHING, lodvarn_ring_text(s, SIZE_MAX, &out.view));
     LEAVES(NOTHING, lodvarn_take_change(s, &out.splice));
@@ -1290,7 +1290,7 @@ static void nothing_is_done(void) {
     PARTS(NOTHING, lodvarn_copy(s, lodvarn_to_line_end(), NULL, 0, &out.number));
     PARTS(NOTHING, lodvarn_change_case(s, LODVARN_UPPERCASE));
     PARTS(NOTHING, lodvarn_redo(s));
-    PARTS(DONE, lodvarn_truncate(s, lodvarn_entries(s)));
+    PARTS(DONE, lodvarn_truncate(s, lodvarn_record_entries(s)));
     open_at("a|b", 64);
     DOES(DONE, lodvarn_delete_range(s, range(2, 2)), "ab|");
     DOES(DONE, lodvarn_replace(s, range(0, 1), NULL, 0), "|b");
@@ -1326,14 +1326,14 @@ static void texts_are_lent(void) {
     SEE(lodvarn_next_report(s, &report) == LODVARN_DONE && report.kind == LODVARN_DELETED_BACKWARD);
     SEE(read_all() && is(text, "one two ") && is(slice, "two") && is(none, "") && is(ring, "three"));
     SEE(report.old_len == 5 && is(report.old_text, "three") && report.new_len == 0 && is(report.new_text, ""));
-    SEE(lodvarn_replace(s, range(0, 7), "1", 1) == LODVARN_DONE && lodvarn_keep(s, "kept", 4) == LODVARN_DONE);
+    SEE(lodvarn_replace(s, range(0, 7), "1", 1) == LODVARN_DONE && lodvarn_ring_add(s, "kept", 4) == LODVARN_DONE);
     SEE(lodvarn_text(s, &text) == LODVARN_DONE && is(text, "1 "));
     SEE(lodvarn_slice(s, range(1, 2), &slice) == LODVARN_DONE && is(slice, " "));
     SEE(lodvarn_ring_text(s, 0, &ring) == LODVARN_DONE && is(ring, "kept"));
     lodvarn_forget_report(s), lodvarn_forget_report(s);
     SEE(lodvarn_next_report(s, &report) == LODVARN_DONE && is(report.old_text, "one two") && is(report.new_text, "1"));
     open_at("a|é\nb", 64);
-    SEE(lodvarn_covers(s, 1, lodvarn_chars_forward(2), &goes) == LODVARN_DONE && lodvarn_slice(s, goes, &slice) > 0);
+    SEE(lodvarn_movement_range(s, 1, lodvarn_chars_forward(2), &goes) == LODVARN_DONE && lodvarn_slice(s, goes, &slice) > 0);
     SEE(is(slice, "é\n"));
     DOES(DONE, lodvarn_delete(s, 2), "a|b");
     DOES(DONE, lodvarn_delete(s, 9), "a|");
@@ -1375,8 +1375,8 @@ static int changed_is(size_t from, size_t old_to, size_t new_to) {
 /* Where a change moves a place, on each side. */
 static int moves_to(const lodvarn_splice *change, size_t place, size_t before, size_t after) {
     size_t to_before = NO, to_after = NO;
-    return lodvarn_moved(change, place, LODVARN_BEFORE, &to_before) == LODVARN_DONE && to_before == before
-        && lodvarn_moved(change, place, LODVARN_AFTER, &to_after) == LODVARN_DONE && to_after == after;
+    return lodvarn_map_offset(change, place, LODVARN_BEFORE, &to_before) == LODVARN_DONE && to_before == before
+        && lodvarn_map_offset(change, place, LODVARN_AFTER, &to_after) == LODVARN_DONE && to_after == after;
 }
 
 static void places_move(void) {
@@ -1411,11 +1411,11 @@ static void marks_follow(void) {
         run(table[i].line);
         for (; lodvarn_next_report(s, &r) > 0; lodvarn_forget_report(s)) {
             change = (lodvarn_splice){r.at, r.at + r.old_len, r.at + r.new_len};
-            must(lodvarn_moved(&change, before, LODVARN_BEFORE, &before) == LODVARN_DONE);
-            must(lodvarn_moved(&change, after, LODVARN_AFTER, &after) == LODVARN_DONE);
+            must(lodvarn_map_offset(&change, before, LODVARN_BEFORE, &before) == LODVARN_DONE);
+            must(lodvarn_map_offset(&change, after, LODVARN_AFTER, &after) == LODVARN_DONE);
         }
         if (lodvarn_take_change(s, &change) > 0)
-            must(lodvarn_moved(&change, at_once, LODVARN_BEFORE, &at_once) == LODVARN_DONE);
+            must(lodvarn_map_offset(&change, at_once, LODVARN_BEFORE, &at_once) == LODVARN_DONE);
         if (!see(table[i].line, before == table[i].before && after == table[i].after && at_once == table[i].at_once))
             printf("  in row %zu: %zu, %zu, %zu\n", i, before, after, at_once);
     }
@@ -1539,15 +1539,15 @@ static void reports_wait(void) {
     for (size_t i = 0; i < COUNT(great); i++)
         SEE(lodvarn_watch(s, great[i][0], great[i][1]) == LODVARN_NO_MEMORY);
     lodvarn_insert(s, 'c', 1);
-    SEE(lodvarn_watch(s, 3, 64) == LODVARN_DONE && lodvarn_count_reports(s) == 0);
+    SEE(lodvarn_watch(s, 3, 64) == LODVARN_DONE && lodvarn_report_count(s) == 0);
     lodvarn_insert(s, 'd', 1);
     lodvarn_replace(s, range(0, 1), "x", 1);
     for (int i = 0; i < 3; i++)
         SEE(lodvarn_next_report(s, &report) == LODVARN_DONE && report.at == 3 && is(report.new_text, "d"));
-    SEE(lodvarn_count_reports(s) == 2);
+    SEE(lodvarn_report_count(s) == 2);
     TELLS(1, "CHAR_INSERTED 3 0 1 3 4 d\n");
-    SEE(lodvarn_count_reports(s) == 1 && lodvarn_next_report(s, &report) == LODVARN_DONE && report.at == 0);
-    SEE(lodvarn_unwatch(s) == LODVARN_DONE && lodvarn_count_reports(s) == 0 && lodvarn_unwatch(s) == LODVARN_DONE);
+    SEE(lodvarn_report_count(s) == 1 && lodvarn_next_report(s, &report) == LODVARN_DONE && report.at == 0);
+    SEE(lodvarn_unwatch(s) == LODVARN_DONE && lodvarn_report_count(s) == 0 && lodvarn_unwatch(s) == LODVARN_DONE);
     SEE(lodvarn_next_report(s, &report) == LODVARN_NOTHING && lodvarn_forget_report(s) == LODVARN_NOTHING);
     lodvarn_insert(s, 'e', 1);
     SEE(lodvarn_watch(s, 1, 1) == LODVARN_DONE && lodvarn_next_report(s, &report) == LODVARN_NOTHING);
@@ -1568,7 +1568,7 @@ static void asking_what_changed_parts_nothing(void) {
     while (lodvarn_next_report(s, &report) > 0) lodvarn_forget_report(s);
     SEE(changed_is(8, 14, 8));
     DOES(DONE, lodvarn_kill(s, WORD_BACK), "one |#two three four");
-    SEE(lodvarn_count_reports(s) == 3 && lodvarn_unwatch(s) == LODVARN_DONE);
+    SEE(lodvarn_report_count(s) == 3 && lodvarn_unwatch(s) == LODVARN_DONE);
     DOES(DONE, lodvarn_kill(s, WORD_BACK), "|#one two three four");
     DOES(DONE_AT_END, lodvarn_yank(s, 1), "one two three four|");
     SEE(changed_is(0, 8, 18) && lodvarn_last_was_yank(s));
@@ -1588,7 +1588,7 @@ static void reports_are_drained_quickly(void) {
     while (clock() < end && lodvarn_next_report(s, &report) > 0 && report.kind != LODVARN_FOLDED
            && (is(report.old_text, text) || is(report.new_text, text)) && lodvarn_forget_report(s) > 0)
         count--;
-    SEE(count == 0 && lodvarn_count_reports(s) == 0);
+    SEE(count == 0 && lodvarn_report_count(s) == 0);
 }
 
 static void a_session_begins_anew(void) {
@@ -1597,7 +1597,7 @@ static void a_session_begins_anew(void) {
     lodvarn_insert(s, 'x', 1);
     SEE(changed_is(4, 7, 5));
     DOES(DONE, lodvarn_restart(s, "né", 3), "né|#two");
-    SEE(changed_is(0, 5, 3) && lodvarn_entries(s) == 0);
+    SEE(changed_is(0, 5, 3) && lodvarn_record_entries(s) == 0);
     DOES(NOTHING, lodvarn_undo(s, 1), "né|");
     DOES(NOTHING, lodvarn_redo(s), "né|");
     lodvarn_set_pos(s, 1);
@@ -1627,7 +1627,7 @@ static char *saved(size_t *len) {
 /* Prints all that the reads tell of a session. */
 static void print_all(FILE *to) {
     options = chosen();
-    fprintf(to, "%zu %zu %d %d ", lodvarn_entries(s), lodvarn_level(s), lodvarn_can_undo(s), lodvarn_can_redo(s));
+    fprintf(to, "%zu %zu %d %d ", lodvarn_record_entries(s), lodvarn_group_level(s), lodvarn_can_undo(s), lodvarn_can_redo(s));
     fprintf(to, "%d %d ", lodvarn_is_saved(s), lodvarn_last_was_yank(s));
     fprintf(to, "%d %zu %zu ", options.keeps_undone, options.limit, options.ring_size);
     fprintf(to, "%d %d ", options.mode, options.prompt);
@@ -1652,7 +1652,7 @@ static char *printed_on(const char *lines) {
 }
 
 /* What is done before a session is saved, and after it. The text is "one two", with the cursor at its end;
- * lodvarn_set_saved comes after the first line. */
+ * lodvarn_mark_saved comes after the first line. */
 static const char *const kept[][2] = {
     {"where", "ins 1 x"},
     {"ins 1 x;ins 1 y", "ins 1 z"},
@@ -1679,14 +1679,14 @@ static void a_session_is_saved_and_loaded(void) {
         must(i % 3 || lodvarn_watch(s, 1, 0) > 0);
         for (char *line = strtok(strcpy(lines, kept[i][0]), ";"); line; line = strtok(NULL, ";")) {
             run(line);
-            if (line == lines) lodvarn_set_saved(s);
+            if (line == lines) lodvarn_mark_saved(s);
         }
         bytes = saved(&len);
         wanted = printed_on(kept[i][1]);
         if (!see(kept[i][0], lodvarn_load(&loaded, bytes, len) == LODVARN_DONE)) return;
         lodvarn_close(&s);
         script_session.s = s = loaded;
-        SEE(lodvarn_take_change(s, &change) == LODVARN_NOTHING && lodvarn_count_reports(s) == 0);
+        SEE(lodvarn_take_change(s, &change) == LODVARN_NOTHING && lodvarn_report_count(s) == 0);
         again = saved(&len_again);
         SEE(len_again == len && !memcmp(again, bytes, len));
         see_printed(kept[i][0], printed_on(kept[i][1]), wanted);
@@ -1699,7 +1699,7 @@ static void a_session_is_saved_and_loaded(void) {
 static void the_ring_is_resized(void) {
     for (int is_loaded = 0; is_loaded < 2; is_loaded++) {
         open_at("|", 64);
-        for (const char *c = "abcd"; *c; c++) lodvarn_keep(s, c, 1);
+        for (const char *c = "abcd"; *c; c++) lodvarn_ring_add(s, c, 1);
         if (is_loaded) {
             size_t len;
             char *bytes = saved(&len);
@@ -1709,7 +1709,7 @@ static void the_ring_is_resized(void) {
         }
         DOES(DONE, SET(ring_size, 3), "|#d#c#b");
         DOES(DONE, SET(ring_size, 4), "|#d#c#b");
-        DOES(DONE, (lodvarn_keep(s, "e", 1), lodvarn_keep(s, "f", 1)), "|#f#e#d#c");
+        DOES(DONE, (lodvarn_ring_add(s, "e", 1), lodvarn_ring_add(s, "f", 1)), "|#f#e#d#c");
         DOES(DONE_AT_END, (lodvarn_yank(s, 1), lodvarn_yank_pop(s)), "e|#e#d#c#f");
         DOES(DONE, SET(ring_size, 2), "e|#e#f");
         DOES(DONE_AT_END, lodvarn_yank_pop(s), "f|#f#e");
@@ -1719,7 +1719,7 @@ static void the_ring_is_resized(void) {
         DOES(DONE, SET(ring_size, 0), "e|");
         DOES(DONE, lodvarn_kill(s, WORD_BACK), "|");
         DOES(DONE, SET(ring_size, LODVARN_NO_BOUND), "|");
-        DOES(DONE, lodvarn_keep(s, "g", 1), "|#g");
+        DOES(DONE, lodvarn_ring_add(s, "g", 1), "|#g");
     }
 }
 

@@ -99,7 +99,7 @@ struct given {
     ROW(eol, "", lodvarn_to_line_end())                                       \
     ROW(bword, "NS", lodvarn_words_back(g->sense, g->n))                      \
     ROW(fword, "NPS", lodvarn_words_forward(g->sense, g->stop, g->n))         \
-    ROW(find, "NXC", lodvarn_search_for(g->search, g->c, g->n))               \
+    ROW(find, "NXC", lodvarn_to_char(g->search, g->c, g->n))               \
     ROW(first, "", lodvarn_from_first_word())                                 \
     ROW(bchar, "N", lodvarn_chars_back(g->n))                                 \
     ROW(fchar, "N", lodvarn_chars_forward(g->n))                              \
@@ -152,7 +152,7 @@ static void see(const char *what, int holds) {
 
 static int move(lodvarn *s, lodvarn_movement m) {
     size_t to = lodvarn_pos(s);
-    int asked = lodvarn_destination(s, to, m, &to), answer = lodvarn_move(s, m);
+    int asked = lodvarn_movement_target(s, to, m, &to), answer = lodvarn_move(s, m);
     see("move", asked == answer && lodvarn_pos(s) == to);
     return answer;
 }
@@ -161,7 +161,7 @@ static int move(lodvarn *s, lodvarn_movement m) {
 static int hand_out(lodvarn *s, lodvarn_movement m) {
     lodvarn_range range;
     lodvarn_view view;
-    int answer = lodvarn_covers(s, lodvarn_pos(s), m, &range);
+    int answer = lodvarn_movement_range(s, lodvarn_pos(s), m, &range);
     if (answer <= 0) return answer;
     see("slice", lodvarn_slice(s, range, &view) == LODVARN_DONE && view.len == range.to - range.from);
     memcpy(handed, view.at, handed_len = view.len);
@@ -191,38 +191,38 @@ static int yank_pop(lodvarn *s) {
 }
 
 static int begin(lodvarn *s) {
-    size_t level = lodvarn_level(s);
-    mark = lodvarn_entries(s);
+    size_t level = lodvarn_group_level(s);
+    mark = lodvarn_record_entries(s);
     int answer = lodvarn_begin_group(s);
-    see("begin", lodvarn_level(s) == level + (answer > 0) && lodvarn_entries(s) == mark + (answer > 0));
+    see("begin", lodvarn_group_level(s) == level + (answer > 0) && lodvarn_record_entries(s) == mark + (answer > 0));
     return answer;
 }
 
 static int end(lodvarn *s) {
     int answer = lodvarn_end_all_groups(s);
-    see("end", answer < 0 || !lodvarn_level(s));
+    see("end", answer < 0 || !lodvarn_group_level(s));
     return answer;
 }
 
 static int reopen(lodvarn *s) {
-    size_t level = lodvarn_level(s);
+    size_t level = lodvarn_group_level(s);
     int answer = lodvarn_reopen_group(s);
-    see("reopen", lodvarn_level(s) == level + (answer == LODVARN_DONE));
+    see("reopen", lodvarn_group_level(s) == level + (answer == LODVARN_DONE));
     return answer;
 }
 
 static int abandon(lodvarn *s) {
-    size_t level = lodvarn_level(s);
+    size_t level = lodvarn_group_level(s);
     int answer = lodvarn_abandon_group(s);
-    see("abandon", answer < 0 || (answer == (level > 0) && lodvarn_level(s) + (level > 0) == level));
+    see("abandon", answer < 0 || (answer == (level > 0) && lodvarn_group_level(s) + (level > 0) == level));
     see("abandon", answer <= 0 || !lodvarn_can_redo(s));
     return answer;
 }
 
 static int end_one(lodvarn *s) {
-    size_t level = lodvarn_level(s);
+    size_t level = lodvarn_group_level(s);
     int answer = lodvarn_end_group(s);
-    see("endone", answer < 0 || lodvarn_level(s) == (level ? level - 1 : 0));
+    see("endone", answer < 0 || lodvarn_group_level(s) == (level ? level - 1 : 0));
     return answer;
 }
 
@@ -241,15 +241,15 @@ static int redo(lodvarn *s) {
 
 /* It finds what a redo would find, and leaves nothing to redo. */
 static int keep_undone(lodvarn *s) {
-    size_t level = lodvarn_level(s);
+    size_t level = lodvarn_group_level(s);
     int asked = lodvarn_can_redo(s), answer = lodvarn_keep_undone(s);
-    see("keepundone", answer < 0 || (answer == asked && !lodvarn_can_redo(s) && lodvarn_level(s) == level));
+    see("keepundone", answer < 0 || (answer == asked && !lodvarn_can_redo(s) && lodvarn_group_level(s) == level));
     return answer;
 }
 
 static int where(lodvarn *s) {
     int answer = lodvarn_set_pos(s, lodvarn_pos(s));
-    see("where", lodvarn_find_cursor(s, &cursor) == LODVARN_DONE);
+    see("where", lodvarn_cursor_position(s, &cursor) == LODVARN_DONE);
     return answer;
 }
 
@@ -271,7 +271,7 @@ enum reply { OK, TRUTH, AT_END, TEXT, MARK, AT };
     ROW(rep, OK, "RT", lodvarn_replace(s, g->range, g->text, g->len))                                  \
     ROW(range, OK, "R", lodvarn_delete_range(s, g->range))                                             \
     ROW(killrange, TRUTH, "RD", lodvarn_kill_range(s, g->range, g->direction))                         \
-    ROW(keep, OK, "T", lodvarn_keep(s, g->text, g->len))                                               \
+    ROW(keep, OK, "T", lodvarn_ring_add(s, g->text, g->len))                                               \
     ROW(del, TEXT, "N", delete(s, g->n))                                                               \
     ROW(back, TRUTH, "N", lodvarn_backspace(s, g->n))                                                  \
     ROW(killline, TRUTH, "", lodvarn_delete_by(s, lodvarn_to_line_end()))                              \
@@ -280,13 +280,13 @@ enum reply { OK, TRUTH, AT_END, TEXT, MARK, AT };
     ROW(discbuf, TRUTH, "", lodvarn_delete_by(s, lodvarn_to_text_start()))                             \
     ROW(prevword, TRUTH, "NS", lodvarn_delete_by(s, lodvarn_words_back(g->sense, g->n)))               \
     ROW(nextword, TRUTH, "NPS", lodvarn_delete_by(s, lodvarn_words_forward(g->sense, g->stop, g->n)))  \
-    ROW(to, TRUTH, "NXC", lodvarn_delete_by(s, lodvarn_search_for(g->search, g->c, g->n)))             \
+    ROW(to, TRUTH, "NXC", lodvarn_delete_by(s, lodvarn_to_char(g->search, g->c, g->n)))             \
     ROW(case, TRUTH, "W", lodvarn_change_case(s, g->to))                                               \
     ROW(tchars, TRUTH, "", lodvarn_transpose_chars(s))                                                 \
     ROW(twords, TRUTH, "N", lodvarn_transpose_words(s, g->n))                                          \
     ROW(yank, AT_END, "N", lodvarn_yank(s, g->n))                                                      \
     ROW(yankpop, AT_END, "", yank_pop(s))                                                              \
-    ROW(part, OK, "", lodvarn_part(s))                                                                  \
+    ROW(part, OK, "", lodvarn_undo_boundary(s))                                                                  \
     ROW(begin, MARK, "", begin(s))                                                                     \
     ROW(end, TRUTH, "", end(s))                                                                        \
     ROW(endone, TRUTH, "", end_one(s))                                                                 \
@@ -455,7 +455,7 @@ static int place_agrees(struct typed *t, lodvarn_view text, size_t pos) {
     lodvarn_screen screen = {20, 2, 8, t->own_mode, 0, 0};
     lodvarn_position at = cell_of(&screen, text, pos);
     size_t place, k = 0;
-    if (lodvarn_place_at(&screen, at, text.at, text.len, &place) != LODVARN_DONE || place > text.len) return 0;
+    if (lodvarn_offset_at(&screen, at, text.at, text.len, &place) != LODVARN_DONE || place > text.len) return 0;
     int more = lodvarn_first_cluster(text.at + place, text.len - place, &k);
     return more == (place < text.len) && !is_after(cell_of(&screen, text, place), at)
         && (!more || is_after(cell_of(&screen, text, place + k), at));
@@ -466,7 +466,7 @@ static int cursor_agrees(struct typed *t, lodvarn_view text, size_t own, size_t 
     size_t pos = lodvarn_pos(t->s), line = 0, k = 0, width = 0;
     lodvarn_cluster found = {pos, pos, 0}, last = {pos, pos, 0};
     lodvarn_position at;
-    if (lodvarn_find_cursor(t->s, &at) != LODVARN_DONE || at.line != own) return 0;
+    if (lodvarn_cursor_position(t->s, &at) != LODVARN_DONE || at.line != own) return 0;
     if (lodvarn_width(t->own_mode, text.at + first, pos - first, &width) <= 0 || at.column != width) return 0;
     if (lodvarn_line_at(t->s, pos, &line) != LODVARN_DONE || line != own) return 0;
     int more = lodvarn_cluster_at(t->s, pos, &found);
@@ -501,8 +501,8 @@ int typed_reads_agree(struct typed *t) {
         if (i < pos) { own++; first = i + 1; }
     }
     for (end = pos; end < text.len && text.at[end] != '\n'; end++) {}
-    return lodvarn_count_lines(t->s) == lines
-        && lodvarn_find_line(t->s, own, &line) == LODVARN_DONE && line.from == first && line.to == end
-        && lodvarn_find_line(t->s, lines, &none) == LODVARN_NOTHING && none.from == 1 && none.to == 0
+    return lodvarn_line_count(t->s) == lines
+        && lodvarn_line_range(t->s, own, &line) == LODVARN_DONE && line.from == first && line.to == end
+        && lodvarn_line_range(t->s, lines, &none) == LODVARN_NOTHING && none.from == 1 && none.to == 0
         && cursor_agrees(t, text, own, first) && place_agrees(t, text, pos) && ring_agrees(t);
 }

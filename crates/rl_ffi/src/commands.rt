@@ -132,7 +132,7 @@ pub fn lodvarn_change_case(s: &mut Handle, to: u32) -> i32
 }
 
 #[tactic(auto, unfolding(crate::specs::Commands::performs_as))]
-pub fn lodvarn_part(s: &mut Handle) -> i32
+pub fn lodvarn_undo_boundary(s: &mut Handle) -> i32
     ensures { Through (performs Command.Part) s.old result s.new }
 {
     of!(s, session => done(session.part()))

@@ -72,7 +72,7 @@ pub fn lodvarn_yank_pop(s: &mut Handle) -> i32
     of!(s, session => yank_pop(session))
 }
 
-pub fn lodvarn_clear_ring(s: &mut Handle) -> i32
+pub fn lodvarn_ring_clear(s: &mut Handle) -> i32
     ensures { Through (becomes (λ (s : State). with_ring (cleared s.pair.ring) s)) s.old result s.new }
 {
     of!(s, session => {
@@ -97,7 +97,7 @@ fn keep_bytes(session: &mut Session, text: &[u8]) -> Answer
     }
 }
 
-pub fn lodvarn_keep(s: &mut Handle, text: &[u8]) -> i32
+pub fn lodvarn_ring_add(s: &mut Handle, text: &[u8]) -> i32
     ensures { Through (performs_with text.now Command.Keep) s.old result s.new }
 {
     of!(s, session => keep_bytes(session, text))

@@ -105,7 +105,7 @@ pub fn rl_get_options(s: &mut Handle, options: &mut COptions) -> i32
     })
 }
 
-pub fn lodvarn_set_saved(s: &mut Handle) -> i32
+pub fn lodvarn_mark_saved(s: &mut Handle) -> i32
     ensures { Through (becomes saved_now) s.old result s.new }
 {
     of!(s, session => {

@@ -53,7 +53,7 @@ pub fn lodvarn_pos(s: &mut Handle) -> usize
     of!(s, session => session.line().pos(), 0)
 }
 
-pub fn lodvarn_count_lines(s: &mut Handle) -> usize
+pub fn lodvarn_line_count(s: &mut Handle) -> usize
     ensures { Finds (λ (s : State). length (lines s.line.text)) 0 s.old result s.new }
 {
     of!(s, session => {
@@ -62,13 +62,13 @@ pub fn lodvarn_count_lines(s: &mut Handle) -> usize
     }, 0)
 }
 
-pub fn lodvarn_entries(s: &mut Handle) -> usize
+pub fn lodvarn_record_entries(s: &mut Handle) -> usize
     ensures { Finds (λ (s : State). length s.pair.changes.recorded) 0 s.old result s.new }
 {
     of!(s, session => session.record().len(), 0)
 }
 
-pub fn lodvarn_level(s: &mut Handle) -> usize
+pub fn lodvarn_group_level(s: &mut Handle) -> usize
     ensures { Finds (λ (s : State). level s.pair.changes.recorded) 0 s.old result s.new }
 {
     of!(s, session => session.level(), 0)
@@ -129,7 +129,7 @@ fn write_range(from: Option<Range<usize>>, range: &mut CRange) -> Answer
     }
 }
 
-pub fn lodvarn_find_line(s: &mut Handle, line: usize, range: &mut CRange) -> i32
+pub fn lodvarn_line_range(s: &mut Handle, line: usize, range: &mut CRange) -> i32
     ensures { Tells (λ s. Writes (option_map range_shape (range_of_line s.line.text line))) s.old result s.new range.old range.new }
 {
     of!(s, session => {
@@ -138,7 +138,7 @@ pub fn lodvarn_find_line(s: &mut Handle, line: usize, range: &mut CRange) -> i32
     })
 }
 
-pub fn lodvarn_find_cursor(s: &mut Handle, at: &mut CPosition) -> i32
+pub fn lodvarn_cursor_position(s: &mut Handle, at: &mut CPosition) -> i32
     ensures { Tells (λ s. Writes (Some (cursor_position s))) s.old result s.new at.old at.new }
 {
     of!(s, session => {
@@ -152,7 +152,7 @@ pub fn lodvarn_find_cursor(s: &mut Handle, at: &mut CPosition) -> i32
     })
 }
 
-pub fn lodvarn_covers(s: &mut Handle, from: usize, movement: CMovement, range: &mut CRange) -> i32
+pub fn lodvarn_movement_range(s: &mut Handle, from: usize, movement: CMovement, range: &mut CRange) -> i32
     ensures { Tells (TellsCoversFrom from movement) s.old result s.new range.old range.new }
 {
     of!(s, session, m = movement_of(movement) => match session.covers_from(from, &m) {
@@ -174,7 +174,7 @@ fn write_place(found: Option<usize>, place: &mut usize) -> Answer
     }
 }
 
-pub fn lodvarn_destination(s: &mut Handle, from: usize, movement: CMovement, to: &mut usize) -> i32
+pub fn lodvarn_movement_target(s: &mut Handle, from: usize, movement: CMovement, to: &mut usize) -> i32
     ensures { Tells (LeadsFrom from movement) s.old result s.new to.old to.new }
 {
     of!(s, session, m = movement_of(movement) => match session.destination_from(from, &m) {

@@ -46,7 +46,7 @@ pub fn lodvarn_unwatch(s: &mut Handle) -> i32
     })
 }
 
-pub fn lodvarn_count_reports(s: &mut Handle) -> usize
+pub fn lodvarn_report_count(s: &mut Handle) -> usize
     ensures { Finds (λ (s : State). waiting_count s.pair.watch) 0 s.old result s.new }
 {
     of!(s, session => session.watch().waiting_reports(), 0)

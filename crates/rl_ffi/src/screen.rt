@@ -57,7 +57,7 @@ fn find_place(screen: &CScreen, at: CPosition, text: &[u8], place: &mut usize) -
     Ok(Answer::Done)
 }
 
-pub fn lodvarn_place_at(screen: &CScreen, at: CPosition, text: &[u8], place: &mut usize) -> i32
+pub fn lodvarn_offset_at(screen: &CScreen, at: CPosition, text: &[u8], place: &mut usize) -> i32
     ensures { Answers (TellsPlace screen.now at text.now) result place.old place.new }
 {
     merged(find_place(screen, at, text, place)).number()

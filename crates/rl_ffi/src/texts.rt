@@ -148,7 +148,7 @@ fn find_moved(change: &CSplice, place: usize, side: u32, moved: &mut usize) -> O
     Ok(Answer::Done)
 }
 
-pub fn lodvarn_moved(change: &CSplice, place: usize, side: u32, moved: &mut usize) -> i32
+pub fn lodvarn_map_offset(change: &CSplice, place: usize, side: u32, moved: &mut usize) -> i32
     ensures { Answers (TellsMoved change.now place side) result moved.old moved.new }
 {
     merged(find_moved(change, place, side, moved)).number()
