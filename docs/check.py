@@ -12,7 +12,8 @@
 - Each crate (rl_..): in crates.txt, or an export that the handles of the library for C call.
 - Each word of a script (specs/Grammar.antt): one row in docs/RULES.md, and no other rows.
 - Each function, clause and definition in the column of contracts of docs/PROMISES.md: in the crates, as it is spelled.
-- The default size of the ring, where a page tells it: as LODVARN_OPTIONS has it.
+- The default size of the ring, if a page has it: as LODVARN_OPTIONS has it.
+- The words of pages, of the header's comments, and of the docs of the packages: none of a private dialect (DIALECT).
 - Each page: no line of more than WIDTH characters, apart from code, tables and pictures. README.md and all pages
   together: no more lines than MOST says.
 
@@ -83,7 +84,7 @@ def has_name(name):
 
 
 def faults_of_tests(cell):
-    """What is wrong with the tests and files that tell a wrong body."""
+    """What is wrong with the tests and files that find a wrong body."""
     names = re.findall(r"`([^`]+)`", cell)
     return [f"there is no {name}" for name in names if not has_name(name)] if names else ["nothing is named"]
 
@@ -107,7 +108,7 @@ def links_of(page):
 
 
 def link_leads(page, link):
-    """Whether a link of a page leads to a file, and to a heading of it where it names one."""
+    """Whether a link of a page leads to a file, and to a heading of it if it names one."""
     path, _, part = link.partition("#")
     target = (page.parent / path) if path else page
     if not target.exists():
@@ -162,11 +163,11 @@ def see_words(count, page):
             count.see(page, faults + ([] if rows[word] == 1 else [f"{heading}: {rows[word]} rows for {word}"]))
 
 
-# How pages tell the options that hold if nobody sets them.
-TOLD = {"ring_size": r"\ba ring of (\d+) (?:killed )?texts, and|\ba ring of (\d+)\n"}
+# How pages say the options that hold if nobody sets them.
+SAID = {"ring_size": r"\ba ring of (\d+) (?:killed )?texts, and|\ba ring of (\d+)\n"}
 
 
-def told_by(pattern, page):
+def said_by(pattern, page):
     """The numbers that the page tells so, each once."""
     return {number for found in re.finditer(pattern, page.read_text()) for number in found.groups() if number}
 
@@ -270,6 +271,61 @@ def faults_of_contracts(contracts, cell):
     return [f"there is no {it}" for group in groups for it in faults_of_group(contracts, group)]
 
 
+# Words that nobody searches for, and what to say for them. A space stands for any blanks.
+DIALECT = {
+    r"(?:went|came)(?! back)": "was removed, was inserted; removed text, new text",
+    r"tell|tells|told|telling": "returns, writes, notifies, says",
+    r"hears?|heard|hearing": "is notified of, gets",
+    r"refus(?:e[sd]?|ing|als?)": "fails, returns an error",
+    r"good until": "valid until",
+    r"memory (?:that )?is out": "out of memory",
+    r"(?<!in )places?": "byte offset, index",
+    r"what was undone": "undone changes",
+    r"parted|parts (?:what|nothing|no|it|them|the (?:next|record))": "undo boundary",
+    r"mend(?:s|ed)?": "fix",
+}
+# The pages on proving, where the prover refuses a change.
+REFUSING = ("CONTRIBUTING.md", "docs/PROVING.md", "docs/ARCHITECTURE.md")
+# What is for readers in a file, and what is before it on each line.
+DOCS = {
+    ".md": (r".+", r""),
+    ".h": (r"/\*.*?\*/", r"/\*|^ *\*"),
+    ".py": (r'"""(?:.*?)"""', r""),
+    ".rs": (r"^ *//[/!][^\n]*", r"^ *//[/!]"),
+}
+DOCUMENTED = ["include/lodvarn.h", "python/lodvarn/__init__.py", "rust/lodvarn/src/**/*.rs"]
+
+
+def blanked(pattern, text):
+    """The text with blanks for what matches, in which each line is where it was."""
+    return pattern.sub(lambda found: re.sub(r"[^\n]", " ", found[0]), text)
+
+
+def docs_of(file):
+    """What a file says to its readers, without code, in which each line is where it was."""
+    kept, before = (re.compile(it, re.M | re.S) for it in DOCS[file.suffix])
+    text, words, at = file.read_text(), "", 0
+    for found in kept.finditer(text):
+        words += re.sub(r"[^\n]", " ", text[at : found.start()]) + found[0]
+        at = found.end()
+    for pattern in ([before] if before.pattern else []) + [FENCED, SPAN]:
+        words = blanked(pattern, words)
+    return words
+
+
+def see_dialect(count, file):
+    """Looks for words of the dialect in what a file says to its readers."""
+    words, hits = docs_of(file), []
+    for pattern, better in DIALECT.items():
+        if not (pattern.startswith("refus") and str(file.relative_to(TOP)) in REFUSING):
+            pattern = rf"\b(?:{pattern})\b".replace(r"(?<!in )", r"(?<!\bin\s)").replace(" ", r"\s+")
+            hits += [(words.count("\n", 0, it.start()) + 1, it[0], better) for it in re.finditer(pattern, words, re.I)]
+    for line, word, better in sorted(hits):
+        print(f"{file.relative_to(TOP)}:{line}: '{' '.join(word.split())}': better {better}")
+    count.failed += len(hits)
+    count.passed += not hits
+
+
 class Count:
     """How many of the things that are named are there, and how many are not."""
 
@@ -295,8 +351,8 @@ def see_page(count, page, calls, crates):
     count.see_all(page, "path", paths_of(page), path_is_there)
     count.see_all(page, "call", set(CALL.findall(page.read_text())), calls.__contains__)
     count.see_all(page, "crate", set(CRATE.findall(page.read_text())), crates.__contains__)
-    for option, pattern in TOLD.items():
-        count.see_all(page, option, told_by(pattern, page), header.defaults()[option].__eq__)
+    for option, pattern in SAID.items():
+        count.see_all(page, option, said_by(pattern, page), header.defaults()[option].__eq__)
     prose = prose_of(page).splitlines()
     wide = [line for line in prose if len(line) > WIDTH and not line.startswith(("|", "    ", "!["))]
     count.see(page, [f"too wide: {line[:60]}.." for line in wide])
@@ -317,7 +373,7 @@ def main():
         print("| Crate | File | Wrong body |", "|---|---|---|", *bodies(), sep="\n")
         return 0
     count = Count()
-    see_column(count, TOP / "docs/PROVING.md", "Told by", faults_of_tests)
+    see_column(count, TOP / "docs/PROVING.md", "Found by", faults_of_tests)
     see_column(count, TOP / "docs/PROMISES.md", "Contract", partial(faults_of_contracts, Contracts()))
     see_words(count, TOP / "docs/RULES.md")
     for page, head, language in CALL_TABLES:
@@ -327,6 +383,8 @@ def main():
     crates |= set(CRATE.findall((TOP / "rust/lodvarn-c/src/handles.rs").read_text()))
     for page in PAGES:
         see_page(count, page, calls, crates)
+    for file in PAGES + sorted(it for glob in DOCUMENTED for it in TOP.glob(glob)):
+        see_dialect(count, file)
     see_lengths(count)
     print(f"{count.passed} passed, {count.failed} failed")
     return 1 if count.failed else 0
