@@ -13,6 +13,7 @@
 - Each word of a script (specs/Grammar.antt): one row in docs/RULES.md, and no other rows.
 - Each function, clause and definition in the column of contracts of docs/PROMISES.md: in the crates, as it is spelled.
 - The default size of the ring, if a page has it: as LODVARN_OPTIONS has it.
+- The errors of each call of C, by the header: those that the docs of Python and Rust name at their call for it.
 - The words of pages, of the header's comments, and of the docs of the packages: none of a private dialect (DIALECT).
 - Each page: no line of more than WIDTH characters, apart from code, tables and pictures. README.md and all pages
   together: no more lines than MOST says.
@@ -21,6 +22,7 @@ Its last line is 'N passed, M failed'.
 """
 
 import argparse
+import ast
 import re
 import sys
 from collections import Counter
@@ -39,6 +41,7 @@ FOLDERS = ("crates", "docs", "examples", "include", "packaging", "python", "rust
 FENCED = re.compile(r"^( *)(```+|~~~+).*?^\1\2", re.M | re.S)
 LINK = re.compile(r"!?\[[^\]]*\]\(<?([^)\s>]+)>?[^)]*\)")
 SPAN = re.compile(r"(`+)(.+?)\1", re.S)
+TARGET = re.compile(r"\]\([^)]*\)")
 # A call or a constant of C, and a crate.
 CALL = re.compile(r"\b(?:lodvarn_[a-z0-9_]*[a-z0-9]|LODVARN_[A-Z0-9_]*[A-Z0-9])\b(?!_)")
 # What the package for Python and the examples read of the environment.
@@ -308,7 +311,7 @@ def docs_of(file):
     for found in kept.finditer(text):
         words += re.sub(r"[^\n]", " ", text[at : found.start()]) + found[0]
         at = found.end()
-    for pattern in ([before] if before.pattern else []) + [FENCED, SPAN]:
+    for pattern in ([before] if before.pattern else []) + [FENCED, SPAN, TARGET]:
         words = blanked(pattern, words)
     return words
 
@@ -324,6 +327,63 @@ def see_dialect(count, file):
         print(f"{file.relative_to(TOP)}:{line}: '{' '.join(word.split())}': better {better}")
     count.failed += len(hits)
     count.passed += not hits
+
+
+# What Python and Rust call what C calls otherwise. The classes and variants of errors are named as the numbers of C.
+OTHER_NAMES = {
+    "Python": {"open": "__init__", "set_pos": "pos", "offset_at": "index_at", "map_offset": "map_index"},
+    "Rust": {"load": "from_bytes", "save": "to_bytes", "move": "move_by", "type": "type_bytes"},
+}
+# What can't occur there, or is said once for all calls: texts, buffers, structs and numbers that have types of their own.
+SAID_ONCE = {"TOO_SMALL", "CLOSED", "BAD_SIZE", "NOT_UTF8", "NO_SUCH_NUMBER"}
+# Errors that a call has in one language alone: of calls that share a comment, or a name; by another argument; or since
+# it makes a text or a list.
+OWN_ERRORS = {("C", "text", "BAD_OFFSET"), ("Python", "pos", "BAD_OFFSET"), ("Rust", "open", "BAD_OFFSET")}
+MAKERS = ("close", "copy", "clusters", "rows", "movement_range", "movement_target")
+OWN_ERRORS |= {("Rust", it, "NO_MEMORY") for it in MAKERS}
+# The modules of the crate with the names of rustyline.
+RUSTYLINE = ("line_buffer", "undo", "kill_ring", "keymap", "layout", "listeners")
+RUST_CALL = re.compile(r"((?:^ *///[^\n]*\n)+)(?:^ *#\[[^\n]*\n)*^ *pub fn (\w+)", re.M)
+
+
+def errors_in(words, names):
+    """The errors that words name, as C does: NoRoom is NO_ROOM."""
+    found = {re.sub(r"(?<=[a-z])(?=[A-Z0-9])", "_", it).upper() for it in re.findall(names, words)}
+    found |= {"BAD_OFFSET"} if "BAD_INDEX" in found else set()
+    return found & {it.removeprefix("LODVARN_") for it in header.enums()["lodvarn_answer"]} - SAID_ONCE
+
+
+def errors_of(language):
+    """The errors that the docs of a language name, by the calls."""
+    found = {}
+    if language == "C":
+        said = [(it.name.removeprefix("lodvarn_"), it.comment.partition("Errors")[2]) for it in header.calls()]
+        return {name: errors_in(words.partition("\n\n")[0], r"\b[A-Z0-9_]{4,}\b") for name, words in said}
+    if language == "Python":
+        tree = ast.parse((TOP / "python/lodvarn/__init__.py").read_text())
+        said = [(it.name, ast.get_docstring(it) or "") for it in ast.walk(tree) if isinstance(it, ast.FunctionDef)]
+        names = r"\b(\w+)Error\b"
+    else:
+        files = [it for it in TOP.glob("rust/lodvarn/src/*.rs") if it.stem not in RUSTYLINE]
+        said = [(name, words) for it in files for words, name in RUST_CALL.findall(it.read_text())]
+        said = [(name, words.partition("# Errors")[2].partition("///\n")[0]) for name, words in said]
+        names = r"\bError::(\w+)"
+    for name, words in said:
+        found.setdefault(name, set()).update(errors_in(words, names))
+    return found
+
+
+def see_errors(count):
+    """Checks that the docs of Python and Rust name the errors that the header names, each at the same call."""
+    for language, others in OTHER_NAMES.items():
+        found = errors_of(language)
+        for call, errors in errors_of("C").items():
+            name = others.get(call, call)
+            if name in found:
+                differ = errors ^ found[name]
+                differ -= {error for who, it, error in OWN_ERRORS if who in ("C", language) and it == call}
+                faults = [f"{call}: {language} {'lacks' if it in errors else 'has besides'} {it}" for it in sorted(differ)]
+                count.see(header.HEADER, faults)
 
 
 class Count:
@@ -383,6 +443,7 @@ def main():
     crates |= set(CRATE.findall((TOP / "rust/lodvarn-c/src/handles.rs").read_text()))
     for page in PAGES:
         see_page(count, page, calls, crates)
+    see_errors(count)
     for file in PAGES + sorted(it for glob in DOCUMENTED for it in TOP.glob(glob)):
         see_dialect(count, file)
     see_lengths(count)
