@@ -8,7 +8,8 @@
 - Each relative link: its file, and the heading of its #part.
 - Each path in backquotes that begins with a folder of the top: a file or a folder, or a pattern that matches one.
 - Each call and constant of C (lodvarn_.., LODVARN_..): in the header, or a variable of the environment.
-- Each call in the tables of calls of README.md, python and rust: in the header, or in the package or the crate.
+- Each call in the tables of calls of README.md, python and rust: in the header, or in the package or the crate; in
+  the tables of keys of docs/GUIDE.md: in the header and in the package.
 - Each crate (rl_..): in crates.txt, or an export that the handles of the library for C call.
 - Each word of a script (specs/Grammar.antt): one row in docs/RULES.md, and no other rows.
 - Each function, clause and definition in the column of contracts of docs/PROMISES.md: in the crates, as it is spelled.
@@ -190,7 +191,7 @@ CALL_TABLES += [("rust/lodvarn/README.md", "Calls of a `Session`", "Rust")]
 def named_in(language):
     """The names that a table of calls may have."""
     if language == "C":
-        return {it.name.removeprefix("lodvarn_") for it in header.calls()} | {*header.defaults()}
+        return {it.name.removeprefix("lodvarn_") for it in header.functions()} | {*header.defaults()}
     glob, pattern = LANGUAGES[language]
     return {name for file in TOP.glob(glob) for name in re.findall(pattern, file.read_text(), re.M)}
 
@@ -199,6 +200,12 @@ def faults_of_calls(language, cell):
     """What a cell names that is not there: in `session.group(reopen=True)` group, in `len(session)` len or __len__."""
     called = re.findall(r"(?:lodvarn_)?(\w+)(?:\([^`]*)?`", cell)
     return [f"{language} has no {it}" for it in called if not {it, f"__{it}__"} & named_in(language)]
+
+
+def faults_of_keys(cell):
+    """What a cell of a table of keys calls that C or Python has not: in `move chars_back(n)` chars_back."""
+    called = re.findall(r"`(?:\w+ )?(\w+)\(", cell)
+    return [f"{language} has no {it}" for it in called for language in ("C", "Python") if it not in named_in(language)]
 
 
 # Where a type, a trait or an impl begins, and where a function does.
@@ -334,7 +341,7 @@ OTHER_NAMES = {
     "Python": {"open": "__init__", "set_pos": "pos", "offset_at": "index_at", "map_offset": "map_index"},
     "Rust": {"load": "from_bytes", "save": "to_bytes", "move": "move_by", "type": "type_bytes"},
 }
-# What can't occur there, or is said once for all calls: texts, buffers, structs and numbers that have types of their own.
+# What can't occur there, or is said once for all calls: texts, buffers, structs and numbers with types of their own.
 SAID_ONCE = {"TOO_SMALL", "CLOSED", "BAD_SIZE", "NOT_UTF8", "NO_SUCH_NUMBER"}
 # Errors that a call has in one language alone: of calls that share a comment, or a name; by another argument; or since
 # it makes a text or a list.
@@ -382,8 +389,8 @@ def see_errors(count):
             if name in found:
                 differ = errors ^ found[name]
                 differ -= {error for who, it, error in OWN_ERRORS if who in ("C", language) and it == call}
-                faults = [f"{call}: {language} {'lacks' if it in errors else 'has besides'} {it}" for it in sorted(differ)]
-                count.see(header.HEADER, faults)
+                faults = [f"{'lacks' if it in errors else 'has besides'} {it}" for it in sorted(differ)]
+                count.see(header.HEADER, [f"{call}: {language} {fault}" for fault in faults])
 
 
 class Count:
@@ -438,6 +445,7 @@ def main():
     see_words(count, TOP / "docs/RULES.md")
     for page, head, language in CALL_TABLES:
         see_column(count, TOP / page, head, partial(faults_of_calls, language))
+    see_column(count, TOP / "docs/GUIDE.md", "In C and Python", faults_of_keys)
     calls = VARIABLES | header.names() | {header.HEADER.stem}
     crates = set(re.findall(r"^(\w+)", (TOP / "crates.txt").read_text(), re.M))
     crates |= set(CRATE.findall((TOP / "rust/lodvarn-c/src/handles.rs").read_text()))
