@@ -16,7 +16,7 @@
 //! assert_eq!((line.as_str(), line.pos()), ("one two", 7));
 //! ```
 //!
-//! Positions are byte offsets in the text. Calls, arguments and answers are rustyline's; what is private to its crate
+//! Positions are byte offsets in the text. Calls, arguments and results are rustyline's; what is private to its crate
 //! is public here. Differences:
 //!
 //! - The limit on the text's length is the number given to [`with_capacity`](LineBuffer::with_capacity), and not the
