@@ -66,7 +66,7 @@ pub struct Report<'s> {
     pub old_len: usize,
     /// The length of the inserted text.
     pub new_len: usize,
-    /// The byte offset of the cursor before the change.
+    /// The byte offset of the cursor before the change. This and `pos_after` are 0 if they are not known.
     pub pos_before: usize,
     /// The byte offset of the cursor after the change.
     pub pos_after: usize,
@@ -173,8 +173,8 @@ impl Session {
 
     /// Keeps a report of each change of the text from now on, in a queue with room for this many reports and for
     /// `text_bytes` bytes of their texts, deleted and inserted. If `text_bytes` is 0, reports have no texts, and at most one
-    /// waits: a later change is folded into it, so that the inserted text is always in the present text. [`next_report`]
-    /// lends them, and [`notify`] calls a listener for each.
+    /// waits: a later change is folded into it, so that the inserted text is always in the present text. [`take_report`]
+    /// takes one, and [`notify`] notifies a listener of each.
     ///
     /// All memory is reserved here, and no other call returns an error because of the queue: if there is no room for a
     /// report or its texts, all that wait and the new one become one report, of the kind `Folded`, into which each later
@@ -183,7 +183,7 @@ impl Session {
     /// [`Error::IsWatched`] if the session has a queue, which stays as it is; [`Error::NoSuchNumber`] if `reports` is 0;
     /// [`Error::NoMemory`].
     ///
-    /// [`next_report`]: Session::next_report
+    /// [`take_report`]: Session::take_report
     /// [`notify`]: Session::notify
     pub fn watch(&mut self, reports: usize, text_bytes: usize) -> Result<(), Error> {
         self.core.keep_reports(reports, text_bytes)?;
@@ -197,10 +197,10 @@ impl Session {
         self.core.stop_reports();
     }
 
-    /// The oldest report that waits. It stays the oldest until [`forget_report`](Session::forget_report).
+    /// Takes the oldest report from the queue. `None` if none waits. It does not end a run of kills.
     ///
     /// Apply all in order to your copy of the text, and it equals the session's. The inserted text of one that has no texts
-    /// is in the present text: apply it, and forget it, before the next command.
+    /// is in the present text: apply it before the next command.
     ///
     /// ```
     /// # use lodvarn::{Error, Session};
@@ -208,24 +208,16 @@ impl Session {
     /// session.watch(100, 4096)?;
     /// let mut copy = session.text().to_string();
     /// session.insert('é', 1)?;
-    /// session.replace(0..3, "caf")?;
-    /// while let Some(report) = session.next_report() {
+    /// session.replace(..3, "caf")?;
+    /// while let Some(report) = session.take_report() {
     ///     copy.replace_range(report.at..report.at + report.old_len, report.new_text);
-    ///     session.forget_report();
     /// }
     /// assert_eq!((copy.as_str(), session.report_count()), ("café", 0));
     /// # Ok::<(), Error>(())
     /// ```
-    #[must_use]
-    pub fn next_report(&self) -> Option<Report<'_>> {
-        let watch = self.core.watch();
-        Some(Report::of_core(watch.next_report()?, watch.next_texts()))
-    }
-
-    /// Forgets the oldest report. False if none waits. A command between [`next_report`](Session::next_report) and this
-    /// may have folded its change into the report. A kill after it still goes on from the kill before it.
-    pub fn forget_report(&mut self) -> bool {
-        self.core.forget_report()
+    pub fn take_report(&mut self) -> Option<Report<'_>> {
+        let report = self.core.take_report()?;
+        Some(Report::of_core(report, self.core.watch().taken_texts()))
     }
 
     /// How many reports wait; a folded one is one.
@@ -234,9 +226,9 @@ impl Session {
         self.core.watch().waiting_reports()
     }
 
-    /// Notifies a listener of all reports that wait, the oldest first, each by the method of its kind. Each is forgotten
-    /// after its call, so one in which the listener panics waits on. The byte offsets that it gets are in the text that the
-    /// changes before lead to; the session has the present text already. It does not end a run of kills.
+    /// Takes all reports that wait, the oldest first, and notifies a listener of each by the method of its kind. If the
+    /// listener panics, that report is lost, and those after it wait on. The byte offsets that it gets are in the text that
+    /// the changes before lead to; the session has the present text already. It does not end a run of kills.
     /// # Errors
     /// No method of the listener was called then. [`NotifyError::Folded`] if the changes were folded into one without texts,
     /// which is returned: the listener is notified of later ones only. [`NotifyError::NoTexts`] if the session keeps no
@@ -286,12 +278,10 @@ impl Session {
         if !self.keeps_texts {
             return Err(NotifyError::NoTexts);
         }
-        while let Some(report) = self.next_report() {
+        while let Some(report) = self.take_report() {
             report.notify(listener);
-            let folded = (report.kind == ReportKind::Folded).then(|| report.splice());
-            self.forget_report();
-            if let Some(splice) = folded {
-                return Err(NotifyError::Folded(splice));
+            if report.kind == ReportKind::Folded {
+                return Err(NotifyError::Folded(report.splice()));
             }
         }
         Ok(())
