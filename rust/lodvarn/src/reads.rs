@@ -150,8 +150,8 @@ impl Session {
     }
 
     /// Where the cursor goes `n` rows up on a screen: to the last offset of that row whose column is not after `column`, or
-    /// the cursor's if it is `None`. `None` if there are fewer rows. Each line is laid out by itself, the first after the
-    /// prompt of the screen, and the others after its continuation.
+    /// the cursor's if it is `None`. `None` if there are fewer rows, or `n` is 0. Each line is laid out by itself, the
+    /// first after the prompt of the screen, and the others after its continuation.
     ///
     /// ```
     /// # use lodvarn::{Error, RowTarget, Screen, Session};
@@ -204,8 +204,8 @@ impl Session {
         Ok(self.measured(offset, first_cluster(text)))
     }
 
-    /// The last grapheme cluster of the text before a byte offset. `None` at the start of the text. It takes no longer than
-    /// [`cluster_at`](Session::cluster_at).
+    /// The last grapheme cluster of the text before a byte offset. `None` at the start of the text. The time that it takes
+    /// depends on the cluster alone too.
     /// # Errors
     /// [`Error::BadOffset`].
     pub fn cluster_before(&self, offset: usize) -> Result<Option<Cluster>, Error> {

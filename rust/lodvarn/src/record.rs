@@ -98,7 +98,7 @@ impl Session {
     }
 
     /// Sets the save point: the text is saved as it is. The next change is undone alone, so that an undo can return to this
-    /// text. A session begins unsaved.
+    /// text. A session begins unsaved, also after a [`restart`](Session::restart).
     ///
     /// ```
     /// # use lodvarn::{Error, Session};

@@ -283,8 +283,8 @@ pub struct Options {
     pub max_ring_bytes: Option<usize>,
     /// Whether edits keep the undone changes, which they drop otherwise. If so, each edit, and each begin and end of a
     /// group, first records them again, followed by the inverse of each of these changes and groups in reverse order. Then
-    /// nothing can be redone: undos lead to the text that was undone, and from there to what was recorded before. Text,
-    /// cursor and ring stay, and the next change joins none of these. [`abandon_group`](crate::Session::abandon_group),
+    /// nothing can be redone: undos lead to the text that was undone, and from there to what was recorded before. This
+    /// leaves text, cursor and ring, and the next change joins none of these. [`abandon_group`](crate::Session::abandon_group),
     /// [`truncate`](crate::Session::truncate) and [`restart`](crate::Session::restart) drop undone changes even so. At
     /// first false.
     ///
@@ -329,7 +329,7 @@ pub struct Position {
 /// [`Session::row_below`](crate::Session::row_below).
 #[derive(Clone, Copy, Debug, PartialEq, Eq, Hash)]
 pub struct RowTarget {
-    /// The byte offset, at that column or, on a shorter row, before it.
+    /// The byte offset: the last one of the row whose column is not after `column`.
     pub offset: usize,
     /// The column to give to the next motion by rows, so that the cursor comes back to it from a shorter row.
     pub column: usize,
@@ -367,7 +367,7 @@ pub struct Screen {
 impl Screen {
     /// A screen with this many columns.
     /// # Panics
-    /// If `columns` is 0, in a constant as an error of the compiler. Some terminals have no size, so look at one first.
+    /// If `columns` is 0; in a constant that is an error of the compiler. A terminal may have 0 columns, so check its size.
     ///
     /// ```compile_fail
     /// const NONE: lodvarn::Screen = lodvarn::Screen::new(0);
@@ -424,7 +424,7 @@ impl Inserted {
 }
 
 /// Why a call failed. Text, cursor and record are as they were. But an edit of several steps that runs out of memory stops
-/// after the steps that it made, and with [`Options::keep_undone`] the undone changes may be kept.
+/// after the steps that it made, and with [`Options::keep_undone`] the undone changes may have been recorded.
 #[derive(Clone, Copy, Debug, PartialEq, Eq, Hash)]
 #[non_exhaustive]
 pub enum Error {
