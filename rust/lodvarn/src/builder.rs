@@ -6,8 +6,8 @@ use crate::words::{Error, Mode, Options};
 use crate::{Core, Session};
 use core::sync::atomic::AtomicBool;
 
-/// What a session is opened with, from [`Session::builder`]. Without calls of its methods: no text, the cursor at the end
-/// of the text, and [`Options::default`].
+/// What a session is opened with, from [`Session::builder`]. Without calls of its methods: no text, the cursor at the
+/// end of the text, and [`Options::default`].
 ///
 /// ```
 /// # use lodvarn::{Error, Session};
@@ -92,8 +92,8 @@ impl<'t> SessionBuilder<'t> {
 
     /// Opens the session. No memory is reserved for the limit.
     /// # Errors
-    /// [`Error::BadOffset`] if the cursor would be past the end of the text or inside a character; [`Error::NoRoom`] if the
-    /// text is longer than the limit; [`Error::NoMemory`].
+    /// [`Error::BadOffset`] if the cursor would be past the end of the text or inside a character; [`Error::NoRoom`] if
+    /// the text is longer than the limit; [`Error::NoMemory`].
     pub fn open(&self) -> Result<Session, Error> {
         let pos = self.pos.unwrap_or(self.text.len());
         let core = Core::open(Global, self.text, pos, &self.options.to_core())?;

@@ -5,8 +5,8 @@ use crate::words::{Direction, Error, ReportKind, Side};
 use crate::Session;
 use core::fmt;
 
-/// A change of a text: the text from `from` to `old_to` of the old text was replaced by the text from `from` to `new_to` of
-/// the new one. All three are byte offsets.
+/// A change of a text: the text from `from` to `old_to` of the old text was replaced by the text from `from` to
+/// `new_to` of the new one. All three are byte offsets.
 #[derive(Clone, Copy, Debug, PartialEq, Eq, Hash)]
 pub struct Splice {
     /// The start of the change, in both texts.
@@ -18,11 +18,11 @@ pub struct Splice {
 }
 
 impl Splice {
-    /// The byte offset in the new text of an offset in the old text, so that a mark, or the end of a selection without the
-    /// cursor, stays with its text. An offset inside the deleted text moves to the start of the inserted text, or for
-    /// [`Side::After`] to its end. If there were several changes, the splices of their reports are exact, one after another
-    /// ([`Report::splice`]): in the one that [`Session::take_change`] makes of them, an offset between the changes moves to
-    /// an end of it.
+    /// The byte offset in the new text of an offset in the old text, so that a mark, or the end of a selection without
+    /// the cursor, stays with its text. An offset inside the deleted text moves to the start of the inserted text, or
+    /// for [`Side::After`] to its end. If there were several changes, the splices of their reports are exact, one after
+    /// another ([`Report::splice`]): in the one that [`Session::take_change`] makes of them, an offset between the
+    /// changes moves to an end of it.
     ///
     /// ```
     /// # use lodvarn::{Error, Session, Side};
@@ -54,7 +54,8 @@ impl Splice {
     }
 }
 
-/// A report of a change. Its offset is in the text that the reports before it lead to. Offsets and lengths are in bytes.
+/// A report of a change. Its offset is in the text that the reports before it lead to. Offsets and lengths are in
+/// bytes.
 #[derive(Clone, Copy, Debug, PartialEq, Eq, Hash)]
 #[non_exhaustive]
 pub struct Report<'s> {
@@ -144,9 +145,9 @@ impl fmt::Display for NotifyError {
 impl std::error::Error for NotifyError {}
 
 impl Session {
-    /// All that changed in the text since the last call, or since the session was opened, as one splice of the text at that
-    /// time, whose inserted text is in the present text. `None` if nothing changed. It contains every change, also by an
-    /// undo, a redo, and an edit that returned an error after some steps. It does not end a run of kills.
+    /// All that changed in the text since the last call, or since the session was opened, as one splice of the text at
+    /// that time, whose inserted text is in the present text. `None` if nothing changed. It contains every change, also
+    /// by an undo, a redo, and an edit that returned an error after some steps. It does not end a run of kills.
     ///
     /// ```
     /// # use lodvarn::{Error, Session, Splice};
@@ -172,16 +173,16 @@ impl Session {
     }
 
     /// Keeps a report of each change of the text from now on, in a queue with room for this many reports and for
-    /// `text_bytes` bytes of their texts, deleted and inserted. If `text_bytes` is 0, reports have no texts, and at most one
-    /// waits: a later change is folded into it, so that the inserted text is always in the present text. [`take_report`]
-    /// takes one, and [`notify`] notifies a listener of each.
+    /// `text_bytes` bytes of their texts, deleted and inserted. If `text_bytes` is 0, reports have no texts, and at
+    /// most one waits: a later change is folded into it, so that the inserted text is always in the present text.
+    /// [`take_report`] takes one, and [`notify`] notifies a listener of each.
     ///
     /// All memory is reserved here, and no other call returns an error because of the queue: if there is no room for a
-    /// report or its texts, all that wait and the new one become one report, of the kind `Folded`, into which each later
-    /// change is folded too.
+    /// report or its texts, all that wait and the new one become one report, of the kind `Folded`, into which each
+    /// later change is folded too.
     /// # Errors
-    /// [`Error::IsWatched`] if the session has a queue, which stays as it is; [`Error::NoSuchNumber`] if `reports` is 0;
-    /// [`Error::NoMemory`].
+    /// [`Error::IsWatched`] if the session has a queue, which stays as it is; [`Error::NoSuchNumber`] if `reports` is
+    /// 0; [`Error::NoMemory`].
     ///
     /// [`take_report`]: Session::take_report
     /// [`notify`]: Session::notify
@@ -199,8 +200,8 @@ impl Session {
 
     /// Takes the oldest report from the queue. `None` if none waits. It does not end a run of kills.
     ///
-    /// Apply all in order to your copy of the text, and it equals the session's. The inserted text of one that has no texts
-    /// is in the present text: apply it before the next command.
+    /// Apply all in order to your copy of the text, and it equals the session's. The inserted text of one that has no
+    /// texts is in the present text: apply it before the next command.
     ///
     /// ```
     /// # use lodvarn::{Error, Session};
@@ -227,12 +228,12 @@ impl Session {
     }
 
     /// Takes all reports that wait, the oldest first, and notifies a listener of each by the method of its kind. If the
-    /// listener panics, that report is lost, and those after it wait on. The byte offsets that it gets are in the text that
-    /// the changes before lead to; the session has the present text already. It does not end a run of kills.
+    /// listener panics, that report is lost, and those after it wait on. The byte offsets that it gets are in the text
+    /// that the changes before lead to; the session has the present text already. It does not end a run of kills.
     /// # Errors
-    /// No method of the listener was called then. [`NotifyError::Folded`] if the changes were folded into one without texts,
-    /// which is returned: the listener is notified of later ones only. [`NotifyError::NoTexts`] if the session keeps no
-    /// reports, or none with texts.
+    /// No method of the listener was called then. [`NotifyError::Folded`] if the changes were folded into one without
+    /// texts, which is returned: the listener is notified of later ones only. [`NotifyError::NoTexts`] if the session
+    /// keeps no reports, or none with texts.
     ///
     /// ```
     /// use lodvarn::{ChangeListener, DeleteListener, Direction, Session, NotifyError};

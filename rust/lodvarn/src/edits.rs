@@ -6,8 +6,8 @@ use core::ops::RangeBounds;
 
 impl Session {
     /// Begins anew with a text, with the cursor at its end, as an editor does with the next line. The record is empty
-    /// then; the kill ring keeps its texts, and the options stay. [`take_change`](Session::take_change) and the reports say
-    /// that the whole old text was replaced by the new one.
+    /// then; the kill ring keeps its texts, and the options stay. [`take_change`](Session::take_change) and the reports
+    /// say that the whole old text was replaced by the new one.
     /// # Errors
     /// [`Error::NoRoom`]; [`Error::NoMemory`], which leaves the whole session as it was too.
     pub fn restart(&mut self, text: &str) -> Result<(), Error> {
@@ -53,7 +53,8 @@ impl Session {
 
     /// Inserts a text at a byte offset. The cursor keeps its byte offset.
     /// # Errors
-    /// [`Error::BadOffset`], also if the cursor would be inside a character then; [`Error::NoRoom`]; [`Error::NoMemory`].
+    /// [`Error::BadOffset`], also if the cursor would be inside a character then; [`Error::NoRoom`];
+    /// [`Error::NoMemory`].
     pub fn insert_at(&mut self, offset: usize, text: &str) -> Result<Inserted, Error> {
         let at_end = self.run(|core| core.insert_str(offset, text))?;
         Ok(Inserted::of_core(Some(at_end)))
@@ -93,8 +94,9 @@ impl Session {
 
     /// Deletes what a movement to one side of the cursor covers: to the start or the end of the line or the text, by
     /// words, or by a search for a character. At the end of a line `EndOfLine` deletes the newline, and at the start of
-    /// one `BeginningOfLine` the newline before it, CR LF as one. The ring does not keep it: of all deletions it keeps only
-    /// those by [`kill`](Session::kill) and [`kill_range`](Session::kill_range). Returns false if nothing is covered.
+    /// one `BeginningOfLine` the newline before it, CR LF as one. The ring does not keep it: of all deletions it keeps
+    /// only those by [`kill`](Session::kill) and [`kill_range`](Session::kill_range). Returns false if nothing is
+    /// covered.
     /// # Errors
     /// [`Error::NoSuchNumber`] for the other movements; [`Error::NoMemory`].
     pub fn delete_by(&mut self, movement: Movement) -> Result<bool, Error> {
@@ -104,8 +106,8 @@ impl Session {
         }
     }
 
-    /// Exchanges the clusters before and after the cursor, or at the end of the text the last two. The cursor goes after
-    /// both. Returns false if there are not two.
+    /// Exchanges the clusters before and after the cursor, or at the end of the text the last two. The cursor goes
+    /// after both. Returns false if there are not two.
     /// # Errors
     /// [`Error::NoMemory`].
     pub fn transpose_chars(&mut self) -> Result<bool, Error> {
@@ -120,8 +122,8 @@ impl Session {
         self.run_times(n, Core::transpose_words)
     }
 
-    /// Changes the letter case of the rest of the word at the cursor, or of the next word. The cursor goes after the word.
-    /// Returns false if there is none.
+    /// Changes the letter case of the rest of the word at the cursor, or of the next word. The cursor goes after the
+    /// word. Returns false if there is none.
     /// # Errors
     /// [`Error::NoRoom`], [`Error::NoMemory`].
     pub fn change_case(&mut self, to: Case) -> Result<bool, Error> {

@@ -13,17 +13,17 @@
 //! }
 //! ```
 //!
-//! A byte offset is a character boundary of the text, as an index of a `str` is. A count is of grapheme clusters, words,
-//! lines or repetitions, and 0 does nothing. Lines, rows and columns are numbered from 0. A text that a session returns is
-//! borrowed from it. Each call names its errors, and [`Error`] says what they leave. `docs/RULES.md` of the repository says
-//! exactly what each call does.
+//! A byte offset is a character boundary of the text, as an index of a `str` is. A count is of grapheme clusters,
+//! words, lines or repetitions, and 0 does nothing. Lines, rows and columns are numbered from 0. A text that a session
+//! returns is borrowed from it. Each call names its errors, and [`Error`] says what they leave. `docs/RULES.md` of the
+//! repository says exactly what each call does.
 //!
 //! A [`Session`] keeps a line, its record and its ring in step. An editor that was written for rustyline 19.0.0's own
 //! types, or that brings them together in its own way, finds them under their names in [`line_buffer`], [`undo`],
 //! [`kill_ring`], [`keymap`] and [`layout`].
 //!
-//! The core beneath is made from Rattle, a Rust with contracts, in which it is proved. The feature `std`, which is on by
-//! default, adds `run_script`, and `std::error::Error` for the errors; all else needs `alloc` alone.
+//! The core beneath is made from Rattle, a Rust with contracts, in which it is proved. The feature `std`, which is on
+//! by default, adds `run_script`, and `std::error::Error` for the errors; all else needs `alloc` alone.
 #![cfg_attr(not(feature = "std"), no_std)]
 #![deny(missing_docs, unsafe_code, unsafe_op_in_unsafe_fn)]
 #![warn(clippy::missing_errors_doc, clippy::must_use_candidate)]
@@ -47,8 +47,8 @@ mod saved;
 mod texts;
 mod words;
 
-// The core, which the build script makes from the proved sources. Its modules say of themselves which have `unsafe` blocks:
-// those of the core are proved, and those of the stand-in for Rattle's standard library have each its reason.
+// The core, which the build script makes from the proved sources. Its modules say of themselves which have `unsafe`
+// blocks: those of the core are proved, and those of the stand-in for Rattle's standard library have each its reason.
 mod proved {
     include!(concat!(env!("OUT_DIR"), "/proved/mod.rs"));
 }
@@ -119,8 +119,8 @@ impl Session {
         SessionBuilder::default()
     }
 
-    /// Does a command, which obeys the options, and then makes the table of lines if a read has looked for lines. Without
-    /// memory for the table there is none, which is no error.
+    /// Does a command, which obeys the options, and then makes the table of lines if a read has looked for lines.
+    /// Without memory for the table there is none, which is no error.
     #[inline]
     fn run<T>(
         &mut self,

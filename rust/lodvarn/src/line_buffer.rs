@@ -106,8 +106,8 @@ impl From<LineBuffer> for String {
 }
 
 impl LineBuffer {
-    /// An empty text that may grow to this many bytes. Memory is reserved for [`MAX_LINE`] of them at most, and for none
-    /// if there is none.
+    /// An empty text that may grow to this many bytes. Memory is reserved for [`MAX_LINE`] of them at most, and for
+    /// none if there is none.
     #[must_use]
     #[inline]
     pub fn with_capacity(capacity: usize) -> Self {

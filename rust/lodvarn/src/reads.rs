@@ -30,8 +30,8 @@ impl Session {
         start..end
     }
 
-    /// Asks the core about a movement, with the cursor at an offset. For another one than the cursor's it asks a session on
-    /// a copy of the text, since a read can't move the cursor there and back.
+    /// Asks the core about a movement, with the cursor at an offset. For another one than the cursor's it asks a
+    /// session on a copy of the text, since a read can't move the cursor there and back.
     fn asked_at<T>(
         &self,
         offset: usize,
@@ -89,7 +89,8 @@ impl Session {
         Options::of_core(self.core.settings())
     }
 
-    /// The number of the cursor's line, and the width of the text from the start of that line to the cursor, at most 65535.
+    /// The number of the cursor's line, and the width of the text from the start of that line to the cursor, at most
+    /// 65535.
     #[must_use]
     pub fn cursor_position(&self) -> Position {
         self.lines();
@@ -120,8 +121,8 @@ impl Session {
         Ok(self.lines().line_at(offset))
     }
 
-    /// The range that [`copy`](Session::copy) by a movement would copy with the cursor at the byte offset `from`, or `None`
-    /// if the movement covers nothing.
+    /// The range that [`copy`](Session::copy) by a movement would copy with the cursor at the byte offset `from`, or
+    /// `None` if the movement covers nothing.
     ///
     /// ```
     /// # use lodvarn::{Error, Movement, Session, Word};
@@ -141,17 +142,17 @@ impl Session {
         self.asked_at(from, movement, Core::covers)
     }
 
-    /// The byte offset to which [`move_by`](Session::move_by) would move the cursor from the byte offset `from`, or `None`
-    /// if there is nowhere to go.
+    /// The byte offset to which [`move_by`](Session::move_by) would move the cursor from the byte offset `from`, or
+    /// `None` if there is nowhere to go.
     /// # Errors
     /// [`Error::BadOffset`]; [`Error::NoMemory`] if `from` is not the cursor's offset: the text is copied then.
     pub fn movement_target(&self, from: usize, movement: Movement) -> Result<Option<usize>, Error> {
         self.asked_at(from, movement, Core::destination)
     }
 
-    /// Where the cursor goes `n` rows up on a screen: to the last offset of that row whose column is not after `column`, or
-    /// the cursor's if it is `None`. `None` if there are fewer rows, or `n` is 0. Each line is laid out by itself, the
-    /// first after the prompt of the screen, and the others after its continuation.
+    /// Where the cursor goes `n` rows up on a screen: to the last offset of that row whose column is not after
+    /// `column`, or the cursor's if it is `None`. `None` if there are fewer rows, or `n` is 0. Each line is laid out by
+    /// itself, the first after the prompt of the screen, and the others after its continuation.
     ///
     /// ```
     /// # use lodvarn::{Error, RowTarget, Screen, Session};
@@ -183,8 +184,8 @@ impl Session {
         Some(RowTarget { offset, column })
     }
 
-    /// The first grapheme cluster from a byte offset on. `None` at the end of the text. The time that it takes depends on
-    /// the cluster alone, not on the length of the text.
+    /// The first grapheme cluster from a byte offset on. `None` at the end of the text. The time that it takes depends
+    /// on the cluster alone, not on the length of the text.
     ///
     /// ```
     /// # use lodvarn::{Error, Session};
@@ -204,8 +205,8 @@ impl Session {
         Ok(self.measured(offset, first_cluster(text)))
     }
 
-    /// The last grapheme cluster of the text before a byte offset. `None` at the start of the text. The time that it takes
-    /// depends on the cluster alone too.
+    /// The last grapheme cluster of the text before a byte offset. `None` at the start of the text. The time that it
+    /// takes depends on the cluster alone too.
     /// # Errors
     /// [`Error::BadOffset`].
     pub fn cluster_before(&self, offset: usize) -> Result<Option<Cluster>, Error> {

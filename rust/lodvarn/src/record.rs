@@ -3,9 +3,10 @@ use crate::words::{Error, Options};
 use crate::{Core, Session};
 use core::ops::{Deref, DerefMut};
 
-/// An open undo group, from [`Session::group`]. It has all calls of the session, and closes the group when it is dropped.
-/// Groups that were begun in it and are still open are closed with it. If the group is not open any more, as after an
-/// [`end_all_groups`](Session::end_all_groups) or an [`abandon_group`](Session::abandon_group), nothing is closed.
+/// An open undo group, from [`Session::group`]. It has all calls of the session, and closes the group when it is
+/// dropped. Groups that were begun in it and are still open are closed with it. If the group is not open any more, as
+/// after an [`end_all_groups`](Session::end_all_groups) or an [`abandon_group`](Session::abandon_group), nothing is
+/// closed.
 #[derive(Debug)]
 #[must_use = "the group is closed when this is dropped"]
 pub struct Group<'s> {
@@ -53,8 +54,8 @@ impl Drop for Group<'_> {
 }
 
 impl Session {
-    /// Begins an undo group, which is closed when the guard is dropped: then one undo undoes all its changes. The guard has
-    /// all calls of the session, also this one, for a group in the group.
+    /// Begins an undo group, which is closed when the guard is dropped: then one undo undoes all its changes. The guard
+    /// has all calls of the session, also this one, for a group in the group.
     ///
     /// ```
     /// # use lodvarn::{Error, Session};
@@ -78,9 +79,9 @@ impl Session {
         Ok(Group { session, around })
     }
 
-    /// Sets an undo boundary: the next change joins no other, so that it is undone alone, and the next kill begins a new
-    /// text of the ring. Text, cursor, groups and undone changes stay. An edit that changes nothing leaves the boundary;
-    /// an undo, a redo, [`truncate`](Session::truncate) and the begin, end or abandon of a group remove it.
+    /// Sets an undo boundary: the next change joins no other, so that it is undone alone, and the next kill begins a
+    /// new text of the ring. Text, cursor, groups and undone changes stay. An edit that changes nothing leaves the
+    /// boundary; an undo, a redo, [`truncate`](Session::truncate) and the begin, end or abandon of a group remove it.
     ///
     /// ```
     /// # use lodvarn::{Error, Session};
@@ -97,8 +98,8 @@ impl Session {
         let _ = self.run(Core::part);
     }
 
-    /// Sets the save point: the text is saved as it is. The next change is undone alone, so that an undo can return to this
-    /// text. A session begins unsaved, also after a [`restart`](Session::restart).
+    /// Sets the save point: the text is saved as it is. The next change is undone alone, so that an undo can return to
+    /// this text. A session begins unsaved, also after a [`restart`](Session::restart).
     ///
     /// ```
     /// # use lodvarn::{Error, Session};
@@ -115,9 +116,9 @@ impl Session {
         self.core.set_saved();
     }
 
-    /// Begins an undo group: once it is closed, one undo undoes all its changes. It may stay open from one key to the next,
-    /// when the guard of [`group`](Session::group) can't be held. The undone changes stay until something changes in the
-    /// group, or are kept with [`Options::keep_undone`].
+    /// Begins an undo group: once it is closed, one undo undoes all its changes. It may stay open from one key to the
+    /// next, when the guard of [`group`](Session::group) can't be held. The undone changes stay until something changes
+    /// in the group, or are kept with [`Options::keep_undone`].
     /// # Errors
     /// [`Error::NoMemory`].
     pub fn begin_group(&mut self) -> Result<(), Error> {
@@ -131,16 +132,17 @@ impl Session {
         self.run(Core::end_one)
     }
 
-    /// Opens the group again that was closed last, also that of an edit, so that later changes are in it until it is closed
-    /// once more. The undone changes are dropped then. Returns false if something was recorded after it, or there is none,
-    /// or with [`Options::keep_undone`] if there is a change to redo.
+    /// Opens the group again that was closed last, also that of an edit, so that later changes are in it until it is
+    /// closed once more. The undone changes are dropped then. Returns false if something was recorded after it, or
+    /// there is none, or with [`Options::keep_undone`] if there is a change to redo.
     pub fn reopen_group(&mut self) -> bool {
         self.run(Core::reopen) == Ok(true)
     }
 
-    /// Undoes the innermost open group, with those that were closed in it, and drops it, as for a completion that is tried
-    /// and dropped. Text and record are as they were at its begin, and nothing can be redone unless it is empty. The cursor
-    /// goes to where it was before its first change, and the ring keeps what was killed. Returns false if no group is open.
+    /// Undoes the innermost open group, with those that were closed in it, and drops it, as for a completion that is
+    /// tried and dropped. Text and record are as they were at its begin, and nothing can be redone unless it is empty.
+    /// The cursor goes to where it was before its first change, and the ring keeps what was killed. Returns false if no
+    /// group is open.
     ///
     /// ```
     /// # use lodvarn::{Error, Session};
@@ -167,8 +169,8 @@ impl Session {
 
     /// Undoes the last n changes and groups, all if there are fewer; while a group is open, at most the changes in the
     /// innermost one, which stays open. The cursor goes to where it was before them. An edit of several changes, as
-    /// [`indent`](Session::indent), makes a group of them, also if it returned an error after some; if there is no memory
-    /// for its marks, each of them is undone alone. Returns false if there was no change.
+    /// [`indent`](Session::indent), makes a group of them, also if it returned an error after some; if there is no
+    /// memory for its marks, each of them is undone alone. Returns false if there was no change.
     /// # Errors
     /// [`Error::NoRoom`] if a text on the way back is longer than the limit; [`Error::NoMemory`].
     #[inline]
@@ -184,7 +186,8 @@ impl Session {
         self.run(Core::redo)
     }
 
-    /// Keeps the first `entries` entries of the record, and drops the others and the undone changes. Text and cursor stay.
+    /// Keeps the first `entries` entries of the record, and drops the others and the undone changes. Text and cursor
+    /// stay.
     /// # Errors
     /// [`Error::NotReplaying`] if they do not lead to the present text; [`Error::NoMemory`].
     pub fn truncate(&mut self, entries: usize) -> Result<(), Error> {
@@ -192,10 +195,10 @@ impl Session {
     }
 
     /// Sets the options. If the record has more than [`max_entries`](Options::max_entries) or
-    /// [`max_bytes`](Options::max_bytes), the oldest changes and closed groups are dropped at once, and by each later call,
-    /// so that the memory of a session is bounded however long it is used. Dropped changes can't be undone. An open group
-    /// stays, with all after its begin, and so do the undone changes. Numbers of entries that were returned before count
-    /// the dropped ones. The oldest texts of the ring beyond [`ring_size`](Options::ring_size) and
+    /// [`max_bytes`](Options::max_bytes), the oldest changes and closed groups are dropped at once, and by each later
+    /// call, so that the memory of a session is bounded however long it is used. Dropped changes can't be undone. An
+    /// open group stays, with all after its begin, and so do the undone changes. Numbers of entries that were returned
+    /// before count the dropped ones. The oldest texts of the ring beyond [`ring_size`](Options::ring_size) and
     /// [`max_ring_bytes`](Options::max_ring_bytes) are dropped likewise.
     ///
     /// ```
@@ -235,9 +238,9 @@ impl Session {
         self.core.can_redo()
     }
 
-    /// Whether the text is the one for which [`mark_saved`](Session::mark_saved) was called last: it was not changed since,
-    /// or undos, redos and abandons led back to it. It is false for good once a change from before the save point is
-    /// dropped.
+    /// Whether the text is the one for which [`mark_saved`](Session::mark_saved) was called last: it was not changed
+    /// since, or undos, redos and abandons led back to it. It is false for good once a change from before the save
+    /// point is dropped.
     #[must_use]
     pub fn is_saved(&self) -> bool {
         self.core.is_saved()

@@ -5,9 +5,9 @@ use crate::{Core, Session};
 use alloc::vec::Vec;
 
 impl Session {
-    /// The session as bytes, which [`from_bytes`](Session::from_bytes) loads again. A read: it changes nothing. Reports are
-    /// not saved, and those that wait stay. The same session gives the same bytes on every machine; `docs/FORMAT.md` of
-    /// the repository says what each is.
+    /// The session as bytes, which [`from_bytes`](Session::from_bytes) loads again. A read: it changes nothing. Reports
+    /// are not saved, and those that wait stay. The same session gives the same bytes on every machine;
+    /// `docs/FORMAT.md` of the repository says what each is.
     ///
     /// ```
     /// # use lodvarn::{Error, Session};
@@ -22,15 +22,15 @@ impl Session {
     /// # Ok::<(), Error>(())
     /// ```
     /// # Errors
-    /// [`Error::NoRoom`] if a text of the record or of the ring has 4 GiB or more, or an offset in the record is as far;
-    /// [`Error::NoMemory`].
+    /// [`Error::NoRoom`] if a text of the record or of the ring has 4 GiB or more, or an offset in the record is as
+    /// far; [`Error::NoMemory`].
     pub fn to_bytes(&self) -> Result<Vec<u8>, Error> {
         Ok(self.core.save()?.into_std())
     }
 
     /// Opens a session from the bytes that [`to_bytes`](Session::to_bytes) returned. Text and cursor, record, ring and
-    /// options are as they were, with open groups, undone changes and the save point; nothing changed yet, and no reports
-    /// are kept. Any bytes may be passed, and take no more memory than a few times their length.
+    /// options are as they were, with open groups, undone changes and the save point; nothing changed yet, and no
+    /// reports are kept. Any bytes may be passed, and take no more memory than a few times their length.
     ///
     /// ```
     /// # use lodvarn::{Error, Session};
@@ -49,8 +49,8 @@ impl Session {
 
     /// A copy of the session, as it would be saved and loaded: text and cursor, record, ring and options are the same;
     /// nothing changed yet in the copy, and it keeps no reports. It costs a [`to_bytes`](Session::to_bytes) and a
-    /// [`from_bytes`](Session::from_bytes), in time and in memory, of which the bytes are freed again. There is no `Clone`,
-    /// since that can't return an error.
+    /// [`from_bytes`](Session::from_bytes), in time and in memory, of which the bytes are freed again. There is no
+    /// `Clone`, since that can't return an error.
     ///
     /// ```
     /// # use lodvarn::{Error, Session};

@@ -4,7 +4,8 @@ use crate::proved::unicode_segmentation::UnicodeSegmentation;
 use crate::words::{Cluster, Error, Mode, Position, Screen};
 use alloc::vec::Vec;
 
-/// Runs a script in a session of its own, and returns what it prints. `docs/RULES.md` of the repository describes scripts.
+/// Runs a script in a session of its own, and returns what it prints. `docs/RULES.md` of the repository describes
+/// scripts.
 /// # Errors
 /// [`Error::NoMemory`]; what was printed before is lost.
 #[cfg(feature = "std")]
@@ -58,9 +59,9 @@ pub fn clusters(mode: Mode, text: &str) -> Result<Vec<Cluster>, Error> {
 }
 
 impl Screen {
-    /// The row and the column of a byte offset of a text. An offset inside a cluster has the cell where the cluster starts.
-    /// A tab goes to the next column of its row that is a multiple of [`tab`](Screen::tab), or to the right edge if that
-    /// is nearer.
+    /// The row and the column of a byte offset of a text. An offset inside a cluster has the cell where the cluster
+    /// starts. A tab goes to the next column of its row that is a multiple of [`tab`](Screen::tab), or to the right
+    /// edge if that is nearer.
     /// # Errors
     /// [`Error::BadOffset`].
     pub fn cell(&self, offset: usize, text: &str) -> Result<Position, Error> {
@@ -71,8 +72,8 @@ impl Screen {
         Ok(Position { line, column })
     }
 
-    /// The byte offset of a text at a cell of the screen, as of a click of the mouse: the last offset between two clusters
-    /// whose [`cell`](Screen::cell) is not after that one, by rows and then by columns. 0 if there is none.
+    /// The byte offset of a text at a cell of the screen, as of a click of the mouse: the last offset between two
+    /// clusters whose [`cell`](Screen::cell) is not after that one, by rows and then by columns. 0 if there is none.
     ///
     /// ```
     /// # use lodvarn::{Error, Position, Screen};
@@ -89,8 +90,8 @@ impl Screen {
         self.to_core().place_at(text, (cell.line, cell.column))
     }
 
-    /// The byte offsets where the rows of a text begin, from row 0 on. A row ends where the next one begins. A text that
-    /// ends at the right edge has one more row, which is empty.
+    /// The byte offsets where the rows of a text begin, from row 0 on. A row ends where the next one begins. A text
+    /// that ends at the right edge has one more row, which is empty.
     ///
     /// ```
     /// # use lodvarn::{Error, Screen};

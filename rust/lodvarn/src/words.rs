@@ -210,7 +210,8 @@ pub enum ReportKind {
 /// On which side of the cursor a text is deleted. A `kill_range` chooses it, wherever the cursor is.
 #[derive(Clone, Copy, Debug, Default, PartialEq, Eq, Hash)]
 pub enum Direction {
-    /// Text from the cursor on, or, as by `set_text`, the whole text. The ring puts it after the text of the kill before.
+    /// Text from the cursor on, or, as by `set_text`, the whole text. The ring puts it after the text of the kill
+    /// before.
     #[default]
     Forward,
     /// Up to the cursor. The ring puts it before the text of the kill before.
@@ -269,24 +270,24 @@ pub struct Options {
     /// The column where the text begins, after a prompt, which [`Movement::LineUp`] and [`Movement::LineDown`] count if
     /// they go to the first line or leave it. At first 0.
     pub prompt: u16,
-    /// How many bytes the text may have, at first `None`, for any number. A call that would make it longer, at its end or
-    /// between its steps, returns [`Error::NoRoom`] and changes nothing.
+    /// How many bytes the text may have, at first `None`, for any number. A call that would make it longer, at its end
+    /// or between its steps, returns [`Error::NoRoom`] and changes nothing.
     pub limit: Option<usize>,
     /// How many texts the kill ring keeps; it drops the oldest beyond that. At first 60.
     pub ring_size: usize,
-    /// How many entries the record may have: changes, and the marks where groups begin and end. At first `None`, for any
-    /// number, as [`max_bytes`](Options::max_bytes).
+    /// How many entries the record may have: changes, and the marks where groups begin and end. At first `None`, for
+    /// any number, as [`max_bytes`](Options::max_bytes).
     pub max_entries: Option<usize>,
     /// How many bytes of deleted and inserted texts the entries may have.
     pub max_bytes: Option<usize>,
     /// How many bytes the texts of the kill ring may have together. At first `None`.
     pub max_ring_bytes: Option<usize>,
     /// Whether edits keep the undone changes, which they drop otherwise. If so, each edit, and each begin and end of a
-    /// group, first records them again, followed by the inverse of each of these changes and groups in reverse order. Then
-    /// nothing can be redone: undos lead to the text that was undone, and from there to what was recorded before. This
-    /// leaves text, cursor and ring, and the next change joins none of these. [`abandon_group`](crate::Session::abandon_group),
-    /// [`truncate`](crate::Session::truncate) and [`restart`](crate::Session::restart) drop undone changes even so. At
-    /// first false.
+    /// group, first records them again, followed by the inverse of each of these changes and groups in reverse order.
+    /// Then nothing can be redone: undos lead to the text that was undone, and from there to what was recorded before.
+    /// This leaves text, cursor and ring, and the next change joins none of these.
+    /// [`abandon_group`](crate::Session::abandon_group), [`truncate`](crate::Session::truncate) and
+    /// [`restart`](crate::Session::restart) drop undone changes even so. At first false.
     ///
     /// ```
     /// # use lodvarn::{Error, Session};
@@ -367,7 +368,8 @@ pub struct Screen {
 impl Screen {
     /// A screen with this many columns.
     /// # Panics
-    /// If `columns` is 0; in a constant that is an error of the compiler. A terminal may have 0 columns, so check its size.
+    /// If `columns` is 0; in a constant that is an error of the compiler. A terminal may have 0 columns, so check its
+    /// size.
     ///
     /// ```compile_fail
     /// const NONE: lodvarn::Screen = lodvarn::Screen::new(0);
@@ -423,8 +425,8 @@ impl Inserted {
     }
 }
 
-/// Why a call failed. Text, cursor and record are as they were. But an edit of several steps that runs out of memory stops
-/// after the steps that it made, and with [`Options::keep_undone`] the undone changes may have been recorded.
+/// Why a call failed. Text, cursor and record are as they were. But an edit of several steps that runs out of memory
+/// stops after the steps that it made, and with [`Options::keep_undone`] the undone changes may have been recorded.
 #[derive(Clone, Copy, Debug, PartialEq, Eq, Hash)]
 #[non_exhaustive]
 pub enum Error {
