@@ -2,8 +2,7 @@
 //! so that the cursor is always seen. Each line of standard input is a key, as `type abc`, `select-left` or `kill-word`,
 //! and is answered by what the field shows then, by the column of the cursor there, by what is selected, and by a star
 //! while the text is the one that was saved. In a text `\n` stands for a newline.
-use lodvarn::{clusters, width, At, Fault, Mode, Movement, Session, Word};
-use std::error::Error;
+use lodvarn::{clusters, width, At, Error, Mode, Movement, Session, Word};
 use std::io;
 use std::ops::Range;
 
@@ -11,19 +10,19 @@ use std::ops::Range;
 const WIDTH: usize = 10;
 /// How long the text may be, as a column of a database has it.
 const MAX_BYTES: usize = 16;
-const WORD_LEFT: Movement = Movement::BackwardWord(1, Word::Emacs);
+const WORD_LEFT: Movement = Movement::backward_word(Word::Emacs);
 
 struct Field {
     session: Session,
-    /// The place of the text, in bytes, where what is shown begins.
+    /// The byte offset of the text where what is shown begins.
     first: usize,
-    /// Where what is selected begins, or ends, with the cursor at its other end.
+    /// The byte offset of one end of the selection. The cursor is at the other.
     anchor: usize,
 }
 
 impl Field {
     /// Does what a key says, if there is something to do. False if there is no such key.
-    fn press(&mut self, line: &str) -> Result<bool, Fault> {
+    fn press(&mut self, line: &str) -> Result<bool, Error> {
         let (key, text) = line.split_once(' ').unwrap_or((line, ""));
         if let Some(motion) = key.strip_prefix("select-") {
             return Ok(self.go(motion));
@@ -41,10 +40,10 @@ impl Field {
     /// Moves the cursor. False if there is no such motion.
     fn go(&mut self, motion: &str) -> bool {
         self.session.move_by(match motion {
-            "left" => Movement::BackwardChar(1),
-            "right" => Movement::ForwardChar(1),
+            "left" => Movement::backward_char(),
+            "right" => Movement::forward_char(),
             "word-left" => WORD_LEFT,
-            "word-right" => Movement::ForwardWord(1, At::AfterEnd, Word::Emacs),
+            "word-right" => Movement::forward_word(At::AfterEnd, Word::Emacs),
             "home" => Movement::BeginningOfLine,
             "end" => Movement::EndOfLine,
             _ => return false,
@@ -52,13 +51,13 @@ impl Field {
         true
     }
 
-    /// Edits the text; what is selected gives way. False if there is no such edit.
-    fn edit(&mut self, key: &str, text: &str) -> Result<bool, Fault> {
+    /// Edits the text, and replaces the selection. False if there is no such edit.
+    fn edit(&mut self, key: &str, text: &str) -> Result<bool, Error> {
         let (selected, text) = (self.selected(), self.allowed(text)?);
         let session = &mut self.session;
         match key {
             "type" | "paste" | "backspace" | "delete" if !selected.is_empty() => {
-                session.part();
+                session.undo_boundary();
                 session.replace(selected, &text)?;
             }
             "type" => {
@@ -70,14 +69,14 @@ impl Field {
             "backspace" => session.backspace(1).map(drop)?,
             "delete" => session.delete(1).map(drop)?,
             "kill-word" => session.delete_by(WORD_LEFT).map(drop)?,
-            "save" => session.set_saved(),
+            "save" => session.mark_saved(),
             _ => return Ok(false),
         }
         Ok(true)
     }
 
-    /// Undoes or redoes, and selects what came in the place of something else.
-    fn go_over(&mut self, key: &str) -> Result<bool, Fault> {
+    /// Undoes or redoes, and selects what replaced something else.
+    fn go_over(&mut self, key: &str) -> Result<bool, Error> {
         self.session.take_change();
         if key == "undo" {
             self.session.undo(1)?;
@@ -98,8 +97,8 @@ impl Field {
         self.anchor.min(pos)..self.anchor.max(pos)
     }
 
-    /// What goes in of a text: no newline nor other control character, and as many clusters as there is room for.
-    fn allowed(&self, text: &str) -> Result<String, Fault> {
+    /// What is inserted of a text: no newline nor other control character, and as many clusters as there is room for.
+    fn allowed(&self, text: &str) -> Result<String, Error> {
         let room = MAX_BYTES - (self.session.text().len() - self.selected().len());
         let mut allowed: String = text.chars().filter(|c| !c.is_control()).collect();
         for cluster in clusters(Mode::Unicode, &allowed)? {
@@ -111,13 +110,13 @@ impl Field {
         Ok(allowed)
     }
 
-    /// The columns of the text from one place to another.
+    /// The columns of the text from one byte offset to another.
     fn columns(&self, from: usize, to: usize) -> usize {
         width(Mode::Unicode, &self.session.text()[from..to])
     }
 
     /// Scrolls no further than the cursor needs, and back if the rest of the text leaves room.
-    fn scroll(&mut self) -> Result<(), Fault> {
+    fn scroll(&mut self) -> Result<(), Error> {
         let (pos, end) = (self.session.pos(), self.session.text().len());
         let at_cursor = self.session.cluster_at(pos)?;
         let needed = at_cursor.map_or(1, |it| it.columns.max(1));
@@ -134,7 +133,7 @@ impl Field {
     }
 
     /// The field, the column of the cursor, what is selected, and a star if it is saved.
-    fn show(&mut self) -> Result<String, Fault> {
+    fn show(&mut self) -> Result<String, Error> {
         self.scroll()?;
         let text = self.session.text();
         let mut last = self.first;
@@ -153,7 +152,7 @@ impl Field {
 }
 
 /// Answers each key by a line.
-fn main() -> Result<(), Box<dyn Error>> {
+fn main() -> Result<(), Box<dyn std::error::Error>> {
     let mut field = Field {
         session: Session::builder().limit(MAX_BYTES).open()?,
         first: 0,

@@ -2,19 +2,19 @@
 use crate::proved::rl_base::NewKill;
 use crate::proved::rl_session::{self, Bound, Settings};
 use crate::proved::stand_in::alloc::Global;
-use crate::words::{Fault, Mode, Options};
+use crate::words::{Error, Mode, Options};
 use crate::{Core, Session};
 use core::sync::atomic::AtomicBool;
 
-/// What a session is opened with, from [`Session::builder`]. What is not said stays as it is there: no text, the cursor
-/// at the end of the text, and [`Options::default`].
+/// What a session is opened with, from [`Session::builder`]. Without calls of its methods: no text, the cursor at the
+/// end of the text, and [`Options::default`].
 ///
 /// ```
-/// # use lodvarn::{Fault, Session};
+/// # use lodvarn::{Error, Session};
 /// let session = Session::builder().text("one two").pos(3).limit(80).open()?;
 /// assert_eq!((session.text(), session.pos()), ("one two", 3));
 /// assert_eq!(session.options().limit, Some(80));
-/// # Ok::<(), Fault>(())
+/// # Ok::<(), Error>(())
 /// ```
 #[derive(Clone, Debug, Default)]
 #[must_use = "`open` opens the session"]
@@ -26,75 +26,75 @@ pub struct SessionBuilder<'t> {
 }
 
 impl<'t> SessionBuilder<'t> {
-    /// Begins with this text.
+    /// Sets the text.
     pub fn text(self, text: &'t str) -> Self {
         SessionBuilder { text, ..self }
     }
 
-    /// Puts the cursor at this place, in bytes.
+    /// Sets the byte offset of the cursor.
     pub fn pos(self, pos: usize) -> Self {
         let pos = Some(pos);
         SessionBuilder { pos, ..self }
     }
 
-    /// Takes all options at once.
+    /// Sets all options at once.
     pub fn options(self, options: Options) -> Self {
         SessionBuilder { options, ..self }
     }
 
-    /// Lets the text grow to so many bytes, as [`Options::limit`] says.
+    /// Sets [`Options::limit`], the most bytes that the text may have.
     pub fn limit(mut self, limit: usize) -> Self {
         self.options.limit = Some(limit);
         self
     }
 
-    /// Lets the kill ring keep up to so many texts. With 0 it keeps none, and a kill only deletes.
+    /// Sets [`Options::ring_size`], the most texts that the kill ring keeps. With 0 a kill only deletes.
     pub fn ring_size(mut self, ring_size: usize) -> Self {
         self.options.ring_size = ring_size;
         self
     }
 
-    /// Counts columns so.
+    /// Sets [`Options::mode`], how columns are counted.
     pub fn mode(mut self, mode: Mode) -> Self {
         self.options.mode = mode;
         self
     }
 
-    /// Says at which column the text begins, as [`Options::prompt`] does.
+    /// Sets [`Options::prompt`], the column where the text begins.
     pub fn prompt(mut self, prompt: u16) -> Self {
         self.options.prompt = prompt;
         self
     }
 
-    /// Lets the record have so many entries, as [`Session::set_options`] does.
+    /// Sets [`Options::max_entries`], the most entries of the record: see [`Session::set_options`].
     pub fn max_entries(mut self, max_entries: usize) -> Self {
         self.options.max_entries = Some(max_entries);
         self
     }
 
-    /// Lets the record have so many bytes of text.
+    /// Sets [`Options::max_bytes`], the most bytes of text that the entries have.
     pub fn max_bytes(mut self, max_bytes: usize) -> Self {
         self.options.max_bytes = Some(max_bytes);
         self
     }
 
-    /// Lets the texts of the kill ring have so many bytes together.
+    /// Sets [`Options::max_ring_bytes`], the most bytes that the texts of the kill ring have together.
     pub fn max_ring_bytes(mut self, max_ring_bytes: usize) -> Self {
         self.options.max_ring_bytes = Some(max_ring_bytes);
         self
     }
 
-    /// Lets no edit drop what was undone, as [`Options::keeps_undone`] says.
-    pub fn keeps_undone(mut self, keeps_undone: bool) -> Self {
-        self.options.keeps_undone = keeps_undone;
+    /// Sets [`Options::keep_undone`], whether edits keep the undone changes.
+    pub fn keep_undone(mut self, keep_undone: bool) -> Self {
+        self.options.keep_undone = keep_undone;
         self
     }
 
-    /// Opens the session. No room is reserved for the limit before it is needed.
+    /// Opens the session. No memory is reserved for the limit.
     /// # Errors
-    /// [`Fault::BadPlace`] if the cursor's place is past the text or inside a character; [`Fault::NoRoom`] if the text is
-    /// longer than the limit; [`Fault::NoMemory`].
-    pub fn open(&self) -> Result<Session, Fault> {
+    /// [`Error::BadOffset`] if the cursor would be past the end of the text or inside a character; [`Error::NoRoom`] if
+    /// the text is longer than the limit; [`Error::NoMemory`].
+    pub fn open(&self) -> Result<Session, Error> {
         let pos = self.pos.unwrap_or(self.text.len());
         let core = Core::open(Global, self.text, pos, &self.options.to_core())?;
         Ok(Session::of_core(core))
@@ -102,7 +102,7 @@ impl<'t> SessionBuilder<'t> {
 }
 
 impl Session {
-    /// The session of one of the core's.
+    /// A session over one of the core's, without reports.
     pub(crate) fn of_core(core: Core) -> Session {
         Session {
             core,
@@ -132,7 +132,7 @@ impl Options {
                 mode: self.mode.to_core(),
                 prompt: self.prompt,
                 bound,
-                keeps: self.keeps_undone,
+                keeps: self.keep_undone,
             },
         }
     }
@@ -147,7 +147,7 @@ impl Options {
             max_entries: bounded(bound.entries),
             max_bytes: bounded(bound.bytes),
             max_ring_bytes: bounded(bound.ring_bytes),
-            keeps_undone: options.keeps,
+            keep_undone: options.keeps,
         }
     }
 }

@@ -1,84 +1,84 @@
 //! What changed in the text of a session: as one splice, as reports, or by calls of a listener.
 use crate::listeners::ChangeListener;
 use crate::proved::rl_base;
-use crate::words::{Direction, Fault, ReportKind, Side};
+use crate::words::{Direction, Error, ReportKind, Side};
 use crate::Session;
 use core::fmt;
 
-/// A change of a text: the text between the places `from` and `old_to` of the old text was replaced by the text between
-/// `from` and `new_to` of the new one. The places are in bytes, and boundaries of their texts.
+/// A change of a text: the text from `from` to `old_to` of the old text was replaced by the text from `from` to
+/// `new_to` of the new one. All three are byte offsets.
 #[derive(Clone, Copy, Debug, PartialEq, Eq, Hash)]
 pub struct Splice {
-    /// Where it begins, in both texts.
+    /// The start of the change, in both texts.
     pub from: usize,
-    /// Where it ends in the old text.
+    /// The end of the deleted text, in the old text.
     pub old_to: usize,
-    /// Where it ends in the new text.
+    /// The end of the inserted text, in the new text.
     pub new_to: usize,
 }
 
 impl Splice {
-    /// Where a place of the text before the change stands in the text after it. So a mark, or the end of a selection
-    /// without the cursor, stays with its text. A place inside of the removed text goes to the start of the inserted one,
-    /// or for [`Side::After`] to its end. Of several changes the reports are exact, one after another, by
-    /// [`Report::splice`]: in the one splice that [`Session::take_change`] makes of them, a place between them goes to an
-    /// end of it.
+    /// The byte offset in the new text of an offset in the old text, so that a mark, or the end of a selection without
+    /// the cursor, stays with its text. An offset inside the deleted text moves to the start of the inserted text, or
+    /// for [`Side::After`] to its end. If there were several changes, the splices of their reports are exact, one after
+    /// another ([`Report::splice`]): in the one that [`Session::take_change`] makes of them, an offset between the
+    /// changes moves to an end of it.
     ///
     /// ```
-    /// # use lodvarn::{Fault, Session, Side};
+    /// # use lodvarn::{Error, Session, Side};
     /// let mut session = Session::builder().text("one two").pos(0).open()?;
     /// let mut mark = 4;
     /// session.replace(0..3, "three")?;
     /// if let Some(change) = session.take_change() {
-    ///     mark = change.moved(mark, Side::Before)?;
+    ///     mark = change.map_offset(mark, Side::Before)?;
     /// }
     /// assert_eq!(&session.text()[mark..], "two");
-    /// # Ok::<(), Fault>(())
+    /// # Ok::<(), Error>(())
     /// ```
     /// # Errors
-    /// [`Fault::BadPlace`] if `old_to` or `new_to` is before `from`, or the place would be past the greatest `usize`.
-    pub fn moved(self, place: usize, side: Side) -> Result<usize, Fault> {
+    /// [`Error::BadOffset`] if `old_to` or `new_to` is before `from`, or the result would exceed the greatest `usize`.
+    pub fn map_offset(self, offset: usize, side: Side) -> Result<usize, Error> {
         let change = rl_base::Splice {
             from: self.from,
             old_end: self.old_to,
             new_end: self.new_to,
         };
-        let after = place.saturating_sub(self.old_to);
+        let after = offset.saturating_sub(self.old_to);
         if self.old_to < self.from
             || self.new_to < self.from
             || self.new_to.checked_add(after).is_none()
         {
-            return Err(Fault::BadPlace);
+            return Err(Error::BadOffset);
         }
-        Ok(change.moved(place, side.to_core()))
+        Ok(change.moved(offset, side.to_core()))
     }
 }
 
-/// A report of a change. Its place is one of the text that the reports before it have led to. Places and lengths are in
+/// A report of a change. Its offset is in the text that the reports before it lead to. Offsets and lengths are in
 /// bytes.
 #[derive(Clone, Copy, Debug, PartialEq, Eq, Hash)]
 #[non_exhaustive]
 pub struct Report<'s> {
     /// What it is of. `KillStarted` and `KillStopped` are of no change, and all their numbers are 0.
     pub kind: ReportKind,
-    /// The place of the change.
+    /// The byte offset of the change.
     pub at: usize,
-    /// The length of the removed text.
+    /// The length of the deleted text.
     pub old_len: usize,
     /// The length of the inserted text.
     pub new_len: usize,
-    /// The place of the cursor before the change.
+    /// The byte offset of the cursor before the change. This and `pos_after` are 0 if they are not known.
     pub pos_before: usize,
-    /// The place of the cursor after the change.
+    /// The byte offset of the cursor after the change.
     pub pos_after: usize,
-    /// The removed text. It is empty if the kind is `Folded`, or if no texts are kept, and so is `new_text`.
+    /// The deleted text. It is empty if the kind is `Folded`, or if no texts are kept, and so is `new_text`.
     pub old_text: &'s str,
     /// The inserted text.
     pub new_text: &'s str,
 }
 
 impl<'s> Report<'s> {
-    /// A report of the core, and its texts, of which the removed one stands before the inserted one.
+    /// A report of the core, and its texts: the deleted one followed by the inserted one.
     fn of_core(it: rl_base::Report, texts: &'s str) -> Self {
         let (pos_before, pos_after) = it.cursors.unwrap_or((0, 0));
         let (old_text, new_text) = texts.split_at(it.old_len.min(texts.len()));
@@ -94,7 +94,7 @@ impl<'s> Report<'s> {
         }
     }
 
-    /// The change as a splice of the text that the reports before it have led to.
+    /// The change as a splice of the text that the reports before it lead to.
     #[must_use]
     pub fn splice(&self) -> Splice {
         Splice {
@@ -105,7 +105,7 @@ impl<'s> Report<'s> {
     }
 
     /// Calls the method of its kind of a listener, and none if it is folded.
-    fn tell<L: ChangeListener + ?Sized>(&self, listener: &mut L) {
+    fn notify<L: ChangeListener + ?Sized>(&self, listener: &mut L) {
         let (at, old, new) = (self.at, self.old_text, self.new_text);
         match self.kind {
             ReportKind::CharInserted => new.chars().for_each(|it| listener.insert_char(at, it)),
@@ -120,38 +120,37 @@ impl<'s> Report<'s> {
     }
 }
 
-/// Why [`Session::tell`] called no method of a listener.
+/// Why [`Session::notify`] called no method of a listener.
 #[derive(Clone, Copy, Debug, PartialEq, Eq, Hash)]
 #[non_exhaustive]
-pub enum Untold {
-    /// The queue had no room for all changes, and has made one of them, whose texts are not kept. It is forgotten now: the
-    /// text between `from` and `old_to` was replaced by the text between `from` and `new_to` of the present text. So apply
-    /// that to the text that the listener knew, or take the whole text anew; later changes are reported again.
+pub enum NotifyError {
+    /// The queue had no room for all changes, and has made one of them, without its texts. It is taken now: apply this
+    /// splice, whose inserted text is in the present text, to the text that the listener knew, or copy the whole text.
+    /// The listener is notified of later changes again.
     Folded(Splice),
-    /// The session has no queue of reports, or one that keeps no texts. Reports that wait go on waiting.
+    /// The session has no queue of reports, or one that keeps no texts. Reports that wait stay.
     NoTexts,
 }
 
-impl fmt::Display for Untold {
+impl fmt::Display for NotifyError {
     fn fmt(&self, f: &mut fmt::Formatter<'_>) -> fmt::Result {
         f.write_str(match self {
-            Untold::Folded(_) => "the changes have become one without texts",
-            Untold::NoTexts => "no reports with texts are kept",
+            NotifyError::Folded(_) => "the reports were folded into one without texts",
+            NotifyError::NoTexts => "the session keeps no reports with texts",
         })
     }
 }
 
 #[cfg(feature = "std")]
-impl std::error::Error for Untold {}
+impl std::error::Error for NotifyError {}
 
 impl Session {
-    /// All that changed in the text since the last call, or since the session was opened, as one splice of the text as it
-    /// was then; its places are in bytes. `None` if nothing changed. The inserted text stands in the present text. It is so
-    /// whatever changed the text, also an undo, a redo, and a command that was refused halfway. A kill after it still goes
-    /// on from the kill before it.
+    /// All that changed in the text since the last call, or since the session was opened, as one splice of the text at
+    /// that time, whose inserted text is in the present text. `None` if nothing changed. It contains every change, also
+    /// by an undo, a redo, and an edit that returned an error after some steps. It does not end a run of kills.
     ///
     /// ```
-    /// # use lodvarn::{Fault, Session, Splice};
+    /// # use lodvarn::{Error, Session, Splice};
     /// let mut session = Session::builder().text("one two").pos(3).open()?;
     /// let mut copy = session.text().to_string();
     /// session.paste(", 2", 1)?;
@@ -162,7 +161,7 @@ impl Session {
     /// }
     /// assert_eq!(copy, "1, two");
     /// assert_eq!(session.take_change(), None);
-    /// # Ok::<(), Fault>(())
+    /// # Ok::<(), Error>(())
     /// ```
     pub fn take_change(&mut self) -> Option<Splice> {
         let change = self.core.changed()?;
@@ -173,80 +172,71 @@ impl Session {
         })
     }
 
-    /// Keeps a report of each change of the text from now on, and none of a motion, in a queue with room for so many
-    /// reports and for `text_bytes` bytes of their texts, removed and inserted. If `text_bytes` is 0, reports have no
-    /// texts, and at most one waits: a change that comes before it was forgotten is folded into it, so the inserted text
-    /// is always in the present text. [`next_report`] lends them, and [`tell`] calls a listener for each.
+    /// Keeps a report of each change of the text from now on, in a queue with room for this many reports and for
+    /// `text_bytes` bytes of their texts, deleted and inserted. If `text_bytes` is 0, reports have no texts, and at
+    /// most one waits: a later change is folded into it, so that the inserted text is always in the present text.
+    /// [`take_report`] takes one, and [`notify`] notifies a listener of each.
     ///
-    /// All room is reserved here, and nothing else is ever refused because of the queue: if a report or its texts find no
-    /// room, all that waits and the new one become one report, of the kind `Folded`. It takes in each later change
-    /// until it is forgotten.
+    /// All memory is reserved here, and no other call returns an error because of the queue: if there is no room for a
+    /// report or its texts, all that wait and the new one become one report, of the kind `Folded`, into which each
+    /// later change is folded too.
     /// # Errors
-    /// [`Fault::IsWatched`] if the session has a queue, which stays as it is; [`Fault::NoSuchNumber`] if `reports` is 0;
-    /// [`Fault::NoMemory`].
+    /// [`Error::IsWatched`] if the session has a queue, which stays as it is; [`Error::NoSuchNumber`] if `reports` is
+    /// 0; [`Error::NoMemory`].
     ///
-    /// [`next_report`]: Session::next_report
-    /// [`tell`]: Session::tell
-    pub fn watch(&mut self, reports: usize, text_bytes: usize) -> Result<(), Fault> {
+    /// [`take_report`]: Session::take_report
+    /// [`notify`]: Session::notify
+    pub fn watch(&mut self, reports: usize, text_bytes: usize) -> Result<(), Error> {
         self.core.keep_reports(reports, text_bytes)?;
         self.keeps_texts = text_bytes > 0;
         Ok(())
     }
 
-    /// Keeps no reports any more, and forgets those that wait.
+    /// Keeps no more reports, and drops those that wait.
     pub fn unwatch(&mut self) {
         self.keeps_texts = false;
         self.core.stop_reports();
     }
 
-    /// The oldest report that waits. It stays the oldest until [`forget_report`](Session::forget_report).
+    /// Takes the oldest report from the queue. `None` if none waits. It does not end a run of kills.
     ///
-    /// Apply all in order to your copy of the text, and it equals the session's. The inserted text of one that has no texts
-    /// is in the present text: apply it, and forget it, before the next command.
+    /// Apply all in order to your copy of the text, and it equals the session's. The inserted text of one that has no
+    /// texts is in the present text: apply it before the next command.
     ///
     /// ```
-    /// # use lodvarn::{Fault, Session};
+    /// # use lodvarn::{Error, Session};
     /// let mut session = Session::builder().text("one").open()?;
     /// session.watch(100, 4096)?;
     /// let mut copy = session.text().to_string();
     /// session.insert('é', 1)?;
-    /// session.replace(0..3, "caf")?;
-    /// while let Some(report) = session.next_report() {
+    /// session.replace(..3, "caf")?;
+    /// while let Some(report) = session.take_report() {
     ///     copy.replace_range(report.at..report.at + report.old_len, report.new_text);
-    ///     session.forget_report();
     /// }
-    /// assert_eq!((copy.as_str(), session.count_reports()), ("café", 0));
-    /// # Ok::<(), Fault>(())
+    /// assert_eq!((copy.as_str(), session.report_count()), ("café", 0));
+    /// # Ok::<(), Error>(())
     /// ```
-    #[must_use]
-    pub fn next_report(&self) -> Option<Report<'_>> {
-        let watch = self.core.watch();
-        Some(Report::of_core(watch.next_report()?, watch.next_texts()))
-    }
-
-    /// Forgets the oldest report. False if none waits. A command between [`next_report`](Session::next_report) and this
-    /// may have folded its change into the report. A kill after it still goes on from the kill before it.
-    pub fn forget_report(&mut self) -> bool {
-        self.core.forget_report()
+    pub fn take_report(&mut self) -> Option<Report<'_>> {
+        let report = self.core.take_report()?;
+        Some(Report::of_core(report, self.core.watch().taken_texts()))
     }
 
     /// How many reports wait; a folded one is one.
     #[must_use]
-    pub fn count_reports(&self) -> usize {
+    pub fn report_count(&self) -> usize {
         self.core.watch().waiting_reports()
     }
 
-    /// Calls a listener for all reports that wait, the oldest first, each by the method of its kind. Each is forgotten
-    /// after its call, so one in which the listener panics waits on.
-    /// The places that it gets are in bytes, and of the text that the changes before have led to; the session already
-    /// has the present text. A kill after it still goes on from the kill before it.
+    /// Takes all reports that wait, the oldest first, and notifies a listener of each by the method of its kind. If the
+    /// listener panics, that report is lost, and those after it wait on. The byte offsets that it gets are in the text
+    /// that the changes before lead to; the session has the present text already. It does not end a run of kills.
     /// # Errors
-    /// No method of the listener was called then. `Folded` if all that waited is one change without its texts, which is
-    /// forgotten then and returned: the listener gets later changes only. `NoTexts` if no queue was asked for, or
-    /// one without texts.
+    /// No method of the listener was called then. [`NotifyError::Folded`] if the changes were folded into one without
+    /// texts, which is returned: the listener is notified of later ones only. [`NotifyError::NoTexts`] if the session
+    /// keeps no reports, or none with texts.
     ///
     /// ```
-    /// use lodvarn::{ChangeListener, DeleteListener, Direction, Session, Untold};
+    /// use lodvarn::{ChangeListener, DeleteListener, Direction, Session, NotifyError};
     ///
     /// // A copy of the text, kept by its calls.
     /// struct Copy(String);
@@ -274,24 +264,25 @@ impl Session {
     /// let mut copy = Copy(session.text().to_string());
     /// session.backspace(3)?;
     /// session.insert('2', 1)?;
-    /// match session.tell(&mut copy) {
+    /// match session.notify(&mut copy) {
     ///     Ok(()) => {}
-    ///     Err(Untold::Folded(_)) => copy.0 = session.text().to_string(),
-    ///     Err(fault) => return Err(fault.into()),
+    ///     Err(NotifyError::Folded(_)) => copy.0 = session.text().to_string(),
+    ///     Err(error) => return Err(error.into()),
     /// }
     /// assert_eq!(copy.0, "one 2");
     /// # Ok::<(), Box<dyn std::error::Error>>(())
     /// ```
-    pub fn tell<L: ChangeListener + ?Sized>(&mut self, listener: &mut L) -> Result<(), Untold> {
+    pub fn notify<L: ChangeListener + ?Sized>(
+        &mut self,
+        listener: &mut L,
+    ) -> Result<(), NotifyError> {
         if !self.keeps_texts {
-            return Err(Untold::NoTexts);
+            return Err(NotifyError::NoTexts);
         }
-        while let Some(report) = self.next_report() {
-            report.tell(listener);
-            let folded = (report.kind == ReportKind::Folded).then(|| report.splice());
-            self.forget_report();
-            if let Some(splice) = folded {
-                return Err(Untold::Folded(splice));
+        while let Some(report) = self.take_report() {
+            report.notify(listener);
+            if report.kind == ReportKind::Folded {
+                return Err(NotifyError::Folded(report.splice()));
             }
         }
         Ok(())

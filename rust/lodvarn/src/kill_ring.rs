@@ -28,7 +28,7 @@ pub enum Mode {
     Prepend,
 }
 
-/// A ring of killed texts. It is a listener for deletions, and keeps those that are part of a kill. An insertion takes
+/// A ring of killed texts. It is a listener for deletions, and keeps those that belong to a kill. An insertion takes
 /// it only in a [`Pair`](crate::Pair), beside a listener for all changes.
 ///
 /// # Panics

@@ -16,7 +16,7 @@
 //! assert_eq!((line.as_str(), line.pos()), ("one two", 7));
 //! ```
 //!
-//! Positions are byte offsets in the text. Calls, arguments and answers are rustyline's; what is private to its crate
+//! Positions are byte offsets in the text. Calls, arguments and results are rustyline's; what is private to its crate
 //! is public here. Differences:
 //!
 //! - The limit on the text's length is the number given to [`with_capacity`](LineBuffer::with_capacity), and not the
@@ -26,10 +26,10 @@
 //! - A [`Changeset`](crate::undo::Changeset) that the line notifies, alone or in a [`Pair`], is notified of the
 //!   cursor's positions too, which an undo brings back.
 //! - Out of memory, for the line or for a record or ring that it notifies, a call panics with "out of memory". The
-//!   `try_` calls return [`Fault::NoMemory`] instead. Steps that were made before stay, and their listener was
+//!   `try_` calls return [`Error::NoMemory`] instead. Steps that were made before stay, and their listener was
 //!   notified of them.
 //! - A position is a character boundary, also that of [`set_pos`](LineBuffer::set_pos), and the cursor is never
-//!   inside a character. A call panics at another position, or returns [`Fault::BadPlace`].
+//!   inside a character. A call panics at another position, or returns [`Error::BadOffset`].
 //! - A count of 0 does nothing, also one of a movement.
 //! - Words, movements and indents follow Lodvarn's rules where rustyline's drop a cluster, panic or miss a line:
 //!   `docs/DIFFERENCES.md` of the repository names each case. A width is at most 65535.
@@ -43,7 +43,7 @@ use crate::keymap::{At, CharSearch, Movement, RepeatCount, Word};
 use crate::layout::Layout;
 use crate::proved::rl_line;
 use crate::proved::stand_in::alloc::Global;
-use crate::words::Fault;
+use crate::words::Error;
 use alloc::string::String;
 use core::fmt;
 use core::ops::Deref;
@@ -106,8 +106,8 @@ impl From<LineBuffer> for String {
 }
 
 impl LineBuffer {
-    /// An empty text that may grow to so many bytes. Memory is reserved for [`MAX_LINE`] of them at most, and for
-    /// none if it is refused.
+    /// An empty text that may grow to this many bytes. Memory is reserved for [`MAX_LINE`] of them at most, and for
+    /// none if there is none.
     #[must_use]
     #[inline]
     pub fn with_capacity(capacity: usize) -> Self {
@@ -187,15 +187,15 @@ impl LineBuffer {
     /// If the position is past the end or inside a character, as `is_char_boundary` shows.
     pub fn set_pos(&mut self, pos: usize) {
         assert!(pos <= self.len());
-        answered(self.see_place(pos));
+        answered(self.see_offset(pos));
         self.line.set_pos(pos);
     }
 
-    fn see_place(&self, pos: usize) -> Result<(), Fault> {
+    fn see_offset(&self, pos: usize) -> Result<(), Error> {
         if self.is_char_boundary(pos) {
             Ok(())
         } else {
-            Err(Fault::BadPlace)
+            Err(Error::BadOffset)
         }
     }
 

@@ -2,13 +2,13 @@
 use crate::proved::rl_base::{self, Refusal};
 use crate::words::Direction;
 
-/// Is notified of deletions and of kills: by [`Session::tell`](crate::Session::tell), and by the edits of a
+/// Is notified of deletions and of kills: by [`Session::notify`](crate::Session::notify), and by the edits of a
 /// [`LineBuffer`](crate::line_buffer::LineBuffer).
 pub trait DeleteListener {
     /// A kill begins: the deletions up to `stop_killing` belong to it. The default does nothing.
     fn start_killing(&mut self) {}
 
-    /// The text `string` is removed at the byte offset `idx`, on the side `dir` of the cursor.
+    /// The text `string` is deleted at the byte offset `idx`, on the side `dir` of the cursor.
     fn delete(&mut self, idx: usize, string: &str, dir: Direction);
 
     /// The kill has ended. The default does nothing.
@@ -28,7 +28,7 @@ pub trait DeleteListener {
     fn __cursors(&mut self, _before: usize, _after: usize) {}
 }
 
-/// Is notified of all changes: by [`Session::tell`](crate::Session::tell), and by the edits of a
+/// Is notified of all changes: by [`Session::notify`](crate::Session::notify), and by the edits of a
 /// [`LineBuffer`](crate::line_buffer::LineBuffer). These changes, in their order, turn the text that the listener knew
 /// into the present one.
 pub trait ChangeListener: DeleteListener {
@@ -118,7 +118,7 @@ impl<A: DeleteListener + ?Sized, D: DeleteListener + ?Sized> DeleteListener for 
         self.all.__try_delete(idx, string, dir)
     }
 
-    // A step that inserts tells its cursor positions too, but `deletions` has no change that they belong to then.
+    // A step that inserts has cursor positions too, but `deletions` has no change that they belong to then.
     #[inline(always)]
     fn __cursors(&mut self, before: usize, after: usize) {
         self.all.__cursors(before, after);

@@ -1,11 +1,11 @@
-//! What is read of a session. A read changes nothing, and a kill after it still goes on from the kill before it.
+//! What is read of a session. A read changes nothing, and does not end a run of kills.
 use crate::proved::rl_base;
 use crate::proved::rl_line::LineBuffer;
 use crate::proved::stand_in::alloc::Global;
 use crate::texts::{first_cluster, last_cluster};
-use crate::words::{Cluster, Fault, Movement, Options, Position, Screen};
+use crate::words::{Cluster, Error, Movement, Options, Position, RowTarget, Screen};
 use crate::{Core, Session};
-use core::ops::Range;
+use core::ops::{Bound, Range, RangeBounds};
 use core::sync::atomic::Ordering;
 
 impl Session {
@@ -15,22 +15,37 @@ impl Session {
         self.core.line()
     }
 
-    /// Asks the core about a movement, with the cursor at a place. For another place than the cursor's it asks a session on
-    /// a copy of the text, since a read can't move the cursor there and back.
+    /// A range by its two ends. An end beyond the greatest `usize` is that one, which is past the end of any text too.
+    pub(crate) fn range_of(&self, range: impl RangeBounds<usize>) -> Range<usize> {
+        let start = match range.start_bound() {
+            Bound::Included(start) => *start,
+            Bound::Excluded(before) => before.saturating_add(1),
+            Bound::Unbounded => 0,
+        };
+        let end = match range.end_bound() {
+            Bound::Included(last) => last.saturating_add(1),
+            Bound::Excluded(end) => *end,
+            Bound::Unbounded => self.text().len(),
+        };
+        start..end
+    }
+
+    /// Asks the core about a movement, with the cursor at an offset. For another one than the cursor's it asks a
+    /// session on a copy of the text, since a read can't move the cursor there and back.
     fn asked_at<T>(
         &self,
-        place: usize,
+        offset: usize,
         movement: Movement,
         ask: impl FnOnce(&Core, &rl_base::Movement) -> Option<T>,
-    ) -> Result<Option<T>, Fault> {
+    ) -> Result<Option<T>, Error> {
         let movement = match movement.to_core() {
             Some(movement) => movement,
             None => return Ok(None),
         };
-        if place == self.lines().pos() {
+        if offset == self.lines().pos() {
             return Ok(ask(&self.core, &movement));
         }
-        let other = Core::open(Global, self.text(), place, &self.core.settings())?;
+        let other = Core::open(Global, self.text(), offset, &self.core.settings())?;
         Ok(ask(&other, &movement))
     }
 
@@ -53,7 +68,7 @@ impl Session {
         self.core.line().as_str()
     }
 
-    /// The place of the cursor, in bytes.
+    /// The byte offset of the cursor.
     #[must_use]
     #[inline]
     pub fn pos(&self) -> usize {
@@ -62,20 +77,22 @@ impl Session {
 
     /// The text in a range.
     /// # Errors
-    /// [`Fault::BadPlace`], also if the range ends before it begins.
-    pub fn slice(&self, range: Range<usize>) -> Result<&str, Fault> {
-        self.text().get(range).ok_or(Fault::BadPlace)
+    /// [`Error::BadOffset`], also if the range ends before it begins.
+    pub fn slice(&self, range: impl RangeBounds<usize>) -> Result<&str, Error> {
+        let range = self.range_of(range);
+        self.text().get(range).ok_or(Error::BadOffset)
     }
 
-    /// What is chosen of the session.
+    /// The options of the session.
     #[must_use]
     pub fn options(&self) -> Options {
         Options::of_core(self.core.settings())
     }
 
-    /// Where the cursor is: its line, and the width of that line before it, at most 65535.
+    /// The number of the cursor's line, and the width of the text from the start of that line to the cursor, at most
+    /// 65535.
     #[must_use]
-    pub fn find_cursor(&self) -> Position {
+    pub fn cursor_position(&self) -> Position {
         self.lines();
         let (line, column) = self.core.line_column();
         Position {
@@ -86,107 +103,114 @@ impl Session {
 
     /// How many lines the text has.
     #[must_use]
-    pub fn count_lines(&self) -> usize {
+    pub fn line_count(&self) -> usize {
         self.lines().line_count()
     }
 
     /// The range of a line, without its newline, or `None` if there is no such line.
     #[must_use]
-    pub fn find_line(&self, line: usize) -> Option<Range<usize>> {
+    pub fn line_range(&self, line: usize) -> Option<Range<usize>> {
         self.lines().line_range(line)
     }
 
-    /// The number of the line in which a place stands, from 0; a newline belongs to the line that it ends.
+    /// The number of the line that contains a byte offset, from 0; a newline belongs to the line that it ends.
     /// # Errors
-    /// [`Fault::BadPlace`].
-    pub fn line_at(&self, place: usize) -> Result<usize, Fault> {
-        self.slice(0..place)?;
-        Ok(self.lines().line_at(place))
+    /// [`Error::BadOffset`].
+    pub fn line_at(&self, offset: usize) -> Result<usize, Error> {
+        self.slice(..offset)?;
+        Ok(self.lines().line_at(offset))
     }
 
-    /// The range that a [`copy`](Session::copy) by a movement would copy with the cursor at the place `from`, or `None`
-    /// if the movement covers nothing.
+    /// The range that [`copy`](Session::copy) by a movement would copy with the cursor at the byte offset `from`, or
+    /// `None` if the movement covers nothing.
     ///
     /// ```
-    /// # use lodvarn::{Fault, Movement, Session, Word};
+    /// # use lodvarn::{Error, Movement, Session, Word};
     /// let session = Session::builder().text("one two").open()?;
-    /// let word = Movement::BackwardWord(1, Word::Emacs);
-    /// assert_eq!(session.covers(session.pos(), word), Ok(Some(4..7)));
-    /// assert_eq!((session.destination(4, word), session.pos()), (Ok(Some(0)), 7));
-    /// # Ok::<(), Fault>(())
+    /// let word = Movement::backward_word(Word::Emacs);
+    /// assert_eq!(session.movement_range(session.pos(), word), Ok(Some(4..7)));
+    /// assert_eq!((session.movement_target(4, word), session.pos()), (Ok(Some(0)), 7));
+    /// # Ok::<(), Error>(())
     /// ```
     /// # Errors
-    /// [`Fault::BadPlace`]; [`Fault::NoMemory`] for another place than the cursor's, for which the text is copied.
-    pub fn covers(&self, from: usize, movement: Movement) -> Result<Option<Range<usize>>, Fault> {
+    /// [`Error::BadOffset`]; [`Error::NoMemory`] if `from` is not the cursor's offset: the text is copied then.
+    pub fn movement_range(
+        &self,
+        from: usize,
+        movement: Movement,
+    ) -> Result<Option<Range<usize>>, Error> {
         self.asked_at(from, movement, Core::covers)
     }
 
-    /// The place where [`move_by`](Session::move_by) would bring the cursor from the place `from`, or `None` if there is
-    /// nowhere to go.
+    /// The byte offset to which [`move_by`](Session::move_by) would move the cursor from the byte offset `from`, or
+    /// `None` if there is nowhere to go.
     /// # Errors
-    /// As [`covers`](Session::covers).
-    pub fn destination(&self, from: usize, movement: Movement) -> Result<Option<usize>, Fault> {
+    /// [`Error::BadOffset`]; [`Error::NoMemory`] if `from` is not the cursor's offset: the text is copied then.
+    pub fn movement_target(&self, from: usize, movement: Movement) -> Result<Option<usize>, Error> {
         self.asked_at(from, movement, Core::destination)
     }
 
-    /// The place `n` rows above the cursor on a screen, and the column that it is looked for at: the given one, or the
-    /// cursor's. Give that to the next motion by rows, and the cursor comes back to it over a shorter row. `None` if there
-    /// are fewer rows. Each line is laid out by itself, the first after the prompt of the screen, and the others after its
-    /// continuation.
+    /// Where the cursor goes `n` rows up on a screen: to the last offset of that row whose column is not after
+    /// `column`, or the cursor's if it is `None`. `None` if there are fewer rows, or `n` is 0. Each line is laid out by
+    /// itself, the first after the prompt of the screen, and the others after its continuation.
     ///
     /// ```
-    /// # use lodvarn::{Fault, Screen, Session};
-    /// let screen = Screen::new(4u16.try_into().expect("4 is not 0"));
+    /// # use lodvarn::{Error, RowTarget, Screen, Session};
+    /// let (screen, column) = (Screen::new(4), 3);
     /// let mut session = Session::builder().text("abcdef\n\nghi").open()?;
-    /// assert_eq!(session.row_above(&screen, 1, None), Some((7, 3)));
+    /// let above = session.row_above(&screen, 1, None);
+    /// assert_eq!(above, Some(RowTarget { offset: 7, column }));
     /// session.set_pos(7)?;
-    /// assert_eq!(session.row_above(&screen, 2, Some(3)), Some((3, 3)));
-    /// # Ok::<(), Fault>(())
+    /// let above = session.row_above(&screen, 2, Some(column));
+    /// assert_eq!(above, Some(RowTarget { offset: 3, column }));
+    /// # Ok::<(), Error>(())
     /// ```
     #[must_use]
-    pub fn row_above(&self, on: &Screen, n: u16, column: Option<usize>) -> Option<(usize, usize)> {
+    pub fn row_above(&self, on: &Screen, n: u16, column: Option<usize>) -> Option<RowTarget> {
         if n == 0 {
             return None;
         }
-        self.lines().row_above(&on.to_core(), n, column)
+        let (offset, column) = self.lines().row_above(&on.to_core(), n, column)?;
+        Some(RowTarget { offset, column })
     }
 
-    /// The place `n` rows below the cursor on a screen, and the column, as [`row_above`](Session::row_above) tells them.
+    /// Where the cursor goes `n` rows down on a screen, as [`row_above`](Session::row_above) does for rows up.
     #[must_use]
-    pub fn row_below(&self, on: &Screen, n: u16, column: Option<usize>) -> Option<(usize, usize)> {
+    pub fn row_below(&self, on: &Screen, n: u16, column: Option<usize>) -> Option<RowTarget> {
         if n == 0 {
             return None;
         }
-        self.lines().row_below(&on.to_core(), n, column)
+        let (offset, column) = self.lines().row_below(&on.to_core(), n, column)?;
+        Some(RowTarget { offset, column })
     }
 
-    /// The first grapheme cluster from a place on. `None` at the end of the text. It takes as long as the cluster does,
-    /// however long the text is.
+    /// The first grapheme cluster from a byte offset on. `None` at the end of the text. The time that it takes depends
+    /// on the cluster alone, not on the length of the text.
     ///
     /// ```
-    /// # use lodvarn::{Fault, Session};
+    /// # use lodvarn::{Error, Session};
     /// let session = Session::builder().text("e\u{301}漢").open()?;
-    /// let (mut place, mut columns) = (0, vec![]);
-    /// while let Some(cluster) = session.cluster_at(place)? {
+    /// let (mut offset, mut columns) = (0, vec![]);
+    /// while let Some(cluster) = session.cluster_at(offset)? {
     ///     columns.push((cluster.from..cluster.to, cluster.columns));
-    ///     place = cluster.to;
+    ///     offset = cluster.to;
     /// }
     /// assert_eq!(columns, [(0..3, 1), (3..6, 2)]);
-    /// # Ok::<(), Fault>(())
+    /// # Ok::<(), Error>(())
     /// ```
     /// # Errors
-    /// [`Fault::BadPlace`].
-    pub fn cluster_at(&self, place: usize) -> Result<Option<Cluster>, Fault> {
-        let text = self.slice(place..self.text().len())?;
-        Ok(self.measured(place, first_cluster(text)))
+    /// [`Error::BadOffset`].
+    pub fn cluster_at(&self, offset: usize) -> Result<Option<Cluster>, Error> {
+        let text = self.slice(offset..)?;
+        Ok(self.measured(offset, first_cluster(text)))
     }
 
-    /// The last grapheme cluster of the text before a place. `None` at its start. It takes as long as the cluster does,
-    /// as [`cluster_at`](Session::cluster_at) does.
+    /// The last grapheme cluster of the text before a byte offset. `None` at the start of the text. The time that it
+    /// takes depends on the cluster alone too.
     /// # Errors
-    /// [`Fault::BadPlace`].
-    pub fn cluster_before(&self, place: usize) -> Result<Option<Cluster>, Fault> {
-        let cluster = last_cluster(self.slice(0..place)?);
-        Ok(self.measured(place - cluster.len(), cluster))
+    /// [`Error::BadOffset`].
+    pub fn cluster_before(&self, offset: usize) -> Result<Option<Cluster>, Error> {
+        let cluster = last_cluster(self.slice(..offset)?);
+        Ok(self.measured(offset - cluster.len(), cluster))
     }
 }

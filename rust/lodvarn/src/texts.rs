@@ -1,19 +1,20 @@
 //! The calls without a session.
 use crate::empty_for;
 use crate::proved::unicode_segmentation::UnicodeSegmentation;
-use crate::words::{Cluster, Fault, Mode, Position, Screen};
+use crate::words::{Cluster, Error, Mode, Position, Screen};
 use alloc::vec::Vec;
 
-/// What a script prints, run in a session of its own.
+/// Runs a script in a session of its own, and returns what it prints. `docs/RULES.md` of the repository describes
+/// scripts.
 /// # Errors
-/// [`Fault::NoMemory`]; what was printed before is lost.
+/// [`Error::NoMemory`]; what was printed before is lost.
 #[cfg(feature = "std")]
-pub fn run_script(script: &[u8]) -> Result<Vec<u8>, Fault> {
+pub fn run_script(script: &[u8]) -> Result<Vec<u8>, Error> {
     use crate::proved::{rl_session, stand_in};
     let (alloc, mut reader) = (stand_in::alloc::Global, script);
     let mut printed = stand_in::vec::Vec::new(alloc);
-    // No read of a slice fails, and a write to a vector only if it is out of memory.
-    rl_session::run_script(alloc, &mut reader, &mut printed).map_err(|_| Fault::NoMemory)?;
+    // No read of a slice fails, and a write to a vector only if memory runs out.
+    rl_session::run_script(alloc, &mut reader, &mut printed).map_err(|_| Error::NoMemory)?;
     Ok(printed.into_std())
 }
 
@@ -42,11 +43,11 @@ pub fn last_cluster(text: &str) -> &str {
 /// let clusters = lodvarn::clusters(Mode::Unicode, "e\u{301}漢x")?;
 /// let columns: Vec<_> = clusters.iter().map(|it| (it.from, it.columns)).collect();
 /// assert_eq!(columns, [(0, 1), (3, 2), (6, 1)]);
-/// # Ok::<(), lodvarn::Fault>(())
+/// # Ok::<(), lodvarn::Error>(())
 /// ```
 /// # Errors
-/// [`Fault::NoMemory`].
-pub fn clusters(mode: Mode, text: &str) -> Result<Vec<Cluster>, Fault> {
+/// [`Error::NoMemory`].
+pub fn clusters(mode: Mode, text: &str) -> Result<Vec<Cluster>, Error> {
     let mut clusters = empty_for(text.graphemes(true).count())?;
     let mut from = 0;
     for cluster in text.graphemes(true) {
@@ -58,48 +59,49 @@ pub fn clusters(mode: Mode, text: &str) -> Result<Vec<Cluster>, Fault> {
 }
 
 impl Screen {
-    /// The row and the column of a place of a text. A place inside a cluster is where the cluster starts. A tab leads to
-    /// the next column of its row that is a multiple of [`tab`](Screen::tab), or to the right edge if that is nearer.
+    /// The row and the column of a byte offset of a text. An offset inside a cluster has the cell where the cluster
+    /// starts. A tab goes to the next column of its row that is a multiple of [`tab`](Screen::tab), or to the right
+    /// edge if that is nearer.
     /// # Errors
-    /// [`Fault::BadPlace`].
-    pub fn cell(&self, place: usize, text: &str) -> Result<Position, Fault> {
-        if !text.is_char_boundary(place) {
-            return Err(Fault::BadPlace);
+    /// [`Error::BadOffset`].
+    pub fn cell(&self, offset: usize, text: &str) -> Result<Position, Error> {
+        if !text.is_char_boundary(offset) {
+            return Err(Error::BadOffset);
         }
-        let (line, column) = self.to_core().cell(text, place);
+        let (line, column) = self.to_core().cell(text, offset);
         Ok(Position { line, column })
     }
 
-    /// The place of a text that is shown at a row and a column, as of a click of the mouse: the last place between two
+    /// The byte offset of a text at a cell of the screen, as of a click of the mouse: the last offset between two
     /// clusters whose [`cell`](Screen::cell) is not after that one, by rows and then by columns. 0 if there is none.
     ///
     /// ```
-    /// # use lodvarn::{Fault, Position, Screen};
-    /// let mut screen = Screen::new(80u16.try_into().expect("80 is not 0"));
+    /// # use lodvarn::{Error, Position, Screen};
+    /// let mut screen = Screen::new(80);
     /// screen.prompt = 2;
     /// let cell = Position { line: 1, column: 2 };
     /// assert_eq!(screen.cell(6, "one\ntwo")?, cell);
-    /// assert_eq!(screen.place_at(cell, "one\ntwo"), 6);
-    /// assert_eq!(screen.place_at(Position { line: 0, column: 70 }, "one\ntwo"), 3);
-    /// # Ok::<(), Fault>(())
+    /// assert_eq!(screen.offset_at(cell, "one\ntwo"), 6);
+    /// assert_eq!(screen.offset_at(Position { line: 0, column: 70 }, "one\ntwo"), 3);
+    /// # Ok::<(), Error>(())
     /// ```
     #[must_use]
-    pub fn place_at(&self, cell: Position, text: &str) -> usize {
+    pub fn offset_at(&self, cell: Position, text: &str) -> usize {
         self.to_core().place_at(text, (cell.line, cell.column))
     }
 
-    /// The places of a text where its rows begin, from row 0 on. A row goes on to the place where the next one begins; a
-    /// text that ends at the right edge has one more, which is empty.
+    /// The byte offsets where the rows of a text begin, from row 0 on. A row ends where the next one begins. A text
+    /// that ends at the right edge has one more row, which is empty.
     ///
     /// ```
-    /// # use lodvarn::{Fault, Screen};
-    /// let screen = Screen::new(3u16.try_into().expect("3 is not 0"));
+    /// # use lodvarn::{Error, Screen};
+    /// let screen = Screen::new(3);
     /// assert_eq!(screen.rows("abcd\ne")?, [0, 3, 5]);
-    /// # Ok::<(), Fault>(())
+    /// # Ok::<(), Error>(())
     /// ```
     /// # Errors
-    /// [`Fault::NoMemory`].
-    pub fn rows(&self, text: &str) -> Result<Vec<usize>, Fault> {
+    /// [`Error::NoMemory`].
+    pub fn rows(&self, text: &str) -> Result<Vec<usize>, Error> {
         let screen = self.to_core();
         let count = screen.rows(text, &mut []);
         let mut starts = empty_for(count)?;

@@ -17,25 +17,25 @@
 //!
 //! Differences from rustyline:
 //!
-//! - Changes that do not fit the line are refused: [`undo`](Changeset::undo) and [`redo`](Changeset::redo) panic, and
-//!   [`try_undo`](Changeset::try_undo) and [`try_redo`](Changeset::try_redo) return [`Fault::NotReplaying`]. Record
-//!   and line stay as they were. A change fits if the text that it takes out again stands in its place, and if the
+//! - For changes that do not fit the line, [`undo`](Changeset::undo) and [`redo`](Changeset::redo) panic, and
+//!   [`try_undo`](Changeset::try_undo) and [`try_redo`](Changeset::try_redo) return [`Error::NotReplaying`]. Record
+//!   and line stay as they were. A change fits if the text that it would delete again is at its byte offset, and if the
 //!   cursor position that was recorded with it is then in the text and not inside a character. A record that was
-//!   notified of all edits of its line, and not shortened by [`truncate`](Changeset::truncate), always fits. A record
-//!   of another line with the same text in that place is not refused.
+//!   notified of all edits of its line, and not shortened by [`truncate`](Changeset::truncate), always fits. So does a
+//!   record of another line that has the same text there.
 //! - An undo brings back the cursor from before the change, and a redo the cursor from after it, if the line notified
 //!   the record itself, alone or in a [`Pair`](crate::Pair), or if [`cursors`](Changeset::cursors) was called.
 //! - An undo of 0 does nothing.
-//! - `redo` and [`end_one`](Changeset::end_one) are public. A record also tells how long it is, whether there is
+//! - `redo` and [`end_one`](Changeset::end_one) are public, and so are reads: how long the record is, whether there is
 //!   something to undo, and whether an undo or a redo fits a line.
 //! - [`truncate`](Changeset::truncate) drops the undone changes.
-//! - Out of memory, a call panics with "out of memory". `try_undo` and `try_redo` return [`Fault::NoMemory`].
+//! - Out of memory, a call panics with "out of memory". `try_undo` and `try_redo` return [`Error::NoMemory`].
 use crate::keymap::RepeatCount;
 use crate::line_buffer::{answered, ChangeListener, DeleteListener, Direction, LineBuffer};
 use crate::proved::rl_base::{DeleteListener as _, Refusal};
 use crate::proved::rl_line;
 use crate::proved::stand_in::alloc::Global;
-use crate::words::Fault;
+use crate::words::Error;
 use alloc::string::String;
 use core::fmt;
 
@@ -125,8 +125,8 @@ impl Changeset {
     ///
     /// # Panics
     ///
-    /// If the changes do not fit the line: if a text that is to be removed does not stand there, or a recorded cursor
-    /// position would be outside the text or inside a character. [The module](self) says when that can be.
+    /// If the changes do not fit the line: if a text that is to be deleted is not there, or a recorded cursor position
+    /// would be outside the text or inside a character. [The module](self) says when that can be.
     #[inline]
     pub fn undo(&mut self, line: &mut LineBuffer, n: RepeatCount) -> bool {
         answered(self.try_undo(line, n))
@@ -136,14 +136,14 @@ impl Changeset {
     ///
     /// # Errors
     ///
-    /// [`Fault::NotReplaying`] where `undo` panics; [`Fault::NoMemory`]. Nothing is undone.
+    /// [`Error::NotReplaying`] if the changes do not fit the line; [`Error::NoMemory`]. Nothing is undone.
     #[inline]
-    pub fn try_undo(&mut self, line: &mut LineBuffer, n: RepeatCount) -> Result<bool, Fault> {
+    pub fn try_undo(&mut self, line: &mut LineBuffer, n: RepeatCount) -> Result<bool, Error> {
         if n == 0 {
             return Ok(false);
         }
         let undone = self.changes.try_undo(&mut line.line, n)?;
-        undone.ok_or(Fault::NotReplaying)
+        undone.ok_or(Error::NotReplaying)
     }
 
     /// Redoes in a line the change or group that was undone last. False if there is none. No listener is notified.
@@ -160,11 +160,11 @@ impl Changeset {
     ///
     /// # Errors
     ///
-    /// [`Fault::NotReplaying`] where `redo` panics; [`Fault::NoMemory`]. Nothing is redone.
+    /// [`Error::NotReplaying`] if the changes do not fit the line; [`Error::NoMemory`]. Nothing is redone.
     #[inline(always)]
-    pub fn try_redo(&mut self, line: &mut LineBuffer) -> Result<bool, Fault> {
+    pub fn try_redo(&mut self, line: &mut LineBuffer) -> Result<bool, Error> {
         let redone = self.changes.try_redo(&mut line.line)?;
-        redone.ok_or(Fault::NotReplaying)
+        redone.ok_or(Error::NotReplaying)
     }
 
     /// Keeps the first `len` entries, and drops the others and the undone changes.
@@ -182,8 +182,8 @@ impl Changeset {
     ///
     /// # Errors
     ///
-    /// [`Fault::NoMemory`].
-    pub fn try_last_insert(&self) -> Result<Option<String>, Fault> {
+    /// [`Error::NoMemory`].
+    pub fn try_last_insert(&self) -> Result<Option<String>, Error> {
         Ok(self.changes.last_insert()?.map(|text| text.into_std()))
     }
 
@@ -211,14 +211,14 @@ impl Changeset {
         self.len() > self.level()
     }
 
-    /// Whether all changes fit the line, so that no undo is refused: the texts, and the recorded cursor positions.
+    /// Whether all changes fit the line, so that each undo succeeds: the texts, and the recorded cursor positions.
     /// True if there is no change.
     #[must_use]
     pub fn undo_fits(&self, line: &LineBuffer) -> bool {
         answered(self.changes.can_undo(&line.line))
     }
 
-    /// Whether all undone changes fit the line, so that no redo is refused: the texts, and the recorded cursor
+    /// Whether all undone changes fit the line, so that each redo succeeds: the texts, and the recorded cursor
     /// positions. True if there is no undone change.
     #[must_use]
     pub fn redo_fits(&self, line: &LineBuffer) -> bool {

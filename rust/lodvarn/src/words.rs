@@ -60,7 +60,7 @@ pub enum CharSearch {
     ForwardBefore(char),
     /// Back, to the character; a deletion takes it too.
     Backward(char),
-    /// Back, to the place after the character; a deletion leaves it.
+    /// Back, to the offset after the character; a deletion leaves it.
     BackwardAfter(char),
 }
 
@@ -76,7 +76,8 @@ impl CharSearch {
     }
 }
 
-/// Where a motion goes, and what a kill, a copy or an indent covers.
+/// Where a motion goes, and what a kill, a copy or an indent covers. Those with a count have a function besides, which
+/// makes one with a count of 1: [`Movement::backward_word`] and others.
 #[derive(Clone, Copy, Debug, PartialEq, Eq, Hash)]
 #[non_exhaustive]
 pub enum Movement {
@@ -99,9 +100,10 @@ pub enum Movement {
     BackwardChar(u16),
     /// n grapheme clusters forward.
     ForwardChar(u16),
-    /// n lines up. A kill and a copy take the cursor's line too.
+    /// n lines up. It covers the cursor's line and those n lines, with their newlines.
     LineUp(u16),
-    /// n lines down. A kill and a copy take the cursor's line too.
+    /// n lines down. It covers the newline above, the cursor's line and those n lines, so that a kill joins the lines
+    /// around them. [`WholeLinesDown`](Movement::WholeLinesDown) with n + 1 leaves the newline above.
     LineDown(u16),
     /// The whole text. No motion.
     WholeBuffer,
@@ -110,12 +112,37 @@ pub enum Movement {
     /// To the end of the text.
     EndOfBuffer,
     /// To the first character of the cursor's line that is no blank, or to the end of the line if there is none: on
-    /// either side of the cursor. A kill takes the text between.
+    /// either side of the cursor. It covers the text between.
     FirstNonBlank,
     /// n whole lines with their newlines, at least one: the cursor's line and those above it. No motion.
     WholeLinesUp(u16),
     /// n whole lines with their newlines, at least one: the cursor's line and those below it. No motion.
     WholeLinesDown(u16),
+}
+
+// The movements that have a count.
+macro_rules! with_a_count_of_1 {
+    ($($name:ident($($given:ident: $of:ty),*) of $variant:ident;)*) => {
+        impl Movement {$(
+            #[doc = concat!("[`", stringify!($variant), "`](Movement::", stringify!($variant), ") with a count of 1.")]
+            #[must_use]
+            pub const fn $name($($given: $of),*) -> Movement {
+                Movement::$variant(1, $($given),*)
+            }
+        )*}
+    };
+}
+
+with_a_count_of_1! {
+    backward_word(word: Word) of BackwardWord;
+    forward_word(at: At, word: Word) of ForwardWord;
+    char_search(search: CharSearch) of ViCharSearch;
+    backward_char() of BackwardChar;
+    forward_char() of ForwardChar;
+    line_up() of LineUp;
+    line_down() of LineDown;
+    whole_lines_up() of WholeLinesUp;
+    whole_lines_down() of WholeLinesDown;
 }
 
 impl Movement {
@@ -164,10 +191,10 @@ pub enum ReportKind {
     CharInserted,
     /// A text was inserted.
     TextInserted,
-    /// A text was removed, from the cursor on; also wherever the cursor was, as by `set_text`, `yank_pop`,
+    /// A text was deleted, from the cursor on; also wherever the cursor was, as by `set_text`, `yank_pop`,
     /// `delete_range` and `kill_range`.
     DeletedForward,
-    /// A text was removed, up to the cursor; by `kill_range` also wherever the cursor was.
+    /// A text was deleted, up to the cursor; by `kill_range` also wherever the cursor was.
     DeletedBackward,
     /// A text was replaced by another one; so is each change of an undo and of a redo.
     Replaced,
@@ -175,27 +202,28 @@ pub enum ReportKind {
     KillStarted,
     /// The kill has ended. This one is of no change.
     KillStopped,
-    /// All that waited and all later changes as one change, without its texts: the inserted text stands in the present
+    /// All changes that waited and all later ones as one change, without its texts: the inserted text is in the present
     /// text.
     Folded,
 }
 
-/// On which side of the cursor a text is removed. A `kill_range` chooses it, wherever the cursor is.
+/// On which side of the cursor a text is deleted. A `kill_range` chooses it, wherever the cursor is.
 #[derive(Clone, Copy, Debug, Default, PartialEq, Eq, Hash)]
 pub enum Direction {
-    /// Text from the cursor on, or, as by `set_text`, the whole text. The ring puts it after the text of the kill before.
+    /// Text from the cursor on, or, as by `set_text`, the whole text. The ring puts it after the text of the kill
+    /// before.
     #[default]
     Forward,
     /// Up to the cursor. The ring puts it before the text of the kill before.
     Backward,
 }
 
-/// The side of a place on which it stays when it moves by a change.
+/// The text with which an offset stays when it moves by a change.
 #[derive(Clone, Copy, Debug, PartialEq, Eq, Hash)]
 pub enum Side {
-    /// With the text before it: what is inserted at the place goes after it.
+    /// The text before it: a text that is inserted at the offset goes after it.
     Before,
-    /// With the text after it: what is inserted at the place goes before it.
+    /// The text after it: a text that is inserted at the offset goes before it.
     After,
 }
 
@@ -240,23 +268,38 @@ pub struct Options {
     /// How columns are counted. At first [`Mode::Unicode`].
     pub mode: Mode,
     /// The column where the text begins, after a prompt, which [`Movement::LineUp`] and [`Movement::LineDown`] count if
-    /// they come to the first line or leave it. At first 0.
+    /// they go to the first line or leave it. At first 0.
     pub prompt: u16,
-    /// How many bytes the text may have, at first `None`, for any number. What would make it longer, at its end or on the
-    /// way, is refused with [`Fault::NoRoom`], and changes nothing.
+    /// How many bytes the text may have, at first `None`, for any number. A call that would make it longer, at its end
+    /// or between its steps, returns [`Error::NoRoom`] and changes nothing.
     pub limit: Option<usize>,
     /// How many texts the kill ring keeps; it drops the oldest beyond that. At first 60.
     pub ring_size: usize,
-    /// How many entries the record may have: changes, and the marks where groups begin and end. At first `None`, for any
-    /// number, as [`max_bytes`](Options::max_bytes).
+    /// How many entries the record may have: changes, and the marks where groups begin and end. At first `None`, for
+    /// any number, as [`max_bytes`](Options::max_bytes).
     pub max_entries: Option<usize>,
-    /// How many bytes of text these may have, of removed and of inserted texts.
+    /// How many bytes of deleted and inserted texts the entries may have.
     pub max_bytes: Option<usize>,
     /// How many bytes the texts of the kill ring may have together. At first `None`.
     pub max_ring_bytes: Option<usize>,
-    /// Whether each edit, and each begin and end of a group, first does what
-    /// [`keep_undone`](crate::Session::keep_undone) does, so that it drops no undone change.
-    pub keeps_undone: bool,
+    /// Whether edits keep the undone changes, which they drop otherwise. If so, each edit, and each begin and end of a
+    /// group, first records them again, followed by the inverse of each of these changes and groups in reverse order.
+    /// Then nothing can be redone: undos lead to the text that was undone, and from there to what was recorded before.
+    /// This leaves text, cursor and ring, and the next change joins none of these.
+    /// [`abandon_group`](crate::Session::abandon_group), [`truncate`](crate::Session::truncate) and
+    /// [`restart`](crate::Session::restart) drop undone changes even so. At first false.
+    ///
+    /// ```
+    /// # use lodvarn::{Error, Session};
+    /// let mut session = Session::builder().keep_undone(true).open()?;
+    /// session.paste("one", 1)?;
+    /// session.undo(1)?;
+    /// session.paste("two", 1)?;
+    /// session.undo(2)?;
+    /// assert_eq!(session.text(), "one");
+    /// # Ok::<(), Error>(())
+    /// ```
+    pub keep_undone: bool,
 }
 
 impl Default for Options {
@@ -269,7 +312,7 @@ impl Default for Options {
             max_entries: None,
             max_bytes: None,
             max_ring_bytes: None,
-            keeps_undone: false,
+            keep_undone: false,
         }
     }
 }
@@ -283,12 +326,22 @@ pub struct Position {
     pub column: usize,
 }
 
+/// Where the cursor goes on another row of a screen, by [`Session::row_above`](crate::Session::row_above) and
+/// [`Session::row_below`](crate::Session::row_below).
+#[derive(Clone, Copy, Debug, PartialEq, Eq, Hash)]
+pub struct RowTarget {
+    /// The byte offset: the last one of the row whose column is not after `column`.
+    pub offset: usize,
+    /// The column to give to the next motion by rows, so that the cursor comes back to it from a shorter row.
+    pub column: usize,
+}
+
 /// A grapheme cluster of a text.
 #[derive(Clone, Copy, Debug, PartialEq, Eq, Hash)]
 pub struct Cluster {
-    /// The place where it begins, in bytes.
+    /// The byte offset of its start.
     pub from: usize,
-    /// The place where it ends.
+    /// The byte offset of its end.
     pub to: usize,
     /// How many columns it takes.
     pub columns: usize,
@@ -313,9 +366,20 @@ pub struct Screen {
 }
 
 impl Screen {
-    /// A screen of so many columns.
+    /// A screen with this many columns.
+    /// # Panics
+    /// If `columns` is 0; in a constant that is an error of the compiler. A terminal may have 0 columns, so check its
+    /// size.
+    ///
+    /// ```compile_fail
+    /// const NONE: lodvarn::Screen = lodvarn::Screen::new(0);
+    /// ```
     #[must_use]
-    pub fn new(columns: NonZeroU16) -> Screen {
+    pub const fn new(columns: u16) -> Screen {
+        let columns = match NonZeroU16::new(columns) {
+            Some(columns) => columns,
+            None => panic!("a screen has at least one column"),
+        };
         Screen {
             columns,
             prompt: 0,
@@ -338,19 +402,19 @@ impl Screen {
     }
 }
 
-/// What became of a text that was to be inserted.
+/// Whether and where a text was inserted.
 #[derive(Clone, Copy, Debug, PartialEq, Eq, Hash)]
 pub enum Inserted {
-    /// It went to the end of the text.
+    /// At the end of the text.
     AtEnd,
-    /// It went to another place.
+    /// Before the end of the text.
     Within,
-    /// There was nothing to insert.
+    /// Nothing was inserted.
     Nothing,
 }
 
 impl Inserted {
-    /// What became of a text, by whether it went to the end, or `None` if there was none.
+    /// By whether a text was inserted at the end, or `None` if none was inserted.
     #[inline]
     pub(crate) fn of_core(at_end: Option<bool>) -> Inserted {
         match at_end {
@@ -361,24 +425,24 @@ impl Inserted {
     }
 }
 
-/// Why a call was refused. Text, cursor and record are as they were. But an edit of several steps that runs out of memory
-/// stops after the steps that it made, and with [`Options::keeps_undone`] the undone changes may be kept.
+/// Why a call failed. Text, cursor and record are as they were. But an edit of several steps that runs out of memory
+/// stops after the steps that it made, and with [`Options::keep_undone`] the undone changes may have been recorded.
 #[derive(Clone, Copy, Debug, PartialEq, Eq, Hash)]
 #[non_exhaustive]
-pub enum Fault {
+pub enum Error {
     /// Out of memory.
     NoMemory,
-    /// A place is past the text's end or inside a character, or two places are out of order.
-    BadPlace,
+    /// A byte offset is past the end of the text or inside a character, or a range ends before it begins.
+    BadOffset,
     /// The text before the cursor is not the one that was yanked last.
     BadYankSize,
     /// The entries to keep do not lead to the present text, or the changes of a [`Changeset`](crate::undo::Changeset)
     /// do not fit the text of the line.
     NotReplaying,
-    /// The text would get longer than the limit, at its end or on the way: the whole session is as it was. Or one to be
-    /// saved has 4 GiB or more.
+    /// The text would get longer than the limit, at its end or between the steps of an edit: the whole session is as it
+    /// was. Or the session is too long to be saved.
     NoRoom,
-    /// The call takes no such number, or no such movement.
+    /// The call does not take that number, or that movement.
     NoSuchNumber,
     /// The session keeps reports already.
     IsWatched,
@@ -388,42 +452,42 @@ pub enum Fault {
     Damaged,
 }
 
-impl fmt::Display for Fault {
+impl fmt::Display for Error {
     fn fmt(&self, f: &mut fmt::Formatter<'_>) -> fmt::Result {
         f.write_str(match self {
-            Fault::NoMemory => "out of memory",
-            Fault::BadPlace => "no such place in the text",
-            Fault::BadYankSize => "the text before the cursor was not just yanked",
-            Fault::NotReplaying => "the kept entries do not reproduce the text",
-            Fault::NoRoom => "no room for the text",
-            Fault::NoSuchNumber => "no number that the call takes",
-            Fault::IsWatched => "reports are kept already",
-            Fault::UnknownFormat => "the bytes are not of a known version",
-            Fault::Damaged => "the saved bytes are damaged",
+            Error::NoMemory => "out of memory",
+            Error::BadOffset => "the byte offset is past the end or inside a character, or the range is out of order",
+            Error::BadYankSize => "the text before the cursor is not the yanked one",
+            Error::NotReplaying => "the entries of the record do not lead to the text",
+            Error::NoRoom => "the text would exceed the limit, or is too long to be saved",
+            Error::NoSuchNumber => "the call does not take that number or movement",
+            Error::IsWatched => "the session keeps reports already",
+            Error::UnknownFormat => "the bytes do not begin as this version saves a session",
+            Error::Damaged => "the saved bytes are damaged",
         })
     }
 }
 
 #[cfg(feature = "std")]
-impl std::error::Error for Fault {}
+impl std::error::Error for Error {}
 
-macro_rules! faults {
+macro_rules! errors {
     ($($core:ty: $($from:ident => $to:ident),*;)*) => {$(
         #[doc(hidden)]
-        impl From<$core> for Fault {
+        impl From<$core> for Error {
             #[inline]
-            fn from(fault: $core) -> Fault {
+            fn from(fault: $core) -> Error {
                 match fault {
-                    $(<$core>::$from => Fault::$to,)*
+                    $(<$core>::$from => Error::$to,)*
                 }
             }
         }
     )*};
 }
 
-// No listener of the crate refuses.
-faults! {
-    rl_session::Fault: NoMemory => NoMemory, BadPlace => BadPlace, BadYankSize => BadYankSize,
+// No listener of the crate returns an error of its own.
+errors! {
+    rl_session::Fault: NoMemory => NoMemory, BadPlace => BadOffset, BadYankSize => BadYankSize,
         NotReplaying => NotReplaying, TooLong => NoRoom;
     Refusal: NoMemory => NoMemory, Listener => NoMemory;
     WatchFault: NoMemory => NoMemory, NoRoom => NoSuchNumber, IsWatched => IsWatched;

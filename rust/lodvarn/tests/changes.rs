@@ -1,7 +1,7 @@
 //! What sessions report of their changes, with answers that were worked out by hand, and a listener that mirrors a
 //! random session.
 use heard::{panic_of, Heard};
-use lodvarn::{ChangeListener, Fault, Movement, Session, Side, Splice, Untold, Word};
+use lodvarn::{ChangeListener, Error, Movement, NotifyError, Session, Side, Splice, Word};
 use random::{command, Random};
 
 #[allow(dead_code)]
@@ -26,28 +26,26 @@ fn splice(from: usize, old_to: usize, new_to: usize) -> Splice {
     }
 }
 
-/// These reports wait, which are forgotten, and no more. Each has its kind, its place, the removed and the inserted text,
+/// These reports wait, which are taken, and no more. Each has its kind, its place, the removed and the inserted text,
 /// their lengths, and where the cursor was and is.
 #[track_caller]
 fn reports(session: &mut Session, wanted: &[&str]) {
-    assert_eq!(session.count_reports(), wanted.len());
+    assert_eq!(session.report_count(), wanted.len());
     for wanted in wanted {
-        let it = session.next_report().expect("a report waits");
+        let it = session.take_report().expect("a report waits");
         let (texts, lengths) = ((it.old_text, it.new_text), (it.old_len, it.new_len));
         let cursors = (it.pos_before, it.pos_after);
         let shown = format!("{:?} {} {texts:?} {lengths:?} {cursors:?}", it.kind, it.at);
         assert_eq!(shown, wanted.replace('\'', "\""));
         let whole = splice(it.at, it.at + it.old_len, it.at + it.new_len);
         assert_eq!(it.splice(), whole);
-        assert!(session.forget_report());
     }
-    assert_eq!((session.next_report(), session.count_reports()), (None, 0));
-    assert!(!session.forget_report());
+    assert_eq!(session.take_report(), None);
 }
 
 #[test]
-fn a_place_moves_by_a_change() {
-    // A change, a place, and where it goes with the text before it, and with the text after it.
+fn an_offset_moves_by_a_change() {
+    // A change, an offset, and where it goes with the text before it, and with the text after it.
     let rows = [
         (splice(3, 3, 5), 2, Ok((2, 2))),
         (splice(3, 3, 5), 3, Ok((3, 5))),
@@ -56,21 +54,21 @@ fn a_place_moves_by_a_change() {
         (splice(2, 6, 2), 7, Ok((3, 3))),
         (splice(2, 6, 5), 3, Ok((2, 5))),
         (splice(2, 6, 5), 6, Ok((5, 5))),
-        (splice(2, 1, 2), 0, Err(Fault::BadPlace)),
-        (splice(2, 2, 1), 0, Err(Fault::BadPlace)),
-        (splice(0, 0, 1), usize::MAX, Err(Fault::BadPlace)),
+        (splice(2, 1, 2), 0, Err(Error::BadOffset)),
+        (splice(2, 2, 1), 0, Err(Error::BadOffset)),
+        (splice(0, 0, 1), usize::MAX, Err(Error::BadOffset)),
     ];
-    for (change, place, wanted) in rows {
-        let after = change.moved(place, Side::After);
+    for (change, offset, wanted) in rows {
+        let after = change.map_offset(offset, Side::After);
         let both = change
-            .moved(place, Side::Before)
+            .map_offset(offset, Side::Before)
             .and_then(|it| Ok((it, after?)));
-        assert_eq!(both, wanted, "{place} by {change:?}");
+        assert_eq!(both, wanted, "{offset} by {change:?}");
     }
 }
 
 #[test]
-fn a_report_of_each_kind_waits() -> Result<(), Fault> {
+fn a_report_of_each_kind_waits() -> Result<(), Error> {
     let (mut s, _) = watched("one two", 4, 100);
     s.kill(WORD_BACK)?;
     let killed = "DeletedBackward 4 ('two', '') (3, 0) (7, 4)";
@@ -97,26 +95,26 @@ fn a_report_of_each_kind_waits() -> Result<(), Fault> {
 }
 
 #[test]
-fn a_session_has_one_queue() -> Result<(), Fault> {
+fn a_session_has_one_queue() -> Result<(), Error> {
     let (mut s, mut heard) = watched("", 10, 100);
-    assert_eq!(s.watch(1, 0), Err(Fault::IsWatched));
+    assert_eq!(s.watch(1, 0), Err(Error::IsWatched));
     s.insert('b', 1)?;
     s.unwatch();
     s.unwatch();
     reports(&mut s, &[]);
-    assert_eq!(s.tell(&mut heard), Err(Untold::NoTexts));
-    assert_eq!(s.watch(0, 100), Err(Fault::NoSuchNumber));
-    assert_eq!(s.watch(usize::MAX, 1), Err(Fault::NoMemory));
+    assert_eq!(s.notify(&mut heard), Err(NotifyError::NoTexts));
+    assert_eq!(s.watch(0, 100), Err(Error::NoSuchNumber));
+    assert_eq!(s.watch(usize::MAX, 1), Err(Error::NoMemory));
     assert_eq!(s.watch(1, 0), Ok(()));
     s.backspace(1)?;
-    assert_eq!(s.tell(&mut heard), Err(Untold::NoTexts));
+    assert_eq!(s.notify(&mut heard), Err(NotifyError::NoTexts));
     reports(&mut s, &["DeletedBackward 0 ('', '') (1, 0) (1, 0)"]);
     assert!(heard.told.is_empty());
     Ok(())
 }
 
 #[test]
-fn a_listener_hears_each_change() -> Result<(), Fault> {
+fn a_listener_hears_each_change() -> Result<(), Error> {
     let (mut s, mut heard) = watched("one two", 100, 1000);
     s.insert('é', 1)?;
     s.kill(WORD_BACK)?;
@@ -127,7 +125,7 @@ fn a_listener_hears_each_change() -> Result<(), Fault> {
     s.delete(4)?;
     s.replace(0..3, "2")?;
     let listener: &mut dyn ChangeListener = &mut heard;
-    assert_eq!(s.tell(listener), Ok(()));
+    assert_eq!(s.notify(listener), Ok(()));
     let wanted = [
         "7 + 'é'",
         "kill",
@@ -141,12 +139,13 @@ fn a_listener_hears_each_change() -> Result<(), Fault> {
     ];
     assert_eq!(heard.told, wanted);
     assert_eq!((heard.copy.as_str(), s.text()), ("2é", "2é"));
-    // One report at which it panics waits on.
+    // One report at which it panics is lost, and those after it wait on.
     s.insert('c', 1)?;
     s.backspace(2)?;
+    s.insert('d', 1)?;
     heard.left = 1;
-    panic_of(|| s.tell(&mut heard));
-    reports(&mut s, &["DeletedBackward 0 ('2c', '') (2, 0) (2, 0)"]);
+    panic_of(|| s.notify(&mut heard));
+    reports(&mut s, &["CharInserted 0 ('', 'd') (0, 1) (0, 1)"]);
     Ok(())
 }
 
@@ -168,13 +167,13 @@ fn copies_by_what_is_heard_are_the_text() {
                 continue;
             }
             let before = heard.told.len();
-            match session.tell(&mut heard) {
+            match session.notify(&mut heard) {
                 Ok(()) => {}
-                Err(Untold::Folded(it)) => {
+                Err(NotifyError::Folded(it)) => {
                     assert_eq!(heard.told.len(), before);
                     apply(it, &mut heard.copy, &session);
                 }
-                Err(fault) => panic!("{fault}"),
+                Err(error) => panic!("{error}"),
             }
             if let Some(splice) = session.take_change() {
                 apply(splice, &mut copy, &session);

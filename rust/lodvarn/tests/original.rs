@@ -7,7 +7,7 @@ use lodvarn::layout::{cwidh, GraphemeClusterMode, Layout, Position};
 use lodvarn::line_buffer::{ChangeListener, DeleteListener, Direction, LineBuffer, NoListener};
 use lodvarn::line_buffer::{Pair, WordAction, INDENT};
 use lodvarn::undo::Changeset;
-use lodvarn::Fault;
+use lodvarn::Error;
 use random::Random;
 use std::cell::RefCell;
 use std::panic::{RefUnwindSafe, UnwindSafe};
@@ -260,9 +260,9 @@ fn a_record_of_another_line_is_refused() {
     line.yank("abc", 1, &mut changes);
     let mut other = line_of("xyz|");
     assert!(!changes.undo_fits(&other));
-    assert_eq!(changes.try_undo(&mut other, 1), Err(Fault::NotReplaying));
+    assert_eq!(changes.try_undo(&mut other, 1), Err(Error::NotReplaying));
     let said = panic_of(|| changes.undo(&mut other, 1));
-    assert_eq!(said, "the kept entries do not reproduce the text");
+    assert_eq!(said, "the entries of the record do not lead to the text");
     assert_eq!((shown(&other).as_str(), changes.len()), ("xyz|", 1));
     assert!(changes.undo(&mut line, 1));
     assert_eq!(changes.try_redo(&mut other), Ok(true));
@@ -272,11 +272,11 @@ fn a_record_of_another_line_is_refused() {
     assert!(changes.undo(&mut line, 1));
     line.update("x", 1, &mut NoListener);
     assert!(!changes.redo_fits(&line));
-    assert_eq!(changes.try_redo(&mut line), Err(Fault::NotReplaying));
+    assert_eq!(changes.try_redo(&mut line), Err(Error::NotReplaying));
     let said = panic_of(|| changes.redo(&mut line));
-    assert_eq!(said, "the kept entries do not reproduce the text");
+    assert_eq!(said, "the entries of the record do not lead to the text");
     changes.delete(9, "x");
-    assert_eq!(changes.try_undo(&mut line, 1), Err(Fault::NotReplaying));
+    assert_eq!(changes.try_undo(&mut line, 1), Err(Error::NotReplaying));
     assert_eq!((shown(&line).as_str(), changes.len()), ("x|", 1));
 }
 
@@ -286,11 +286,11 @@ fn a_recorded_cursor_may_refuse_an_undo() {
     line.replace(0..1, "", &mut changes);
     line.delete_range(0..1, &mut NoListener);
     assert!(!changes.undo_fits(&line));
-    assert_eq!(changes.try_undo(&mut line, 1), Err(Fault::NotReplaying));
+    assert_eq!(changes.try_undo(&mut line, 1), Err(Error::NotReplaying));
     let (mut line, mut changes) = (line_of("éa|"), Changeset::new());
     changes.insert_str(2, "a");
     changes.cursors(1, 1);
-    assert_eq!(changes.try_undo(&mut line, 1), Err(Fault::NotReplaying));
+    assert_eq!(changes.try_undo(&mut line, 1), Err(Error::NotReplaying));
     assert_eq!(shown(&line), "éa|");
     changes.delete(0, "x");
     changes.cursors(0, 3);
@@ -373,23 +373,23 @@ fn places_that_are_none_panic() {
     }
     panics! {
         set_pos(5), "pos <= ";
-        set_pos(2), "no such place in the text";
+        set_pos(2), "the byte offset is past the end";
         update("é", 3, h), "pos <= ";
-        update("é", 1, h), "no such place in the text";
+        update("é", 1, h), "the byte offset is past the end";
         replace(0..2, "", h), "char boundary";
         replace(0..9, "", h), "9";
         delete_range(reversed.clone(), h), "3";
         insert_str(2, "x", h), "char boundary";
-        insert_str(0, "éé", h), "no such place in the text";
+        insert_str(0, "éé", h), "the byte offset is past the end";
         yank_pop(4, "x", h), "yanked";
     }
-    assert_eq!(line.try_replace(0..2, "x", h), Err(Fault::BadPlace));
-    assert_eq!(line.try_delete_range(reversed, h), Err(Fault::BadPlace));
+    assert_eq!(line.try_replace(0..2, "x", h), Err(Error::BadOffset));
+    assert_eq!(line.try_delete_range(reversed, h), Err(Error::BadOffset));
     let killed = line.try_kill_range(2..3, Direction::Forward, h);
-    assert_eq!(killed, Err(Fault::BadPlace));
-    assert_eq!(line.try_insert_str(2, "x", h), Err(Fault::BadPlace));
-    assert_eq!(line.try_update("é", 1, h), Err(Fault::BadPlace));
-    assert_eq!(line.try_yank_pop(1, "x", h), Err(Fault::BadYankSize));
+    assert_eq!(killed, Err(Error::BadOffset));
+    assert_eq!(line.try_insert_str(2, "x", h), Err(Error::BadOffset));
+    assert_eq!(line.try_update("é", 1, h), Err(Error::BadOffset));
+    assert_eq!(line.try_yank_pop(1, "x", h), Err(Error::BadYankSize));
     assert_eq!((shown(&line).as_str(), h.told.len()), ("aé|b", 0));
 }
 

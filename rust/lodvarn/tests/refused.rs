@@ -3,7 +3,7 @@
 #![cfg(not(windows))]
 #![deny(unsafe_op_in_unsafe_fn)]
 
-use lodvarn::{run_script, Case, Direction, Fault, Mode, Movement, Screen, Session, Word};
+use lodvarn::{run_script, Case, Direction, Error, Mode, Movement, Screen, Session, Word};
 use refusing::refuse;
 
 #[allow(dead_code)]
@@ -11,9 +11,9 @@ mod refusing;
 
 fn session() -> Session {
     let text = "one two three ".repeat(20);
-    let session = Session::builder().text(&text).keeps_undone(true);
+    let session = Session::builder().text(&text).keep_undone(true);
     let mut session = session.open().expect("a session opens");
-    session.keep(&"kept ".repeat(30)).expect("it is kept");
+    session.ring_add(&"kept ".repeat(30)).expect("it is kept");
     let word = Movement::BackwardWord(1, Word::Emacs);
     assert_eq!(session.kill(word), Ok(true));
     assert_eq!(session.insert('-', 1).and(session.undo(1)), Ok(true));
@@ -23,7 +23,7 @@ fn session() -> Session {
 #[test]
 fn sessions_say_that_memory_is_refused() {
     let text = &*"four ".repeat(400);
-    type Call<'t> = (&'t str, Box<dyn Fn(&mut Session) -> Result<(), Fault> + 't>);
+    type Call<'t> = (&'t str, Box<dyn Fn(&mut Session) -> Result<(), Error> + 't>);
     macro_rules! calls {
         ($($call:ident($($given:expr),*),)*) => {
             vec![$((stringify!($call), Box::new(|s: &mut Session| s.$call($($given),*).map(drop)) as _)),*]
@@ -60,9 +60,9 @@ fn sessions_say_that_memory_is_refused() {
         delete_by(Movement::BeginningOfLine),
         kill(Movement::BeginningOfLine),
         kill_range(0..9, Direction::Forward),
-        keep(text),
+        ring_add(text),
         copy(Movement::WholeBuffer),
-        covers(0, Movement::WholeBuffer),
+        movement_range(0, Movement::WholeBuffer),
         yank(9),
         begin_group(),
         end_group(),
@@ -70,17 +70,18 @@ fn sessions_say_that_memory_is_refused() {
         watch(9, 999),
         group(),
         to_bytes(),
+        try_clone(),
     ];
     let left = |s: &mut Session| {
         assert!(s.text().is_char_boundary(s.pos()));
         // What was undone waits, or is kept beside the kill.
-        assert!(s.can_redo() || s.entries() >= 3);
+        assert!(s.can_redo() || s.record_entries() >= 3);
     };
     // One that was refused the marks of the group of its changes is done all the same.
     let grouped = |s: &mut Session| {
         let is_group = s.reopen_group();
         s.end_group()?;
-        is_group.then_some(()).ok_or(Fault::NoMemory)
+        is_group.then_some(()).ok_or(Error::NoMemory)
     };
     let of_several = of_several
         .into_iter()
@@ -104,6 +105,6 @@ fn what_needs_no_session_says_that_memory_is_refused() {
     assert!(refuse("run_script", || (), run, |()| {}) > 2);
     let clusters = |(): &mut ()| lodvarn::clusters(Mode::Unicode, "one");
     assert_eq!(refuse("clusters", || (), clusters, |()| {}), 1);
-    let screen = Screen::new(9.try_into().expect("9 is not 0"));
+    let screen = Screen::new(9);
     assert_eq!(refuse("rows", || (), |_| screen.rows("one"), |()| {}), 1);
 }

@@ -7,7 +7,7 @@ use lodvarn::keymap::{Movement, Word};
 use lodvarn::kill_ring::{KillRing, Mode};
 use lodvarn::line_buffer::{Direction, LineBuffer, NoListener, Pair, WordAction};
 use lodvarn::undo::Changeset;
-use refusing::{fault_of, largest_of, refuse, with_refused};
+use refusing::{error_of, largest_of, refuse, with_refused};
 
 mod refusing;
 
@@ -72,7 +72,7 @@ fn edits_say_that_memory_is_refused() {
     ];
     macro_rules! panics {
         ($($call:ident($($given:expr),*),)*) => {$({
-            let call = |it: &mut All| fault_of(|| it.0.$call($($given,)* &mut it.1));
+            let call = |it: &mut All| error_of(|| it.0.$call($($given,)* &mut it.1));
             counted += refuse(stringify!($call), line, call, fits);
         })*};
     }
@@ -85,7 +85,7 @@ fn edits_say_that_memory_is_refused() {
         indent(&Movement::WholeBuffer, 200, false),
     ];
     assert!(counted > 30, "{counted}");
-    let copy = |it: &mut All| fault_of(|| it.0.copy(&Movement::WholeBuffer));
+    let copy = |it: &mut All| error_of(|| it.0.copy(&Movement::WholeBuffer));
     assert!(refuse("copy", line, copy, stays) > 0);
     let (line, was_refused) = with_refused(1, || LineBuffer::with_capacity(64));
     assert_eq!((line.limit(), was_refused), (64, true));
@@ -112,10 +112,10 @@ fn records_say_that_memory_is_refused() {
     refuse("try_redo", redone, redo, |it| assert!(it.0.is_empty()));
     let told = |it: &mut All| it.1.try_last_insert().map(|it| assert!(it.is_some()));
     assert!(refuse("try_last_insert", line, told, |_| {}) > 0);
-    let fits = |it: &mut All| fault_of(|| it.1.undo_fits(&it.0));
+    let fits = |it: &mut All| error_of(|| it.1.undo_fits(&it.0));
     assert!(refuse("undo_fits", line, fits, |_| {}) > 0);
     let text = &*"more ".repeat(99);
-    let kill = |it: &mut All| fault_of(|| it.2.kill(text, Mode::Append));
+    let kill = |it: &mut All| error_of(|| it.2.kill(text, Mode::Append));
     assert!(refuse("kill", line, kill, |_| {}) > 0);
 }
 

@@ -1,8 +1,10 @@
 //! What a session has beside the calls of scripts: how it is built, what it refuses, where it may go, and the guards of
 //! groups.
 use lodvarn::{
-    At, Case, CharSearch, Fault, Group, Inserted, Mode, Movement, Options, Screen, Session, Word,
+    At, Case, CharSearch, Direction, Error, Group, Inserted, Mode, Movement, Options, RowTarget,
+    Screen, Session, Word,
 };
+use std::ops::Bound::{self, Excluded, Included, Unbounded};
 use std::panic::{catch_unwind, AssertUnwindSafe};
 
 /// A session on a text, with the cursor at its end and a limit of 64 bytes.
@@ -22,7 +24,7 @@ fn stands(session: &Session, text: &str, pos: usize) {
 }
 
 #[test]
-fn a_session_is_as_it_was_built() -> Result<(), Fault> {
+fn a_session_is_as_it_was_built() -> Result<(), Error> {
     let (new, rocket) = (Session::builder, "\u{1f469}\u{200d}\u{1f680}");
     let short = new().text(rocket).limit(12).ring_size(0);
     // The builder, the cursor, the limit, the column of the cursor, and the text once a kill of all is yanked.
@@ -38,7 +40,7 @@ fn a_session_is_as_it_was_built() -> Result<(), Fault> {
         let mut session = built.open()?;
         let seen = (session.pos(), session.options().limit);
         assert_eq!(seen, (pos, limit), "{built:?}");
-        assert_eq!(session.find_cursor().column, column, "{built:?}");
+        assert_eq!(session.cursor_position().column, column, "{built:?}");
         session.kill(Movement::WholeLine)?;
         session.yank(1)?;
         assert_eq!(session.text(), yanked, "{built:?}");
@@ -47,17 +49,17 @@ fn a_session_is_as_it_was_built() -> Result<(), Fault> {
 }
 
 #[test]
-fn options_are_those_that_were_set() -> Result<(), Fault> {
+fn options_are_those_that_were_set() -> Result<(), Error> {
     let mut options = Options::default();
     (options.mode, options.prompt) = (Mode::NoZwj, 3);
     (options.limit, options.ring_size) = (Some(20), 1);
     (options.max_entries, options.max_bytes) = (Some(5), Some(50));
-    (options.max_ring_bytes, options.keeps_undone) = (Some(9), true);
+    (options.max_ring_bytes, options.keep_undone) = (Some(9), true);
     let built = Session::builder().mode(Mode::NoZwj).prompt(3).limit(20);
     let built = built.ring_size(1).max_entries(5).max_bytes(50);
-    let mut session = built.max_ring_bytes(9).keeps_undone(true).open()?;
+    let mut session = built.max_ring_bytes(9).keep_undone(true).open()?;
     assert_eq!(session.options(), options);
-    (options.keeps_undone, options.ring_size) = (false, 2);
+    (options.keep_undone, options.ring_size) = (false, 2);
     (options.mode, options.limit, options.max_bytes) = (Mode::WcWidth, None, None);
     session.set_options(&options)?;
     assert_eq!(session.options(), options);
@@ -65,7 +67,7 @@ fn options_are_those_that_were_set() -> Result<(), Fault> {
 }
 
 #[test]
-fn a_ring_changes_its_size() -> Result<(), Fault> {
+fn a_ring_changes_its_size() -> Result<(), Error> {
     // A size for a ring with the texts a, b and c, those that it has then, and those once d is kept too, all in one.
     let rows = [
         (0, "", ""),
@@ -77,7 +79,7 @@ fn a_ring_changes_its_size() -> Result<(), Fault> {
     for (size, left, later) in rows {
         let mut session = Session::builder().ring_size(3).open()?;
         for text in ["a", "b", "c"] {
-            session.keep(text)?;
+            session.ring_add(text)?;
         }
         let loaded = Session::from_bytes(&session.to_bytes()?)?;
         for mut session in [session, loaded] {
@@ -88,7 +90,7 @@ fn a_ring_changes_its_size() -> Result<(), Fault> {
                 (ring(&session).concat(), session.options()),
                 (left.into(), options)
             );
-            session.keep("d")?;
+            session.ring_add("d")?;
             assert_eq!(ring(&session).concat(), later, "size {size}");
         }
     }
@@ -96,22 +98,22 @@ fn a_ring_changes_its_size() -> Result<(), Fault> {
 }
 
 #[test]
-fn a_session_begins_anew_with_its_ring() -> Result<(), Fault> {
+fn a_session_begins_anew_with_its_ring() -> Result<(), Error> {
     let mut session = opened("one two");
     session.kill(Movement::BackwardWord(1, Word::Emacs))?;
     session.restart("né")?;
-    assert_eq!((session.undo(1)?, session.entries()), (false, 0));
+    assert_eq!((session.undo(1)?, session.record_entries()), (false, 0));
     session.yank(1)?;
     assert!(session.last_was_yank());
     stands(&session, "nétwo", 6);
     // A new text goes after the newest, not after the current one.
-    session.keep("b")?;
+    session.ring_add("b")?;
     session.restart("")?;
     session.yank(1)?;
     assert_eq!(session.yank_pop(), Ok(Inserted::AtEnd));
-    session.keep("c")?;
+    session.ring_add("c")?;
     assert_eq!(ring(&session), ["c", "b", "two"]);
-    session.clear_ring();
+    session.ring_clear();
     assert_eq!(session.ring_count(), 0);
     Ok(())
 }
@@ -120,38 +122,38 @@ fn a_session_begins_anew_with_its_ring() -> Result<(), Fault> {
 fn what_is_refused_says_why_and_changes_nothing() {
     for pos in [1, 3] {
         let opened = Session::builder().text("é").pos(pos).open();
-        assert_eq!(opened.map(drop), Err(Fault::BadPlace), "at {pos}");
+        assert_eq!(opened.map(drop), Err(Error::BadOffset), "at {pos}");
     }
     let opened_short = Session::builder().text("é").limit(1).open();
-    assert_eq!(opened_short.map(drop), Err(Fault::NoRoom));
+    assert_eq!(opened_short.map(drop), Err(Error::NoRoom));
     let mut session = opened("aé");
-    for place in [2, 4] {
-        assert_eq!(session.slice(place..3), Err(Fault::BadPlace));
-        assert_eq!(session.line_at(place), Err(Fault::BadPlace));
-        assert_eq!(session.cluster_at(place), Err(Fault::BadPlace));
-        assert_eq!(session.cluster_before(place), Err(Fault::BadPlace));
+    for offset in [2, 4] {
+        assert_eq!(session.slice(offset..3), Err(Error::BadOffset));
+        assert_eq!(session.line_at(offset), Err(Error::BadOffset));
+        assert_eq!(session.cluster_at(offset), Err(Error::BadOffset));
+        assert_eq!(session.cluster_before(offset), Err(Error::BadOffset));
         let word = Movement::BackwardWord(1, Word::Big);
-        assert_eq!(session.covers(place, word), Err(Fault::BadPlace));
-        assert_eq!(session.destination(place, word), Err(Fault::BadPlace));
-        assert_eq!(session.set_pos(place), Err(Fault::BadPlace));
-        assert_eq!(session.set_text(place, "aé"), Err(Fault::BadPlace));
-        assert_eq!(session.insert_at(place, "b"), Err(Fault::BadPlace));
-        assert_eq!(session.replace(place..3, "b"), Err(Fault::BadPlace));
-        assert_eq!(session.delete_range(0..place), Err(Fault::BadPlace));
+        assert_eq!(session.movement_range(offset, word), Err(Error::BadOffset));
+        assert_eq!(session.movement_target(offset, word), Err(Error::BadOffset));
+        assert_eq!(session.set_pos(offset), Err(Error::BadOffset));
+        assert_eq!(session.set_text(offset, "aé"), Err(Error::BadOffset));
+        assert_eq!(session.insert_at(offset, "b"), Err(Error::BadOffset));
+        assert_eq!(session.replace(offset..3, "b"), Err(Error::BadOffset));
+        assert_eq!(session.delete_range(0..offset), Err(Error::BadOffset));
     }
-    let screen = Screen::new(9.try_into().expect("9 is not 0"));
-    assert_eq!(screen.cell(1, "é"), Err(Fault::BadPlace));
+    let screen = Screen::new(9);
+    assert_eq!(screen.cell(1, "é"), Err(Error::BadOffset));
     assert_eq!(session.insert_at(0, "xy"), Ok(Inserted::Within));
     assert_eq!(session.undo(1), Ok(true));
-    assert_eq!(session.insert('x', 64), Err(Fault::NoRoom));
+    assert_eq!(session.insert('x', 64), Err(Error::NoRoom));
     assert_eq!(session.paste("", 1), Ok(Inserted::Nothing));
     let deleted = session.delete_by(Movement::WholeLine);
-    assert_eq!(deleted, Err(Fault::NoSuchNumber));
+    assert_eq!(deleted, Err(Error::NoSuchNumber));
     stands(&session, "aé", 3);
 }
 
 #[test]
-fn a_count_of_0_does_nothing() -> Result<(), Fault> {
+fn a_count_of_0_does_nothing() -> Result<(), Error> {
     let mut session = opened("one two\nthree\n");
     session.set_pos(8)?;
     session.kill(Movement::BackwardWord(1, Word::Vi))?;
@@ -166,7 +168,8 @@ fn a_count_of_0_does_nothing() -> Result<(), Fault> {
         Movement::WholeLinesUp(0),
         Movement::WholeLinesDown(0),
     ] {
-        assert_eq!(session.covers(99, movement), Ok(None), "{movement:?}");
+        let covered = session.movement_range(99, movement);
+        assert_eq!(covered, Ok(None), "{movement:?}");
         assert_eq!(session.kill(movement), Ok(false), "{movement:?}");
         assert_eq!(session.delete_by(movement), Ok(false), "{movement:?}");
         assert_eq!(session.copy(movement), Ok(None), "{movement:?}");
@@ -198,15 +201,15 @@ fn a_count_of_0_does_nothing() -> Result<(), Fault> {
 }
 
 /// Sets the limit of a session.
-fn limit(session: &mut Session, limit: usize) -> Result<(), Fault> {
+fn limit(session: &mut Session, limit: usize) -> Result<(), Error> {
     let mut options = session.options();
     options.limit = Some(limit);
     session.set_options(&options)
 }
 
 #[test]
-fn what_has_no_room_changes_nothing() -> Result<(), Fault> {
-    type Call = fn(&mut Session) -> Result<(), Fault>;
+fn what_has_no_room_changes_nothing() -> Result<(), Error> {
+    type Call = fn(&mut Session) -> Result<(), Error>;
     let calls: [Call; 14] = [
         |s| s.insert('x', 1).map(drop),
         |s| s.paste("x", 1).map(drop),
@@ -224,19 +227,19 @@ fn what_has_no_room_changes_nothing() -> Result<(), Fault> {
         |s| limit(s, 8),
     ];
     let mut full = Session::builder().text("words ŉ, and more").open()?;
-    full.keep("longer").and(full.keep("-"))?;
+    full.ring_add("longer").and(full.ring_add("-"))?;
     full.begin_group()?;
     full.delete_range(8..18).and(full.set_pos(6))?;
     full.yank(1).and(limit(&mut full, 9))?;
     stands(&full, "words -ŉ", 7);
-    let mut undone = Session::builder().keeps_undone(true).open()?;
+    let mut undone = Session::builder().keep_undone(true).open()?;
     undone.paste("one", 1).and(undone.undo(1))?;
     limit(&mut undone, 2)?;
     let calls_undone: [Call; 2] = [|s| s.redo().map(drop), |s| s.insert('x', 3).map(drop)];
     for (session, calls) in [(&mut full, &calls[..]), (&mut undone, &calls_undone[..])] {
         let before = session.to_bytes()?;
         for (row, call) in calls.iter().enumerate() {
-            assert_eq!(call(session), Err(Fault::NoRoom), "row {row}");
+            assert_eq!(call(session), Err(Error::NoRoom), "row {row}");
             assert_eq!(session.to_bytes().as_ref(), Ok(&before), "row {row}");
         }
     }
@@ -244,9 +247,9 @@ fn what_has_no_room_changes_nothing() -> Result<(), Fault> {
 }
 
 #[test]
-fn a_group_is_not_reopened_before_what_is_kept() -> Result<(), Fault> {
+fn a_group_is_not_reopened_before_what_is_kept() -> Result<(), Error> {
     for keeps in [true, false] {
-        let mut session = Session::builder().keeps_undone(keeps).open()?;
+        let mut session = Session::builder().keep_undone(keeps).open()?;
         session.group()?.insert('a', 1)?;
         session.insert('b', 1)?;
         session.undo(1)?;
@@ -259,7 +262,7 @@ fn a_group_is_not_reopened_before_what_is_kept() -> Result<(), Fault> {
 }
 
 #[test]
-fn reads_at_a_place_are_those_of_a_cursor_there() -> Result<(), Fault> {
+fn reads_at_an_offset_are_those_of_a_cursor_there() -> Result<(), Error> {
     let mut session = Session::builder()
         .text("one 漢\n\ntwo three")
         .prompt(2)
@@ -273,17 +276,121 @@ fn reads_at_a_place_are_those_of_a_cursor_there() -> Result<(), Fault> {
         Movement::ForwardChar(0),
     ];
     for movement in by {
-        for (place, _) in text.char_indices() {
-            let covers = session.covers(place, movement);
-            let destination = session.destination(place, movement);
-            session.set_pos(place)?;
-            assert_eq!(session.covers(place, movement), covers);
-            assert_eq!(session.move_by(movement), destination?.is_some());
-            assert_eq!(session.pos(), destination?.unwrap_or(place));
+        for (offset, _) in text.char_indices() {
+            let range = session.movement_range(offset, movement);
+            let target = session.movement_target(offset, movement);
+            session.set_pos(offset)?;
+            assert_eq!(session.movement_range(offset, movement), range);
+            assert_eq!(session.move_by(movement), target?.is_some());
+            assert_eq!(session.pos(), target?.unwrap_or(offset));
             session.set_pos(text.len())?;
         }
     }
     Ok(())
+}
+
+#[test]
+fn a_range_may_be_of_any_kind() {
+    type Bounds = (Bound<usize>, Bound<usize>);
+    type Call = fn(&mut Session, Bounds) -> Result<(), Error>;
+    const MAX: usize = usize::MAX;
+    let rows = [
+        ((Included(1), Excluded(3)), Ok(1..3)),
+        ((Unbounded, Included(2)), Ok(0..3)),
+        ((Excluded(0), Unbounded), Ok(1..6)),
+        ((Included(6), Unbounded), Ok(6..6)),
+        ((Included(3), Excluded(1)), Err(Error::BadOffset)),
+        ((Included(2), Unbounded), Err(Error::BadOffset)),
+        ((Unbounded, Included(1)), Err(Error::BadOffset)),
+        ((Unbounded, Excluded(7)), Err(Error::BadOffset)),
+        ((Unbounded, Included(MAX)), Err(Error::BadOffset)),
+        ((Excluded(MAX), Unbounded), Err(Error::BadOffset)),
+        ((Excluded(MAX), Included(MAX)), Err(Error::BadOffset)),
+    ];
+    let calls: [(Call, &str); 3] = [
+        (|s, it| s.replace(it, "-"), "-"),
+        (|s, it| s.delete_range(it), ""),
+        (|s, it| s.kill_range(it, Direction::Forward).map(drop), ""),
+    ];
+    let text = "aé漢";
+    for (bounds, wanted) in rows {
+        let slice = wanted.clone().map(|it| &text[it]);
+        assert_eq!(opened(text).slice(bounds), slice, "{bounds:?}");
+        for (call, new) in calls {
+            let (mut session, mut left) = (opened(text), text.to_string());
+            assert_eq!(call(&mut session, bounds), wanted.clone().map(drop));
+            if let Ok(range) = &wanted {
+                left.replace_range(range.clone(), new);
+            }
+            assert_eq!(session.text(), left, "{bounds:?}");
+        }
+    }
+}
+
+#[test]
+fn a_cursor_goes_by_rows() -> Result<(), Error> {
+    const SCREEN: Screen = Screen::new(4);
+    assert!(catch_unwind(|| Screen::new(0)).is_err());
+    // The rows abcd, ef, an empty one, and ghi. How many a cursor goes up, or down, and by which column.
+    let target = |offset, column| Some(RowTarget { offset, column });
+    let rows = [
+        (11, -1, None, target(7, 3)),
+        (11, -2, None, target(6, 3)),
+        (11, -3, Some(9), target(3, 9)),
+        (11, -4, None, None),
+        (2, 1, None, target(6, 2)),
+        (2, 2, Some(1), target(7, 1)),
+        (2, 3, Some(1), target(9, 1)),
+        (2, 4, None, None),
+        (2, 0, None, None),
+    ];
+    for (pos, n, column, wanted) in rows {
+        let session = Session::builder().text("abcdef\n\nghi").pos(pos).open()?;
+        let went = match u16::try_from(n) {
+            Ok(n) => session.row_below(&SCREEN, n, column),
+            Err(_) => session.row_above(&SCREEN, -n as u16, column),
+        };
+        assert_eq!(went, wanted, "{n} from {pos}");
+    }
+    Ok(())
+}
+
+#[test]
+fn a_movement_has_a_count_of_1() {
+    let (word, at, search) = (Word::Vi, At::Start, CharSearch::Forward('e'));
+    let rows = [
+        (
+            Movement::backward_word(word),
+            Movement::BackwardWord(1, word),
+        ),
+        (
+            Movement::forward_word(at, word),
+            Movement::ForwardWord(1, at, word),
+        ),
+        (
+            Movement::char_search(search),
+            Movement::ViCharSearch(1, search),
+        ),
+        (Movement::backward_char(), Movement::BackwardChar(1)),
+        (Movement::forward_char(), Movement::ForwardChar(1)),
+        (Movement::line_up(), Movement::LineUp(1)),
+        (Movement::line_down(), Movement::LineDown(1)),
+        (Movement::whole_lines_up(), Movement::WholeLinesUp(1)),
+        (Movement::whole_lines_down(), Movement::WholeLinesDown(1)),
+    ];
+    for (made, wanted) in rows {
+        assert_eq!(made, wanted);
+    }
+}
+
+#[test]
+fn a_session_is_shown_as_its_text() {
+    let session = opened("né");
+    let lent: &str = session.as_ref();
+    assert_eq!(
+        (lent, format!("{session:>4}|{session:.1}")),
+        ("né", "  né|n".into())
+    );
 }
 
 #[test]
@@ -301,8 +408,8 @@ fn a_session_goes_to_another_thread() {
 }
 
 #[test]
-fn a_guard_closes_what_was_begun_in_it_alone() -> Result<(), Fault> {
-    type Inside = fn(&mut Session) -> Result<(), Fault>;
+fn a_guard_closes_what_was_begun_in_it_alone() -> Result<(), Error> {
+    type Inside = fn(&mut Session) -> Result<(), Error>;
     let deeper: Inside = |s| s.paste("b", 1).and(s.begin_group()).and(s.begin_group());
     // What is done in the inner one of two groups, whether that has a change then, and how many groups are left.
     let rows: [(Inside, bool, usize); 6] = [
@@ -330,9 +437,9 @@ fn a_guard_closes_what_was_begun_in_it_alone() -> Result<(), Fault> {
             } else {
                 assert_eq!(Group::close(inner), Ok(has_change), "row {row}");
             }
-            assert_eq!(outer.level(), left, "row {row}");
+            assert_eq!(outer.group_level(), left, "row {row}");
             drop(outer);
-            assert_eq!((session.level(), session.undo(1)), (0, Ok(true)));
+            assert_eq!((session.group_level(), session.undo(1)), (0, Ok(true)));
             stands(&session, "-", 1);
         }
     }
@@ -340,8 +447,8 @@ fn a_guard_closes_what_was_begun_in_it_alone() -> Result<(), Fault> {
 }
 
 #[test]
-fn an_edit_is_one_unit() -> Result<(), Fault> {
-    type Edit = fn(&mut Session) -> Result<(), Fault>;
+fn an_edit_is_one_unit() -> Result<(), Error> {
+    type Edit = fn(&mut Session) -> Result<(), Error>;
     // An edit on "one two", right before "two", and the text that it leaves.
     let rows: [(Edit, &str); 7] = [
         (|s| s.set_text(1, "three"), "three"),
@@ -361,20 +468,20 @@ fn an_edit_is_one_unit() -> Result<(), Fault> {
     for (edit, left) in rows {
         let mut session = Session::builder().text("one two").pos(4).open()?;
         for text in ["x", "-", "+"] {
-            session.keep(text)?;
+            session.ring_add(text)?;
         }
         edit(&mut session)?;
         assert_eq!(session.text(), left);
         assert_eq!(session.undo(1), Ok(true));
         stands(&session, "one two", 4);
-        assert_eq!((session.entries(), session.redo()), (0, Ok(true)));
+        assert_eq!((session.record_entries(), session.redo()), (0, Ok(true)));
         assert_eq!((session.text(), session.can_redo()), (left, false));
     }
     Ok(())
 }
 
 #[test]
-fn an_empty_group_leaves_the_redo() -> Result<(), Fault> {
+fn an_empty_group_leaves_the_redo() -> Result<(), Error> {
     for end in [
         Session::end_group,
         Session::end_all_groups,
@@ -385,14 +492,14 @@ fn an_empty_group_leaves_the_redo() -> Result<(), Fault> {
         session.undo(1)?;
         session.begin_group()?;
         end(&mut session)?;
-        assert_eq!((session.level(), session.entries()), (0, 0));
+        assert_eq!((session.group_level(), session.record_entries()), (0, 0));
         assert_eq!((session.redo(), session.text()), (Ok(true), "é"));
     }
     Ok(())
 }
 
 #[test]
-fn an_undo_stays_in_its_group() -> Result<(), Fault> {
+fn an_undo_stays_in_its_group() -> Result<(), Error> {
     let mut session = opened("-");
     session.paste("a", 1)?;
     let mut group = session.group()?;
@@ -402,7 +509,7 @@ fn an_undo_stays_in_its_group() -> Result<(), Fault> {
     assert_eq!((group.undo(9), group.undo(9)), (Ok(true), Ok(false)));
     stands(&group, "-a", 2);
     assert_eq!(
-        (group.level(), group.can_undo(), group.redo()),
+        (group.group_level(), group.can_undo(), group.redo()),
         (1, false, Ok(true))
     );
     drop(group);
@@ -413,8 +520,8 @@ fn an_undo_stays_in_its_group() -> Result<(), Fault> {
 }
 
 #[test]
-fn edits_keep_what_was_undone() -> Result<(), Fault> {
-    type Edit = fn(&mut Session) -> Result<(), Fault>;
+fn edits_keep_what_was_undone() -> Result<(), Error> {
+    type Edit = fn(&mut Session) -> Result<(), Error>;
     // An edit after "-" was pasted and undone, and the texts that undos come to then, with the option and without.
     let rows: [(Edit, &[&str], &[&str]); 4] = [
         (|s| s.insert('b', 1).map(drop), &["", "-", ""], &[""]),
@@ -424,11 +531,11 @@ fn edits_keep_what_was_undone() -> Result<(), Fault> {
             &[""],
         ),
         (|s| s.end_group().map(drop), &["-", ""], &[]),
-        (|s| s.keep("b"), &[], &[]),
+        (|s| s.ring_add("b"), &[], &[]),
     ];
     for (row, (edit, kept, dropped)) in rows.into_iter().enumerate() {
         for (keeps, wanted) in [(true, kept), (false, dropped)] {
-            let mut session = Session::builder().keeps_undone(keeps).open()?;
+            let mut session = Session::builder().keep_undone(keeps).open()?;
             session.paste("-", 1)?;
             session.undo(1)?;
             edit(&mut session)?;

@@ -2,7 +2,7 @@
 //! of a script is.
 use lodvarn::Direction::{Backward, Forward};
 use lodvarn::{first_cluster, last_cluster, run_script, width, Cluster, Position, Session};
-use lodvarn::{At, Case, CharSearch, Fault, Movement, Word};
+use lodvarn::{At, Case, CharSearch, Error, Movement, Word};
 use std::fmt::Debug;
 use std::process::Command;
 
@@ -36,14 +36,14 @@ fn reads_agree(s: &Session) {
     let (text, pos, mode) = (s.text(), s.pos(), s.options().mode);
     let own = text[..pos].matches('\n').count();
     assert_eq!(s.line_at(pos), Ok(own));
-    assert_eq!(s.count_lines(), text.matches('\n').count() + 1);
+    assert_eq!(s.line_count(), text.matches('\n').count() + 1);
     let first = text[..pos].rfind('\n').map_or(0, |at| at + 1);
     let end = text[pos..].find('\n').map_or(text.len(), |at| pos + at);
-    assert_eq!(s.find_line(own), Some(first..end));
-    assert_eq!(s.find_line(s.count_lines()), None);
+    assert_eq!(s.line_range(own), Some(first..end));
+    assert_eq!(s.line_range(s.line_count()), None);
     assert_eq!(s.slice(first..end), Ok(&text[first..end]));
     let column = width(mode, &text[first..pos]);
-    assert_eq!(s.find_cursor(), Position { line: own, column });
+    assert_eq!(s.cursor_position(), Position { line: own, column });
     let cluster = |from, text: &str| {
         let (to, columns) = (from + text.len(), width(mode, text));
         Some(Cluster { from, to, columns }).filter(|_| from < to)
@@ -124,8 +124,8 @@ fn said(answer: impl Debug) -> String {
     .to_string()
 }
 
-type Plain = fn(&mut Session) -> Result<String, Fault>;
-type Call = Box<dyn Fn(&mut Session) -> Result<String, Fault>>;
+type Plain = fn(&mut Session) -> Result<String, Error>;
+type Call = Box<dyn Fn(&mut Session) -> Result<String, Error>>;
 
 /// Whether a line is an edit of several changes. A call makes a group of them.
 fn is_of_several(line: &str) -> bool {
@@ -183,11 +183,11 @@ fn calls() -> Vec<(String, Call)> {
         ("killrange 2 4 b", |s| {
             s.kill_range(2..4, Backward).map(said)
         }),
-        ("keep x", |s| s.keep("x").map(said)),
+        ("keep x", |s| s.ring_add("x").map(said)),
         ("yank 2", |s| s.yank(2).map(said)),
         ("yank 1\nyankpop", |s| s.yank(1).and(s.yank_pop()).map(said)),
         ("begin", |s| {
-            let mark = s.entries();
+            let mark = s.record_entries();
             s.begin_group().map(|()| format!("mark:{mark}"))
         }),
         ("begin\nendone", |s| {
@@ -196,10 +196,9 @@ fn calls() -> Vec<(String, Call)> {
         ("end", |s| s.end_all_groups().map(said)),
         ("reopen", |s| Ok(said(s.reopen_group()))),
         ("abandon", |s| s.abandon_group().map(said)),
-        ("keepundone", |s| s.keep_undone().map(said)),
         ("trunc 5", |s| s.truncate(5).map(said)),
         ("part", |s| {
-            s.part();
+            s.undo_boundary();
             Ok(said(()))
         }),
         // It stays in the group.
@@ -213,10 +212,10 @@ fn calls() -> Vec<(String, Call)> {
 
 /// A session of such a text, cursor, ring and record that each call finds something to do, and the lines of a script for
 /// the same.
-fn begun(pos: usize) -> Result<(Session, String), Fault> {
+fn begun(pos: usize) -> Result<(Session, String), Error> {
     let text = "a\n x.b,cD e.x,f-g\n h";
     let mut s = Session::builder().text(text).pos(pos).open()?;
-    s.keep("one").and(s.keep("two"))?;
+    s.ring_add("one").and(s.ring_add("two"))?;
     s.group()?.insert('z', 1)?;
     s.begin_group()?;
     s.paste("-", 1).and(s.paste("+", 1))?;
@@ -227,7 +226,7 @@ fn begun(pos: usize) -> Result<(Session, String), Fault> {
 }
 
 #[test]
-fn calls_are_lines_of_scripts() -> Result<(), Fault> {
+fn calls_are_lines_of_scripts() -> Result<(), Error> {
     // What is undone, redone and yanked afterwards tells the record and the ring.
     let later: [Plain; 5] = [
         |s| s.end_all_groups().map(said),
@@ -239,13 +238,13 @@ fn calls_are_lines_of_scripts() -> Result<(), Fault> {
     for (line, call) in calls().into_iter().chain(calls_by_movements()) {
         for pos in [6, 12] {
             let (mut s, begun) = begun(pos)?;
-            let entries = s.entries();
+            let entries = s.record_entries();
             let mut shown = format!("{} {} {}\n", call(&mut s)?, s.pos(), escaped(s.text()));
             reads_agree(&s);
             let mut line = line.clone();
             if is_of_several(&line) {
                 line = format!("begin\n{line}\nendone");
-                let has_change = s.entries() > entries;
+                let has_change = s.record_entries() > entries;
                 shown += &format!("{has_change} {} {}\n", s.pos(), escaped(s.text()));
             }
             for call in later {

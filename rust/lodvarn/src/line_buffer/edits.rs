@@ -2,7 +2,7 @@
 use super::{answered, ChangeListener, LineBuffer, WordAction};
 use crate::keymap::{Movement, RepeatCount};
 use crate::listeners::Told;
-use crate::words::Fault;
+use crate::words::Error;
 use core::ops::Range;
 
 impl LineBuffer {
@@ -22,15 +22,15 @@ impl LineBuffer {
     ///
     /// # Errors
     ///
-    /// [`Fault::BadPlace`]; [`Fault::NoMemory`], which may leave an empty text.
+    /// [`Error::BadOffset`]; [`Error::NoMemory`], which may leave an empty text.
     pub fn try_update<C: ChangeListener + ?Sized>(
         &mut self,
         buf: &str,
         pos: usize,
         cl: &mut C,
-    ) -> Result<(), Fault> {
+    ) -> Result<(), Error> {
         if !buf.is_char_boundary(pos) {
-            return Err(Fault::BadPlace);
+            return Err(Error::BadOffset);
         }
         Ok(self.line.update(buf, pos, &mut Told(cl))?)
     }
@@ -51,14 +51,14 @@ impl LineBuffer {
     ///
     /// # Errors
     ///
-    /// [`Fault::NoMemory`]; nothing is inserted.
+    /// [`Error::NoMemory`]; nothing is inserted.
     #[inline]
     pub fn try_insert<C: ChangeListener + ?Sized>(
         &mut self,
         ch: char,
         n: RepeatCount,
         cl: &mut C,
-    ) -> Result<Option<bool>, Fault> {
+    ) -> Result<Option<bool>, Error> {
         if n == 0 {
             return Ok(None);
         }
@@ -81,14 +81,14 @@ impl LineBuffer {
     ///
     /// # Errors
     ///
-    /// [`Fault::NoMemory`]; nothing is inserted.
+    /// [`Error::NoMemory`]; nothing is inserted.
     #[inline]
     pub fn try_yank<C: ChangeListener + ?Sized>(
         &mut self,
         text: &str,
         n: RepeatCount,
         cl: &mut C,
-    ) -> Result<Option<bool>, Fault> {
+    ) -> Result<Option<bool>, Error> {
         if n == 0 {
             return Ok(None);
         }
@@ -115,15 +115,15 @@ impl LineBuffer {
     ///
     /// # Errors
     ///
-    /// [`Fault::BadYankSize`]; [`Fault::NoMemory`], which may leave the yanked text deleted.
+    /// [`Error::BadYankSize`]; [`Error::NoMemory`], which may leave the yanked text deleted.
     pub fn try_yank_pop<C: ChangeListener + ?Sized>(
         &mut self,
         yank_size: usize,
         text: &str,
         cl: &mut C,
-    ) -> Result<Option<bool>, Fault> {
+    ) -> Result<Option<bool>, Error> {
         if !self.line.can_yank_pop(yank_size) {
-            return Err(Fault::BadYankSize);
+            return Err(Error::BadYankSize);
         }
         // The sum fits: no text is longer than `isize::MAX`.
         if !self.line.has_room(self.len() - yank_size + text.len()) {
@@ -152,15 +152,15 @@ impl LineBuffer {
     ///
     /// # Errors
     ///
-    /// [`Fault::BadPlace`], [`Fault::NoMemory`]; nothing is replaced.
+    /// [`Error::BadOffset`], [`Error::NoMemory`]; nothing is replaced.
     pub fn try_replace<C: ChangeListener + ?Sized>(
         &mut self,
         range: Range<usize>,
         text: &str,
         cl: &mut C,
-    ) -> Result<(), Fault> {
+    ) -> Result<(), Error> {
         if !self.line.is_range(range.start, range.end) {
-            return Err(Fault::BadPlace);
+            return Err(Error::BadOffset);
         }
         Ok(self.line.replace(range, text, &mut Told(cl))?)
     }
@@ -193,15 +193,15 @@ impl LineBuffer {
     ///
     /// # Errors
     ///
-    /// [`Fault::BadPlace`], [`Fault::NoMemory`]; nothing is inserted.
+    /// [`Error::BadOffset`], [`Error::NoMemory`]; nothing is inserted.
     pub fn try_insert_str<C: ChangeListener + ?Sized>(
         &mut self,
         idx: usize,
         s: &str,
         cl: &mut C,
-    ) -> Result<bool, Fault> {
+    ) -> Result<bool, Error> {
         if !self.line.can_insert_str(idx, s) {
-            return Err(Fault::BadPlace);
+            return Err(Error::BadOffset);
         }
         Ok(self.line.insert_str(idx, s, &mut Told(cl))?)
     }

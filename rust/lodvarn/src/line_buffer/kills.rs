@@ -2,7 +2,7 @@
 use super::{answered, DeleteListener, Direction, LineBuffer};
 use crate::keymap::{At, CharSearch, Movement, RepeatCount, Word};
 use crate::listeners::Told;
-use crate::words::Fault;
+use crate::words::Error;
 use alloc::string::String;
 use core::ops::Range;
 
@@ -20,12 +20,12 @@ impl LineBuffer {
     ///
     /// # Errors
     ///
-    /// [`Fault::NoMemory`]; nothing is deleted.
+    /// [`Error::NoMemory`]; nothing is deleted.
     pub fn try_delete<D: DeleteListener + ?Sized>(
         &mut self,
         n: RepeatCount,
         dl: &mut D,
-    ) -> Result<Option<String>, Fault> {
+    ) -> Result<Option<String>, Error> {
         let deleted = self.line.delete(n, &mut Told(dl))?;
         Ok(deleted.map(|text| text.into_std()))
     }
@@ -40,13 +40,13 @@ impl LineBuffer {
     ///
     /// # Errors
     ///
-    /// [`Fault::NoMemory`]; nothing is deleted.
+    /// [`Error::NoMemory`]; nothing is deleted.
     #[inline]
     pub fn try_backspace<D: DeleteListener + ?Sized>(
         &mut self,
         n: RepeatCount,
         dl: &mut D,
-    ) -> Result<bool, Fault> {
+    ) -> Result<bool, Error> {
         Ok(self.line.backspace(n, &mut Told(dl))?)
     }
 
@@ -119,14 +119,14 @@ impl LineBuffer {
     ///
     /// # Errors
     ///
-    /// [`Fault::BadPlace`], [`Fault::NoMemory`]; nothing is deleted.
+    /// [`Error::BadOffset`], [`Error::NoMemory`]; nothing is deleted.
     pub fn try_delete_range<D: DeleteListener + ?Sized>(
         &mut self,
         range: Range<usize>,
         dl: &mut D,
-    ) -> Result<(), Fault> {
+    ) -> Result<(), Error> {
         if !self.line.is_range(range.start, range.end) {
-            return Err(Fault::BadPlace);
+            return Err(Error::BadOffset);
         }
         Ok(self.line.delete_range(range, &mut Told(dl))?)
     }
@@ -144,13 +144,13 @@ impl LineBuffer {
     ///
     /// # Errors
     ///
-    /// [`Fault::NoMemory`]; nothing is deleted.
+    /// [`Error::NoMemory`]; nothing is deleted.
     #[inline]
     pub fn try_kill<D: DeleteListener + ?Sized>(
         &mut self,
         mvt: &Movement,
         dl: &mut D,
-    ) -> Result<bool, Fault> {
+    ) -> Result<bool, Error> {
         match mvt.to_core() {
             Some(mvt) => Ok(self.line.kill(&mvt, &mut Told(dl))?),
             None => Ok(false),
@@ -162,15 +162,15 @@ impl LineBuffer {
     ///
     /// # Errors
     ///
-    /// [`Fault::BadPlace`], [`Fault::NoMemory`]; nothing is deleted.
+    /// [`Error::BadOffset`], [`Error::NoMemory`]; nothing is deleted.
     pub fn try_kill_range<D: DeleteListener + ?Sized>(
         &mut self,
         range: Range<usize>,
         dir: Direction,
         dl: &mut D,
-    ) -> Result<bool, Fault> {
+    ) -> Result<bool, Error> {
         if !self.line.is_range(range.start, range.end) {
-            return Err(Fault::BadPlace);
+            return Err(Error::BadOffset);
         }
         let (dir, dl) = (dir.to_core(), &mut Told(dl));
         Ok(self.line.kill_range(range, dir, dl)?)

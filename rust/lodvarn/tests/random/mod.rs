@@ -1,5 +1,5 @@
 //! Commands at random.
-use lodvarn::{At, Case, CharSearch, Direction, Fault, Movement, Session, Word};
+use lodvarn::{At, Case, CharSearch, Direction, Error, Movement, Session, Word};
 use std::ops::Range;
 
 /// Numbers at random, by a linear congruential generator.
@@ -90,7 +90,7 @@ impl Random {
 }
 
 /// Gives a session a command at random.
-pub fn command(s: &mut Session, random: &mut Random) -> Result<(), Fault> {
+pub fn command(s: &mut Session, random: &mut Random) -> Result<(), Error> {
     let (n, text) = (random.count(), s.text().to_string());
     match random.below(44) {
         0..=4 => s.insert(random.letter(), n).map(drop),
@@ -123,7 +123,7 @@ pub fn command(s: &mut Session, random: &mut Random) -> Result<(), Fault> {
             let direction = random.one(&[Direction::Forward, Direction::Backward]);
             s.kill_range(random.places(&text), direction).map(drop)
         }
-        40 => s.keep(&random.text()),
+        40 => s.ring_add(&random.text()),
         41 => s.end_group().map(drop),
         42 => change_options(s, random),
         _ => {
@@ -134,13 +134,13 @@ pub fn command(s: &mut Session, random: &mut Random) -> Result<(), Fault> {
 }
 
 /// Changes an option of a session at random.
-fn change_options(s: &mut Session, random: &mut Random) -> Result<(), Fault> {
+fn change_options(s: &mut Session, random: &mut Random) -> Result<(), Error> {
     let mut options = s.options();
     match random.below(5) {
         0 => options.limit = Some(random.below(257)),
         4 => options.ring_size = random.below(9),
         1 => options.prompt = random.count(),
-        2 => options.keeps_undone = random.below(2) > 0,
+        2 => options.keep_undone = random.below(2) > 0,
         _ => {
             let bounds = [(None, None), (Some(40), Some(1000)), (Some(100), Some(200))];
             (options.max_entries, options.max_bytes) = random.one(&bounds);

@@ -1,5 +1,5 @@
 //! An allocator that refuses one request of its thread, and what asks a call with each of its requests refused.
-use lodvarn::Fault;
+use lodvarn::Error;
 use std::alloc::{GlobalAlloc, Layout, System};
 use std::cell::Cell;
 use std::panic::{catch_unwind, AssertUnwindSafe};
@@ -54,13 +54,13 @@ pub fn with_refused<A>(n: usize, call: impl FnOnce() -> A) -> (A, bool) {
 pub fn refuse<T, A>(
     what: &str,
     made: impl Fn() -> T,
-    call: impl Fn(&mut T) -> Result<A, Fault>,
+    call: impl Fn(&mut T) -> Result<A, Error>,
     see: impl Fn(&mut T),
 ) -> usize {
     for n in 1.. {
         let mut one = made();
         let (answer, was_refused) = with_refused(n, || call(&mut one));
-        let wanted = was_refused.then_some(Fault::NoMemory);
+        let wanted = was_refused.then_some(Error::NoMemory);
         assert_eq!(answer.err(), wanted, "{what}, request {n}");
         if !was_refused {
             return n - 1;
@@ -71,12 +71,12 @@ pub fn refuse<T, A>(
     unreachable!("each call ends")
 }
 
-/// The fault that a call panics with.
-pub fn fault_of<A>(call: impl FnOnce() -> A) -> Result<A, Fault> {
+/// The error that a call panics with.
+pub fn error_of<A>(call: impl FnOnce() -> A) -> Result<A, Error> {
     catch_unwind(AssertUnwindSafe(call)).map_err(|said| {
         let said = said.downcast::<String>().expect("a text is said");
         assert_eq!(*said, "out of memory");
-        Fault::NoMemory
+        Error::NoMemory
     })
 }
 
