@@ -295,21 +295,20 @@ static int find_beside(struct typed *t, FILE *script, FILE *answers) {
     if (answer != (is_bad ? LODVARN_BAD_OFFSET : is_there)) return 0;
     if (answer > 0 && (got.from != model.from || got.to != model.to)) return 0;
     if (!len) return lodvarn_move(t->s, lodvarn_to_match(direction, needle, 0)) == LODVARN_NO_SUCH_NUMBER;
-    is_there = search(in, pos, needle, len, is_ahead, &model) && model.from != pos;
+    is_there = search(in, pos, needle, len, is_ahead, &model);
     lodvarn_movement by = lodvarn_to_match(direction, needle, len);
     lodvarn *twin = twin_of(t->s);
     lodvarn_range covered = is_ahead ? range(pos, model.from) : range(model.from, pos);
     unsigned which = below(4);
     line[0] = 0;
-    if (!is_there) add("where"), answer = lodvarn_move(twin, by);
-    else if (which == 0) add("pos %zu", model.from), answer = lodvarn_move(twin, by);
+    if (!is_there || which == 0) add("pos %zu", is_there ? model.from : pos), answer = lodvarn_move(twin, by);
     else if (which == 1) add("range %zu %zu", covered.from, covered.to), answer = lodvarn_delete_by(twin, by);
     else if (which == 2) add("killrange %zu %zu %s", covered.from, covered.to, is_ahead ? "f" : "b"),
         answer = lodvarn_kill(twin, by);
     else add("where"), answer = lodvarn_copy(twin, by, copied, sizeof copied, &copied_len);
     fprintf(script, "%s\n", line);
     typed_line(t, line, answers);
-    int same = answer == is_there && are_same(t->s, twin)
+    int same = answer == (is_there && (which == 0 || model.from != pos)) && are_same(t->s, twin)
         && (!copied_len || (copied_len == covered.to - covered.from && !memcmp(copied, whole + covered.from, copied_len)));
     lodvarn_close(&twin);
     return same;
