@@ -6,6 +6,8 @@
 #include "typed.h"
 #include <stdarg.h>
 
+enum { ROOM = 1 << 14 };
+
 static char line[1024];
 
 static void add(const char *format, ...) {
@@ -256,62 +258,76 @@ static int type_beside(struct typed *t, FILE *script, FILE *answers) {
     return same;
 }
 
-/* Where the text is, by comparing it at each offset. Returns whether it is there. */
+/* Sets the range to where the text is, by comparing it at each offset. Returns whether it is there. */
 static int search(lodvarn_view in, size_t from, const char *text, size_t len, int is_ahead, lodvarn_range *range) {
-    size_t at = is_ahead ? from : from - len;
-    if (!len || (!is_ahead && from < len)) return 0;
-    for (; at <= in.len && len <= in.len - at; at = is_ahead ? at + 1 : at - 1) {
+    for (size_t n = 0; len && n <= in.len; n++) {
+        size_t at = is_ahead ? from + n : from - len - n;
+        if (is_ahead ? at + len > in.len : n + len > from) return 0;
         *range = (lodvarn_range){at, at + len};
         if (!memcmp(in.at + at, text, len)) return 1;
-        if (!is_ahead && at == 0) break;
+        *range = (lodvarn_range){0, 0};
     }
     return 0;
 }
 
 /* A text to search for: often one of the text. */
 static size_t add_needle(lodvarn_view in, char needle[64]) {
-    size_t from = below((unsigned)in.len + 1), to = from;
+    size_t from = below((unsigned)in.len + 1), to;
     while (from > 0 && (in.at[from] & 0xc0) == 0x80) from--;
+    to = from;
     for (unsigned n = below(4); n && to < in.len; n--) to += utf8_length(in.at + to);
     if (to == from || to - from > 60 || !below(4)) return (size_t)sprintf(needle, "%s", some_chars().bytes);
     memcpy(needle, in.at + from, to - from);
     return to - from;
 }
 
-/* Searches for a text, from an offset and by a movement. A twin moves, kills, deletes or copies by it, and the session
- * does so by the line that names the offset. */
+/* Whether a text is found from an offset as by the model. The offset may be none. */
+static int find_agrees(lodvarn *s, lodvarn_view in, const char *text, size_t len, enum lodvarn_direction direction) {
+    size_t from = below((unsigned)in.len + 2);
+    lodvarn_range model = {0, 0}, got = model;
+    int is_bad = from > in.len || (in.at[from] & 0xc0) == 0x80;
+    int is_there = !is_bad && search(in, from, text, len, direction == LODVARN_FORWARD, &model);
+    int answer = lodvarn_find(s, from, text, len, direction, &got);
+    return answer == (is_bad ? LODVARN_BAD_OFFSET : is_there) && got.from == model.from && got.to == model.to;
+}
+
+/* Moves to a text, or kills, deletes or copies up to it in a twin, and in the session by the line that does so by
+ * offsets: one that only ends a run of kills if nothing lies between. */
+static int go_beside(struct typed *t, lodvarn_movement by, int is_there, lodvarn_range covered, int is_ahead) {
+    static char copied[ROOM];
+    size_t pos = lodvarn_pos(t->s), len = 0;
+    int which = is_there ? (int)below(4) : 0, is_empty = !is_there || covered.from == covered.to;
+    line[0] = 0;
+    if (which == 0) add("pos %zu", !is_there ? pos : is_ahead ? covered.to : covered.from);
+    else if (which == 1) add("killrange %zu %zu %s", covered.from, covered.to, is_ahead ? "f" : "b");
+    else if (which == 2 && !is_empty) add("range %zu %zu", covered.from, covered.to);
+    else add("where");
+    int answer = which == 0 ? lodvarn_move(t->s, by) : which == 1 ? lodvarn_kill(t->s, by)
+        : which == 2 ? lodvarn_delete_by(t->s, by) : lodvarn_copy(t->s, by, copied, ROOM, &len);
+    return answer == (which == 0 ? is_there : !is_empty) && (which < 3 || is_empty || len == covered.to - covered.from);
+}
+
+/* Searches for a text, from an offset and by a movement. */
 static int find_beside(struct typed *t, FILE *script, FILE *answers) {
-    static char copied[1 << 14], whole[1 << 14];
+    static char whole[ROOM];
     char needle[64];
     lodvarn_view in = {"", 0};
-    lodvarn_range model = {0, 0}, got = model;
+    lodvarn_range model = {0, 0};
     lodvarn_text(t->s, &in);
     memcpy(whole, in.at, in.len), whole[in.len] = 0, in.at = whole;
-    size_t len = add_needle(in, needle), from = below((unsigned)in.len + 2), pos = lodvarn_pos(t->s), copied_len = 0;
-    int is_ahead = (int)below(2), is_there = search(in, from < in.len ? from : in.len, needle, len, is_ahead, &model);
-    enum lodvarn_direction direction = is_ahead ? LODVARN_FORWARD : LODVARN_BACKWARD;
-    int is_bad = from > in.len || (whole[from] & 0xc0) == 0x80;
-    int answer = lodvarn_find(t->s, from, needle, len, direction, &got);
-    if (answer != (is_bad ? LODVARN_BAD_OFFSET : is_there)) return 0;
-    if (answer > 0 && (got.from != model.from || got.to != model.to)) return 0;
-    if (!len) return lodvarn_move(t->s, lodvarn_to_match(direction, needle, 0)) == LODVARN_NO_SUCH_NUMBER;
-    is_there = search(in, pos, needle, len, is_ahead, &model);
-    lodvarn_movement by = lodvarn_to_match(direction, needle, len);
-    lodvarn *twin = twin_of(t->s);
-    lodvarn_range covered = is_ahead ? range(pos, model.from) : range(model.from, pos);
-    unsigned which = below(4);
-    line[0] = 0;
-    if (!is_there || which == 0) add("pos %zu", is_there ? model.from : pos), answer = lodvarn_move(twin, by);
-    else if (which == 1) add("range %zu %zu", covered.from, covered.to), answer = lodvarn_delete_by(twin, by);
-    else if (which == 2) add("killrange %zu %zu %s", covered.from, covered.to, is_ahead ? "f" : "b"),
-        answer = lodvarn_kill(twin, by);
-    else add("where"), answer = lodvarn_copy(twin, by, copied, sizeof copied, &copied_len);
+    size_t len = add_needle(in, needle), pos = lodvarn_pos(t->s);
+    int is_ahead = (int)below(2), is_there = search(in, pos, needle, len, is_ahead, &model);
+    lodvarn_movement by = lodvarn_to_match(is_ahead ? LODVARN_FORWARD : LODVARN_BACKWARD, needle, len);
+    if (!find_agrees(t->s, in, needle, len, is_ahead ? LODVARN_FORWARD : LODVARN_BACKWARD)) return 0;
+    if (!len) return lodvarn_move(t->s, by) == LODVARN_NO_SUCH_NUMBER;
+    struct typed twin = *t;
+    twin.s = twin_of(t->s);
+    int agrees = go_beside(&twin, by, is_there, is_ahead ? range(pos, model.from) : range(model.from, pos), is_ahead);
     fprintf(script, "%s\n", line);
     typed_line(t, line, answers);
-    int same = answer == (is_there && (which == 0 || model.from != pos)) && are_same(t->s, twin)
-        && (!copied_len || (copied_len == covered.to - covered.from && !memcmp(copied, whole + covered.from, copied_len)));
-    lodvarn_close(&twin);
-    return same;
+    agrees = agrees && are_same(t->s, twin.s);
+    lodvarn_close(&twin.s);
+    return agrees;
 }
 
 int main(int argc, char **argv) {
