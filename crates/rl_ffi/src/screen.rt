@@ -1,5 +1,6 @@
 //! The calls that lay a text out on a screen.
-ghost use Rattle.std.specs.Prelude.{◌≡◌};
+ghost use Rattle.std.specs.Prelude.{◌≡◌, ◌<◌, ◌≤◌, length, None, IfSome};
+ghost use Rattle.rl_base.specs.Screen.{rows};
 ghost use Rattle.rl_line.specs.Rows.{Above, Below};
 ghost use Rattle.rl_ffi.specs.Answers.{merged};
 ghost use Rattle.rl_ffi.specs.Calls.{Answers, Tells, Writes};
