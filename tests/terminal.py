@@ -266,7 +266,7 @@ CASES += [
     ("to both sides", ["a-b-c-d", keys("C-a C-s"), "-", keys("C-s C-s C-r C-d")], ["> a-bc-d"], (0, 5)),
     ("of several bytes", ["日本 日本", keys("C-a C-s"), "本", keys("C-s"), keys("C-d")], ["> 日本 日"], (0, 9)),
     ("in another row", ["one", keys("M-Enter"), "two", keys("C-r"), "ne", keys("C-e"), "x"], ["> onex", "two"], (0, 6)),
-    ("a character in two reads", ["日日", keys("C-a C-s"), b"\xe6\x97", PAUSED, b"\xa5", keys("C-s C-d")], ["> 日"], (0, 4)),
+    ("by two reads", ["日日", keys("C-a C-s"), b"\xe6\x97", PAUSED, b"\xa5", keys("C-s C-d")], ["> 日"], (0, 4)),
 ]
 
 # What the bell tells.

@@ -364,8 +364,8 @@ static int type_pasted(struct editor *e, size_t len) {
     return answer == LODVARN_NO_ROOM ? (lodvarn_abandon_group(e->session), answer) : lodvarn_end_group(e->session);
 }
 
-/* Inserts a paste as one text, without its control characters. Terminals send its newlines as "\r". What begins like the
- * mark of its end, and is not, is text too. */
+/* Inserts a paste as one text, without its control characters. Terminals send its newlines as "\r". What begins like
+ * the mark of its end, and is not, is text too. */
 static void paste(struct editor *e, uint32_t unused) {
     static const char mark[] = "\x1b[201~";
     size_t len = 0, marked = 0;
@@ -396,8 +396,9 @@ static void search(struct editor *e, uint32_t direction) {
     int byte;
     while ((byte = next_byte(e, FOR_EVER)) == AHEAD || byte == BACK
            || (byte >= ' ' && byte != 0x7f && len < sizeof text)) {
-        if (byte >= ' ') text[len++] = (char)byte;
-        else direction = byte == AHEAD ? LODVARN_FORWARD : LODVARN_BACKWARD, from = byte == AHEAD ? found.to : found.from;
+        if (byte == AHEAD) direction = LODVARN_FORWARD, from = found.to;
+        else if (byte == BACK) direction = LODVARN_BACKWARD, from = found.from;
+        else text[len++] = (char)byte;
         int answer = lodvarn_find(e->session, from, text, len, direction, &found);
         if (answer > 0) lodvarn_set_pos(e->session, found.from);
         e->rings |= answer == LODVARN_NOTHING && len > 0;

@@ -208,7 +208,7 @@ static int press(int key) {
     bool goes_on = was_text;
     was_text = is_text(key);
     if (key == CONTROL('g')) return lodvarn_abandon_group(s);
-    if (key != '\t' && lodvarn_group_level(s) > 0) lodvarn_end_group(s); /* any other key keeps the name that is tried */
+    if (key != '\t' && lodvarn_group_level(s) > 0) lodvarn_end_group(s); /* other keys keep the name that is tried */
     if (is_text(key)) return type(key, goes_on);
     switch (key) {
     case CONTROL('a'): return lodvarn_move(s, lodvarn_to_line_start());

@@ -217,8 +217,8 @@ struct chars { char bytes[64]; size_t len; char lines[8][32]; unsigned count; };
 
 static struct chars some_chars(void) {
     static const struct { const char *bytes, *written; } chars[] = {
-        {"a", "a"}, {"b", "b"}, {"Z", "Z"}, {"7", "7"}, {"_", "_"}, {" ", "\\s"}, {"\n", "\\n"}, {"\r", "\\r"}, {"é", "é"},
-        {"漢", "漢"}, {"\u0301", "\\u{301}"}, {"\u200d", "\\u{200d}"}, {"\U0001f469", "\\u{1f469}"},
+        {"a", "a"}, {"b", "b"}, {"Z", "Z"}, {"7", "7"}, {"_", "_"}, {" ", "\\s"}, {"\n", "\\n"}, {"\r", "\\r"},
+        {"é", "é"}, {"漢", "漢"}, {"\u0301", "\\u{301}"}, {"\u200d", "\\u{200d}"}, {"\U0001f469", "\\u{1f469}"},
         {"\U0010ffff", "\\u{10ffff}"},
     };
     struct chars made = {{0}, 0, {{0}}, 0};

@@ -89,12 +89,12 @@ static int loads(void) {
     return closes(opened, answer);
 }
 
-/* Types a line. The bytes that were not used are passed again, and an error is returned only if none were used before. */
+/* Types a line. The bytes that were not used are passed again. Only the first call may return an error. */
 static int types(const char *line) {
     size_t len = strlen(line), used = 0, more = 0;
     int answer = lodvarn_type(s, line, len, &used);
     if (answer > 0 && used < len) answer = lodvarn_type(s, line + used, len - used, &more);
-    return answer < 0 || used + more == len ? answer : NO_MORE;
+    return answer < 0 || used + more == len ? answer : LODVARN_NOTHING;
 }
 
 static int keep_undone(void) {
@@ -197,8 +197,8 @@ static void print_state(char *to, size_t cap) {
     lodvarn_options now = LODVARN_OPTIONS;
     lodvarn_view text;
     must(lodvarn_text(s, &text) > 0 && lodvarn_get_options(s, &now) > 0);
-    snprintf(to, cap, "%.*s %zu %zu %zu %zu %d", (int)text.len, text.at, lodvarn_pos(s), now.limit, lodvarn_record_entries(s),
-             lodvarn_group_level(s), lodvarn_can_redo(s));
+    snprintf(to, cap, "%.*s %zu %zu %zu %zu %d", (int)text.len, text.at, lodvarn_pos(s), now.limit,
+             lodvarn_record_entries(s), lodvarn_group_level(s), lodvarn_can_redo(s));
 }
 
 /* After everything is undone the text is the first one. */
@@ -297,7 +297,8 @@ static int frugal_step(unsigned which) {
     CALL(lodvarn_slice(s, range(1, 2), &view));
     CALL(-!(lodvarn_pos(s) && lodvarn_line_count(s) && lodvarn_record_entries(s)));
     CALL(-!(lodvarn_can_undo(s) && !lodvarn_can_redo(s) && !lodvarn_group_level(s) && !lodvarn_last_was_yank(s)));
-    CALL(-!(lodvarn_ring_count(s) && lodvarn_report_count(s) && lodvarn_version() && lodvarn_answer_name(0) && lodvarn_error_text(0)));
+    CALL(-!(lodvarn_ring_count(s) && lodvarn_report_count(s)));
+    CALL(-!(lodvarn_version() && lodvarn_answer_name(0) && lodvarn_error_text(0)));
     CALL(lodvarn_ring_text(s, 0, &view));
     CALL(lodvarn_ring_clear(s));
     CALL(lodvarn_mark_saved(s));

@@ -372,7 +372,8 @@ static void the_ring_has_what_was_killed_and_kept(void) {
     DOES(DONE, lodvarn_ring_add(s, NULL, 0), "|##né#one #two");
     SEE(lodvarn_record_entries(s) == 2 && lodvarn_yank_pop(s) == LODVARN_NOTHING);
     DOES(DONE, lodvarn_ring_clear(s), "|");
-    SEE(lodvarn_yank(s, 1) == LODVARN_NOTHING && lodvarn_yank_pop(s) == LODVARN_NOTHING && lodvarn_record_entries(s) == 2);
+    SEE(lodvarn_yank(s, 1) == LODVARN_NOTHING && lodvarn_yank_pop(s) == LODVARN_NOTHING);
+    SEE(lodvarn_record_entries(s) == 2);
     open_at("one two|", 64);
     lodvarn_kill(s, WORD_BACK);
     DOES(DONE, lodvarn_ring_clear(s), "one |");
@@ -388,7 +389,8 @@ static void a_saved_text_comes_back(void) {
     open_at("|", 64);
     SEE(!lodvarn_is_saved(s) && lodvarn_mark_saved(s) == LODVARN_DONE && lodvarn_is_saved(s));
     lodvarn_insert(s, 'a', 1);
-    SEE(!lodvarn_is_saved(s) && lodvarn_mark_saved(s) == LODVARN_DONE && lodvarn_is_saved(s) && lodvarn_record_entries(s) == 1);
+    SEE(!lodvarn_is_saved(s) && lodvarn_mark_saved(s) == LODVARN_DONE && lodvarn_is_saved(s));
+    SEE(lodvarn_record_entries(s) == 1);
     lodvarn_insert(s, 'b', 1);
     SEE(!lodvarn_is_saved(s) && lodvarn_record_entries(s) == 2);
     DOES(DONE, lodvarn_undo(s, 1), "a|");
@@ -410,7 +412,8 @@ static void a_saved_text_comes_back(void) {
 
 static void groups_are_closed(void) {
     open_at("|one", 64);
-    SEE(lodvarn_end_group(s) == LODVARN_NOTHING && lodvarn_end_all_groups(s) == LODVARN_NOTHING && !lodvarn_group_level(s));
+    SEE(lodvarn_end_group(s) == LODVARN_NOTHING && lodvarn_end_all_groups(s) == LODVARN_NOTHING);
+    SEE(!lodvarn_group_level(s));
     SEE(lodvarn_begin_group(s) == LODVARN_DONE && lodvarn_record_entries(s) == 1);
     DOES(DONE, lodvarn_change_case(s, LODVARN_UPPERCASE), "ONE|");
     SEE(lodvarn_begin_group(s) == LODVARN_DONE && lodvarn_group_level(s) == 2 && !lodvarn_can_undo(s));
@@ -418,7 +421,8 @@ static void groups_are_closed(void) {
     SEE(lodvarn_can_undo(s) && lodvarn_end_group(s) == LODVARN_DONE && lodvarn_group_level(s) == 1);
     lodvarn_begin_group(s);
     SEE(lodvarn_end_group(s) == LODVARN_NOTHING && lodvarn_group_level(s) == 1);
-    SEE(lodvarn_end_group(s) == LODVARN_DONE && !lodvarn_group_level(s) && lodvarn_record_entries(s) == 9 && !lodvarn_can_redo(s));
+    SEE(lodvarn_end_group(s) == LODVARN_DONE && !lodvarn_group_level(s));
+    SEE(lodvarn_record_entries(s) == 9 && !lodvarn_can_redo(s));
     DOES(DONE, lodvarn_undo(s, 1), "|one");
     SEE(!lodvarn_can_undo(s) && lodvarn_can_redo(s));
     DOES(DONE, lodvarn_redo(s), "ONEb|");
@@ -557,8 +561,8 @@ static int comes_back(void) {
     return 0;
 }
 
-/* The call keeps what was undone if that is chosen, and else it waits on or not; or it does not, and what was undone waits
- * on or is forgotten. */
+/* The call keeps the undone changes if that is chosen, and else they can be redone or not; or it does not, and they can
+ * be redone or are dropped. */
 #define KEEPS(call) UNDONE(call, comes_back() == keeps)
 #define STAYS(call) UNDONE(call, !keeps == (lodvarn_redo(s) == LODVARN_DONE))
 #define PASSES(call) UNDONE(call, lodvarn_can_redo(s) && !comes_back())
@@ -1592,7 +1596,8 @@ static void texts_are_found(void) {
         size_t len = strlen(found[i].text);
         open_at("|", 64);
         must(lodvarn_restart(s, found[i].in, strlen(found[i].in)) > 0);
-        int answer = lodvarn_find(s, found[i].from, found[i].text, len, found[i].direction, &got), is = found[i].at != NO;
+        int answer = lodvarn_find(s, found[i].from, found[i].text, len, found[i].direction, &got);
+        int is = found[i].at != NO;
         if (!SEE(answer == is && got.from == found[i].at && got.to == (is ? found[i].at + len : NO)))
             printf("  in row %zu: %s, %zu to %zu\n", i, lodvarn_answer_name(answer), got.from, got.to);
     }
@@ -1600,7 +1605,10 @@ static void texts_are_found(void) {
 
 /* A movement to a text: what a motion leaves, or NULL if there is no such text, and what a kill does. Nothing lies
  * between the cursor and a text that begins at it. */
-static const struct matched { const char *marked, *text, *moved, *killed; enum lodvarn_direction direction; } matched[] = {
+static const struct matched {
+    const char *marked, *text, *moved, *killed;
+    enum lodvarn_direction direction;
+} matched[] = {
     {"|one two one", "two", "one |two one", "|two one#one ", F},
     {"one |two one", "one", "one two |one", "one |one#two ", F},
     {"one two one|", "two", "one |two one", "one |#two one", B},
@@ -1727,7 +1735,8 @@ static void what_a_terminal_sends_is_typed(void) {
             open_at(row->marked, 64);
             befores[k]();
             lodvarn *twin = twin_of(s);
-            int same = lodvarn_type(s, row->bytes, strlen(row->bytes), &used) == insert_each(twin, row->bytes, row->used);
+            int answer = lodvarn_type(s, row->bytes, strlen(row->bytes), &used);
+            int same = answer == insert_each(twin, row->bytes, row->used);
             if (!see(row->what, same && used == row->used && are_same(s, twin))) printf("  after %zu\n", k);
             lodvarn_insert(s, 'z', 1), lodvarn_insert(twin, 'z', 1);
             see(row->what, are_same(s, twin));
@@ -1808,7 +1817,7 @@ static void saved_bytes_are_lent(void) {
     DOES(DONE, lodvarn_set_pos(s, 0), "|one two");
 }
 
-/* With ample memory no call returns that it is out of memory, however large the ring, the texts, what is copied or a script is. */
+/* With ample memory no call returns NO_MEMORY, however large the ring, the texts, what is copied or a script is. */
 static void great_input_is_met(void) {
     enum { GREAT = 100001, PAIRS = 15000, PAIR = 15, ANSWERS = 17 };
     static char great[GREAT], got[PAIRS * ANSWERS], script[PAIRS * PAIR];
@@ -2068,7 +2077,8 @@ static char *saved(size_t *len) {
 /* Prints all that the reads tell of a session. */
 static void print_all(FILE *to) {
     options = chosen();
-    fprintf(to, "%zu %zu %d %d ", lodvarn_record_entries(s), lodvarn_group_level(s), lodvarn_can_undo(s), lodvarn_can_redo(s));
+    fprintf(to, "%zu %zu ", lodvarn_record_entries(s), lodvarn_group_level(s));
+    fprintf(to, "%d %d ", lodvarn_can_undo(s), lodvarn_can_redo(s));
     fprintf(to, "%d %d ", lodvarn_is_saved(s), lodvarn_last_was_yank(s));
     fprintf(to, "%d %zu %zu ", options.keep_undone, options.limit, options.ring_size);
     fprintf(to, "%d %zu ", options.mode, options.prompt);
@@ -2136,7 +2146,8 @@ static void a_session_is_saved_and_loaded(void) {
     }
 }
 
-/* A ring that gets smaller drops its oldest texts, and one that gets larger has room for more; also once it is loaded. */
+/* A ring that gets smaller drops its oldest texts, and one that gets larger has room for more, also once it is loaded.
+ */
 static void the_ring_is_resized(void) {
     for (int is_loaded = 0; is_loaded < 2; is_loaded++) {
         open_at("|", 64);
