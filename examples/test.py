@@ -13,6 +13,7 @@ import shlex
 import signal
 import subprocess
 import sys
+import unicodedata
 from pathlib import Path
 
 HERE = Path(__file__).resolve().parent
@@ -26,6 +27,34 @@ PYTHON = Path(sys.executable)
 COMMAND = "export m=$(stty -g); ./edit {}; echo ended $?; [ $m = $(stty -g) ] && echo as before; exec cat"
 FAMILY, DIGITS = "\U0001f468\u200d\U0001f469\u200d\U0001f467", "0123456789"
 ENTER, ESC, UP, TAB = keys("Enter"), "\x1b", keys("Up"), keys("Tab")
+
+# The editor without a terminal: keys, and the text that they leave.
+KEYS_CASES = [
+    ("hello C-b C-b x C-a y C-f z C-e !", "yhzelxlo!|"),
+    ("one SPC two M-b M-b M-f !", "one!| two"),
+    ("ab M-RET cd M-< x M-> y", "xab\ncdy|"),
+    ("abcd C-b C-b C-d DEL", "a|d"),
+    ("one SPC two SPC three M-b C-k C-a M-d C-e C-y", " two one|"),
+    ("a SPC b,c C-w", "a |"),
+    ("a SPC b,c M-DEL", "a b,|"),
+    ("one SPC two M-b C-u C-k C-y C-y", "one twoone two|"),
+    ("ab C-w cd C-w C-y M-y", "ab|"),
+    ("ab C-w cd C-w C-y M-y C-_", "|"),
+    ("ab C-t", "ba|"),
+    ("ab C-t C-_", "ab|"),
+    ("one SPC two M-t", "two one|"),
+    ("one SPC two M-t C-_", "one two|"),
+    ("oNE SPC tWO SPC thREE M-< M-c M-l M-u", "One two THREE|"),
+    ("oNE SPC tWO SPC thREE M-< M-c M-l M-u C-_", "One two| thREE"),
+    ("one SPC zwölf,日本 C-_", "one zwölf|"),
+    ("ab C-_ M-_", "ab|"),
+    ("ab C-_ c C-_ C-_", "ab|"),
+    ("日本語 C-a C-]語 x", "日本x|語"),
+    ("abab C-a C-]a C-]a", "ab|ab"),
+    ("a M-RET b M-< C-]b", "|a\nb"),
+    ("abcdefghijklmnopqrstuvwxyz", "(refused: LODVARN_NO_ROOM) abcdefghijklmnopqrstuvwx|"),
+    ('"ab RET C-y', "accepted ab|, and then |"),
+]
 
 # The prompt. The files in the folder n: no control characters and no bytes that are no UTF-8 go into a line.
 NAMES = [".hid", "a\x1b", "a b", "a\u009b", "c/d", os.fsdecode(b"c\xff")]
@@ -230,6 +259,17 @@ def run_case(terminal, what, given, rows, cursor, rings=False):
     return seen == wanted
 
 
+def run_keys(program):
+    """Whether each list of keys leads to its text."""
+    for given, text in KEYS_CASES:
+        wide = sum(unicodedata.east_asian_width(c) == "W" for c in given)
+        wanted = f"{given:<{max(24 - wide, len(given) + 1)}}{text}\n"
+        shown = subprocess.run([program], input=given, stdout=subprocess.PIPE, text=True, timeout=PATIENCE).stdout
+        if shown != wanted:
+            print(f"FAILED: wanted {wanted!r}\n  saw {shown!r}")
+        yield shown == wanted
+
+
 def run_prompt(program):
     """The outcomes of the prompt."""
     for case in PROMPT_CASES:
@@ -287,10 +327,11 @@ def run_form_field(program):
 
 
 def main():
-    runs = {"prompt": run_prompt, "modal": run_modal, "calculator": run_calculator, "form_field": run_form_field}
+    runs = {"keys": run_keys, "prompt": run_prompt, "modal": run_modal, "calculator": run_calculator}
+    runs["form_field"] = run_form_field
     names = sys.argv[1:] or [*runs]
     os.environ["PYTHONPATH"] = os.pathsep.join([str(HERE.parent / "python"), str(HERE)])
-    with built(*{"prompt", "form_field"}.intersection(names)) as programs:
+    with built(*{"keys", "prompt", "form_field"}.intersection(names)) as programs:
         outcomes = [outcome for name in names for outcome in runs[name](programs.get(name))]
     print(f"{outcomes.count(True)} passed, {outcomes.count(False)} failed")
     return 0 if all(outcomes) else 1

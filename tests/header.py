@@ -2,13 +2,14 @@
 """What include/lodvarn.h declares. Other programs import it from tests/, or ask for a list of it, a line each:
 
     python3 tests/header.py version      the version, as 0.1.0
-    python3 tests/header.py calls        the names of the calls that the library has
+    python3 tests/header.py exports      the names of the functions that the library has
     python3 tests/header.py example      the program that its first comment begins with
-    python3 tests/header.py stand-in     a source of C that defines each call, and an object of each enum
+    python3 tests/header.py stand-in     a source of C that defines each of these, and an object of each enum
 
 - blocks(): the comments that begin a line, as plain text, each with the code after it. One without code begins a group,
   and its first sentence is the group's title.
-- calls(): what the library has. functions(): these, and the functions that the header itself defines.
+- calls(): what the header declares. functions(): these, and the functions that it defines. exports(): what the library
+  has: the calls, and the functions that make movements, which the header defines too.
 - structs(), enums(): their members. defaults(): the options as LODVARN_OPTIONS has them.
 - names(): all names that begin with lodvarn_ or LODVARN_.
 """
@@ -21,7 +22,7 @@ from typing import NamedTuple
 
 HEADER = Path(__file__).resolve().parent.parent / "include/lodvarn.h"
 COMMENT = re.compile(r"^/\*(.*?)\*/\n", re.M | re.S)
-FUNCTION = re.compile(r"^(static inline )?(\w[\w ]*[ *])(\w+)\(([^)]*)\)(?:;| \{)", re.M)
+FUNCTION = re.compile(r"^(static inline )?(?:LODVARN_CHECK_ )?(\w[\w ]*[ *])(\w+)\(([^)]*)\)(?:;| \{)", re.M)
 STRUCT = re.compile(r"^typedef struct \w+ \{(.*?)^\} (\w+);", re.M | re.S)
 ENUM = re.compile(r"^enum (\w+) \{(.*?)^\};", re.M | re.S)
 NUMBER = re.compile(r"(\w+) = (-?\d+)")
@@ -88,8 +89,13 @@ def functions():
 
 
 def calls():
-    """The functions that the library has."""
+    """The functions that the header does not define."""
     return [it for it in functions() if not it.is_inline]
+
+
+def exports():
+    """The functions that the library has."""
+    return [it for it in functions() if not it.name.endswith("_")]
 
 
 @cache
@@ -118,9 +124,12 @@ def names():
 
 def stand_in():
     """A library in C that has the calls and the types of the header, and does nothing."""
+    inline = [it.name for it in exports() if it.is_inline]
+    yield from (f"#define {name} {name}_" for name in inline)
     yield f'#include "{HEADER.name}"'
+    yield from (f"#undef {name}" for name in inline)
     yield from (f"enum {it} of_{it};" for it in enums())
-    for it in calls():
+    for it in exports():
         given = ", ".join(f"{kind} {name}" for kind, name in it.arguments) or "void"
         yield f"{it.result} {it.name}({given}) {{ __builtin_trap(); }}"
 
@@ -132,7 +141,7 @@ def example():
 
 LISTS = {
     "version": lambda: [version()],
-    "calls": lambda: [it.name for it in calls()],
+    "exports": lambda: [it.name for it in exports()],
     "example": example,
     "stand-in": stand_in,
 }

@@ -258,8 +258,20 @@ CASES += [
     ("as much as fits", ["ab", Paste("x" * (LIMIT - 2))], ["x" * 60] * 19 + ["x" * 18], (19, 18)),
 ]
 
+# Searches: C-s and C-r search for what is typed next, and again for that.
+CASES += [
+    ("a text ahead", ["one two three", keys("C-a C-s"), "th", keys("C-k")], ["> one two"], (0, 10)),
+    ("and again", ["one two three", keys("C-a C-s"), "t", keys("C-s C-d")], ["> one two hree"], (0, 10)),
+    ("back", ["one two three", keys("C-r"), "t", keys("C-r C-d")], ["> one wo three"], (0, 6)),
+    ("to both sides", ["a-b-c-d", keys("C-a C-s"), "-", keys("C-s C-s C-r C-d")], ["> a-bc-d"], (0, 5)),
+    ("of several bytes", ["日本 日本", keys("C-a C-s"), "本", keys("C-s"), keys("C-d")], ["> 日本 日"], (0, 9)),
+    ("in another row", ["one", keys("M-Enter"), "two", keys("C-r"), "ne", keys("C-e"), "x"], ["> onex", "two"], (0, 6)),
+    ("by two reads", ["日日", keys("C-a C-s"), b"\xe6\x97", PAUSED, b"\xa5", keys("C-s C-d")], ["> 日"], (0, 4)),
+]
+
 # What the bell tells.
 RINGING = [
+    ("a text that is not there", ["one", keys("C-s"), "o", keys("C-r C-k")], [">"], (0, 2)),
     ("a paste that is too long", ["ab", Paste("x" * (LIMIT - 1)), "c"], ["> abc"], (0, 5)),
     ("by far", ["ab", keys("Left"), Paste("x" * (2 * LIMIT)), "c"], ["> acb"], (0, 4)),
     ("a letter too many", [Paste("x" * LIMIT), "y", keys("Left")], ["x" * 60] * 19 + ["x" * 18], (19, 17)),

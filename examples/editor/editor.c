@@ -24,22 +24,21 @@ enum {
 };
 
 static const char prompt[] = "> ";
-static const uint16_t prompt_columns = 2;
+static const size_t prompt_columns = 2;
 
 /* A screen of that many columns, where a tab is drawn as a blank. */
-static lodvarn_screen screen_of(uint16_t columns) {
-    return (lodvarn_screen){.columns = columns, .prompt = prompt_columns, .mode = LODVARN_UNICODE};
+static lodvarn_screen screen_of(size_t columns) {
+    lodvarn_screen screen = LODVARN_SCREEN(columns);
+    screen.prompt = prompt_columns;
+    return screen;
 }
 
 /* The screen. Prompt and text make rows, as lodvarn_cell counts them, up to the row last. Those from top to bottom are
  * shown on a screen of that size. */
-struct view {
-    size_t top, bottom, last;
-    uint16_t columns, height;
-};
+struct view { size_t top, bottom, last, columns, height; };
 
-/* A place of the text and where it stands. */
-struct spot { size_t place, row, column; };
+/* An offset of the text and where it stands. */
+struct spot { size_t offset, row, column; };
 
 struct editor {
     lodvarn *session;
@@ -50,7 +49,7 @@ struct editor {
     size_t len, size;
     struct view shown;  /* of no height if nothing is shown */
     struct spot cursor; /* the terminal's, in rows of the text */
-    unsigned char input[4096];
+    char input[4096];
     size_t input_len, input_at;
     char pasted[LIMIT], output[65536];
     const char *path; /* of the file that is edited, or NULL */
@@ -125,16 +124,13 @@ static void hear_signals(struct editor *e) {
 
 /* The drawing. */
 
-/* Keeps the text, since what the session lends is gone after the next edit. */
+/* Copies the text, since what the session lends is gone after the next edit. */
 static void read_text(struct editor *e) {
-    lodvarn_view text;
-    lodvarn_text(e->session, &text);
-    if (text.len >= e->size) {
+    while (lodvarn_text_copy(e->session, e->text, e->size, &e->len) == LODVARN_TOO_SMALL) {
         free(e->text);
-        e->text = malloc(e->size = 2 * text.len + 64);
+        e->text = malloc(e->size = 2 * e->len + 64);
         if (!e->text) end_without_memory(e);
     }
-    memcpy(e->text, text.at, e->len = text.len);
 }
 
 /* Begins the next row. Before that it erases what is left of the last one, if that is not full. */
@@ -166,17 +162,17 @@ static void draw_cluster(struct editor *e, const char *bytes, lodvarn_cluster it
     if (len > 1 && at->column < view->columns) printf("\x1b[%zuG", at->column + 1);
 }
 
-/* Draws the text from a spot up to a place, and erases what is left of the row there, or of all at the text's end. */
+/* Draws the text from a spot up to an offset, and erases what is left of the row there, or of all at the text's end. */
 static void draw(struct editor *e, struct spot at, size_t end, const struct view *view) {
     if (view->bottom < at.row) return;
     if (at.row < view->top) go_to(e, view->top, 0);
     else go_to(e, at.row, at.column);
-    if (at.place == 0) {
+    if (at.offset == 0) {
         if (view->top == 0) fputs(prompt, stdout);
         at.column = prompt_columns;
     }
-    for (lodvarn_cluster it; at.place < end && lodvarn_cluster_at(e->session, at.place, &it) > 0; at.place = it.to)
-        draw_cluster(e, e->text + at.place, it, &at, view);
+    for (lodvarn_cluster it; at.offset < end && lodvarn_cluster_at(e->session, at.offset, &it) > 0; at.offset = it.to)
+        draw_cluster(e, e->text + at.offset, it, &at, view);
     if (end == e->len && at.column >= view->columns) begin_row(e, &at, view);
     if (at.row < view->top || view->bottom < at.row || at.column >= view->columns) return;
     /* What is erased from the screen's first cell on would go into the scrollback of some terminals. */
@@ -184,18 +180,18 @@ static void draw(struct editor *e, struct spot at, size_t end, const struct view
     fputs(takes_below ? "\x1b[J" : "\x1b[K", stdout);
 }
 
-/* Where to begin if the text has changed from a place on: a cluster before, since what comes may join that one, and not
- * at the left edge of a row that is wrapped, since what comes may fit in the row above. */
-static struct spot spot_before(struct editor *e, size_t place, uint16_t columns) {
+/* Where to begin if the text has changed from an offset on: a cluster before, since the new text may join that one, and
+ * not at the left edge of a row that is wrapped, since the new text may fit in the row above. */
+static struct spot spot_before(struct editor *e, size_t offset, size_t columns) {
     lodvarn_screen screen = screen_of(columns);
     lodvarn_position cell = {0, 0};
     lodvarn_cluster it;
     do {
-        if (lodvarn_cluster_before(e->session, place, &it) <= 0 || it.from == 0) return (struct spot){0, 0, 0};
-        place = it.from;
-        lodvarn_cell(&screen, place, e->text, place, &cell);
-    } while (cell.column == 0 && e->text[place - 1] != '\n');
-    return (struct spot){place, cell.line, cell.column};
+        if (lodvarn_cluster_before(e->session, offset, &it) <= 0 || it.from == 0) return (struct spot){0, 0, 0};
+        offset = it.from;
+        lodvarn_cell(&screen, offset, e->text, offset, &cell);
+    } while (cell.column == 0 && e->text[offset - 1] != '\n');
+    return (struct spot){offset, cell.line, cell.column};
 }
 
 /* What of the text should be shown on a screen of that size, and the spot of the cursor. */
@@ -213,12 +209,12 @@ static struct view view_of(struct editor *e, struct winsize size, struct spot *c
 
 /* How many rows lower the cursor is once the terminal has got narrower. Most terminals then wrap each row that no
  * longer fits. A wider one joins none, since each row was begun by a newline. */
-static size_t rows_wrapped(const struct editor *e, uint16_t columns) {
+static size_t rows_wrapped(const struct editor *e, size_t columns) {
     lodvarn_screen before = screen_of(e->shown.columns), now = screen_of(columns);
     size_t wrapped = 0;
     for (size_t row = e->shown.top; row <= e->cursor.row; row++) {
         lodvarn_position start = {row, 0}, end = {row + 1, 0};
-        size_t from = 0, to = 0, on = 0, pos = e->cursor.place;
+        size_t from = 0, to = 0, on = 0, pos = e->cursor.offset;
         lodvarn_offset_at(&before, start, e->text, e->len, &from);
         lodvarn_offset_at(&before, end, e->text, e->len, &to);
         /* The cursor stands on a cluster, with which it may be wrapped. */
@@ -255,11 +251,17 @@ static void redraw(struct editor *e) {
         draw(e, spot_before(e, change.from, view.columns), newline ? (size_t)(newline - e->text) : e->len, &view);
     }
     go_to(e, cursor.row, cursor.column);
-    e->cursor.place = cursor.place;
+    e->cursor.offset = cursor.offset;
     if (e->rings) putchar('\a');
     e->rings = 0;
     fflush(stdout);
     e->shown = view;
+}
+
+/* Whether the bytes begin with a control character: one of one byte, or 0xc2 and a byte below 0xa0. */
+static int is_control(const char *bytes, size_t len) {
+    unsigned char byte = (unsigned char)bytes[0], next = len > 1 ? (unsigned char)bytes[1] : 0;
+    return byte < ' ' || byte == 0x7f || (byte == 0xc2 && 0x80 <= next && next < 0xa0);
 }
 
 /* The input. All that waits is read at once and drawn once: the editor draws only if it has to wait for a byte. */
@@ -277,55 +279,50 @@ static int await_input(int milliseconds, const sigset_t *mask) {
     return ready < 0 && errno != EINTR ? 1 : ready;
 }
 
-/* The next byte, END at the end of input or of the editor, or LATE if none comes in time. */
-static int next_byte(struct editor *e, int milliseconds) {
-    if (e->input_at == e->input_len) {
-        int ready = await_input(0, NULL);
-        while (ready <= 0 && !ended_by) {
-            redraw(e);
-            ready = await_input(milliseconds, &e->unblocked);
-            if (ready == 0) return LATE;
-            if (goes_on && !ended_by) enter_raw(e);
-            goes_on = 0;
-        }
-        ssize_t len = ended_by ? 0 : read(0, e->input, sizeof e->input);
-        if (len <= 0) return END;
-        e->input_len = (size_t)len;
-        e->input_at = 0;
+/* Reads more input after what is left of it. Returns 0, END at the end of input or of the editor, or LATE if none comes
+ * in time. */
+static int read_more(struct editor *e, int milliseconds) {
+    int ready = await_input(0, NULL);
+    while (ready <= 0 && !ended_by) {
+        redraw(e);
+        ready = await_input(milliseconds, &e->unblocked);
+        if (ready == 0) return LATE;
+        if (goes_on && !ended_by) enter_raw(e);
+        goes_on = 0;
     }
-    return e->input[e->input_at++];
+    e->input_len -= e->input_at;
+    memmove(e->input, e->input + e->input_at, e->input_len);
+    e->input_at = 0;
+    ssize_t len = ended_by ? 0 : read(0, e->input + e->input_len, sizeof e->input - e->input_len);
+    if (len <= 0) return END;
+    e->input_len += (size_t)len;
+    return 0;
+}
+
+/* The next byte, or END or LATE. */
+static int next_byte(struct editor *e, int milliseconds) {
+    int ended = e->input_at == e->input_len ? read_more(e, milliseconds) : 0;
+    return ended ? ended : (unsigned char)e->input[e->input_at++];
 }
 
 /* Lets the last byte be read again. */
 static void put_back(struct editor *e) { e->input_at--; }
 
-struct character {
-    uint32_t number;
-    size_t len;
-    char bytes[4];
-};
-
-/* Reads the rest of the character that begins with this byte. Returns 0 if the bytes are not UTF-8, or a control
- * character. */
-static int read_character(struct editor *e, int byte, int milliseconds, struct character *c) {
-    static const uint32_t least[] = {0, 0x20, 0xa0, 0x800, 0x10000};
-    size_t len = byte < 0x7f ? 1 : byte < 0xc2 ? 0 : byte < 0xe0 ? 2 : byte < 0xf0 ? 3 : byte < 0xf5 ? 4 : 0;
-    *c = (struct character){len > 1 ? (uint32_t)byte & (0x7fu >> len) : (uint32_t)byte, 1, {(char)byte, 0, 0, 0}};
-    while (c->len < len) {
-        int next = next_byte(e, milliseconds);
-        if ((next & ~0x3f) != 0x80) {
-            if (next >= 0) put_back(e);
-            return 0;
-        }
-        c->number = c->number << 6 | ((uint32_t)next & 0x3f);
-        c->bytes[c->len++] = (char)next;
-    }
-    return len > 0 && c->number >= least[len] && c->number < 0x110000 && c->number >> 11 != 0xd800 >> 11;
-}
-
-/* What keys do. The number comes from the table of keys. The bell rings if nothing went in, or a call was refused. */
+/* What keys do. The number comes from the table of keys. The bell rings if nothing was inserted, or at an error. */
 
 static void insert(struct editor *e, uint32_t c) { e->rings |= lodvarn_insert(e->session, c, 1) <= 0; }
+
+/* Types the text that waits, up to a control character. A byte that is not UTF-8 is dropped, and so are those of a
+ * character whose rest does not come in time, or that has no room. */
+static void type(struct editor *e) {
+    const char *bytes = e->input + e->input_at;
+    size_t len = 0, waiting = e->input_len - e->input_at, used = 1;
+    while (len < waiting && !is_control(bytes + len, waiting - len)) len++;
+    int answer = lodvarn_type(e->session, bytes, len, &used);
+    if (answer == LODVARN_NOTHING && len == waiting && read_more(e, WAIT) == 0) return;
+    e->rings |= answer < 0 && answer != LODVARN_NOT_UTF8;
+    e->input_at += used;
+}
 
 static void delete_or_end(struct editor *e, uint32_t n) {
     lodvarn_view text;
@@ -338,7 +335,7 @@ static void yank(struct editor *e, uint32_t older) {
     e->rings |= (older ? lodvarn_yank_pop(e->session) : lodvarn_yank(e->session, 1)) <= 0;
 }
 
-enum { CHARS, WORDS };
+enum { CHARS, WORDS, BACK = 0x12, AHEAD = 0x13 };
 
 static void change(struct editor *e, uint32_t what) {
     int answer = what == CHARS ? lodvarn_transpose_chars(e->session)
@@ -350,17 +347,27 @@ static void undo(struct editor *e, uint32_t again) {
     e->rings |= (again ? lodvarn_redo(e->session) : lodvarn_undo(e->session, 1)) < 0;
 }
 
-/* Adds bytes to what is pasted. Where they are more than a text may have, only their number is kept. */
+/* Adds bytes to what is pasted. If they are more than a text may have, only their number is kept. */
 static void add_pasted(struct editor *e, const char *bytes, size_t count, size_t *len) {
     if (*len + count <= LIMIT) memcpy(e->pasted + *len, bytes, count);
     *len += count;
 }
 
-/* Puts in a paste as one text, without its control characters. Terminals send its newlines as "\r". What begins like the
- * mark of its end, and is not, is text too. */
+/* Types a paste in which some bytes are not UTF-8, without these. One undo takes it back. */
+static int type_pasted(struct editor *e, size_t len) {
+    int answer = LODVARN_DONE;
+    lodvarn_begin_group(e->session);
+    for (size_t at = 0, used; at < len && answer != LODVARN_NO_ROOM; at += used) {
+        used = 1;
+        answer = lodvarn_type(e->session, e->pasted + at, len - at, &used);
+    }
+    return answer == LODVARN_NO_ROOM ? (lodvarn_abandon_group(e->session), answer) : lodvarn_end_group(e->session);
+}
+
+/* Inserts a paste as one text, without its control characters. Terminals send its newlines as "\r". What begins like
+ * the mark of its end, and is not, is text too. */
 static void paste(struct editor *e, uint32_t unused) {
     static const char mark[] = "\x1b[201~";
-    struct character c;
     size_t len = 0, marked = 0;
     (void)unused;
     for (int byte, last = 0; mark[marked] && (byte = next_byte(e, FOR_EVER)) >= 0; last = byte) {
@@ -370,11 +377,33 @@ static void paste(struct editor *e, uint32_t unused) {
         }
         if (marked > 1) add_pasted(e, mark + 1, marked - 1, &len);
         marked = byte == mark[0];
+        char character = (char)byte;
         if (byte == '\r' || (byte == '\n' && last != '\r')) add_pasted(e, "\n", 1, &len);
-        else if (byte == '\t') add_pasted(e, "\t", 1, &len);
-        else if (read_character(e, byte, FOR_EVER, &c)) add_pasted(e, c.bytes, c.len, &len);
+        else if (last == 0xc2 && 0x80 <= byte && byte < 0xa0) len--; /* a control character of two bytes */
+        else if (byte == '\t' || !is_control(&character, 1)) add_pasted(e, &character, 1, &len);
     }
-    if (!mark[marked]) e->rings |= len > LIMIT || lodvarn_paste(e->session, e->pasted, len, 1) <= 0;
+    if (mark[marked]) return;
+    int answer = len > LIMIT ? LODVARN_NO_ROOM : lodvarn_paste(e->session, e->pasted, len, 1);
+    if (answer == LODVARN_NOT_UTF8) answer = type_pasted(e, len);
+    e->rings |= answer <= 0;
+}
+
+/* Moves to the text that is typed next, which C-s and C-r search for again. Any other key ends the search. */
+static void search(struct editor *e, uint32_t direction) {
+    char text[64];
+    size_t len = 0, from = lodvarn_pos(e->session);
+    lodvarn_range found = {from, from};
+    int byte;
+    while ((byte = next_byte(e, FOR_EVER)) == AHEAD || byte == BACK
+           || (byte >= ' ' && byte != 0x7f && len < sizeof text)) {
+        if (byte == AHEAD) direction = LODVARN_FORWARD, from = found.to;
+        else if (byte == BACK) direction = LODVARN_BACKWARD, from = found.from;
+        else text[len++] = (char)byte;
+        int answer = lodvarn_find(e->session, from, text, len, direction, &found);
+        if (answer > 0) lodvarn_set_pos(e->session, found.from);
+        e->rings |= answer == LODVARN_NOTHING && len > 0;
+    }
+    if (byte >= 0) put_back(e);
 }
 
 static void clear_screen(struct editor *e, uint32_t unused) {
@@ -403,17 +432,15 @@ static int open_file(struct editor *e, lodvarn_options options) {
     size_t len = 0;
     char *text = kept_read(e->path, &len);
     int can_open = text || errno == ENOENT;
-    for (size_t i = 0; can_open && i < len; i++) {
-        unsigned char byte = (unsigned char)text[i], next = i + 1 < len ? (unsigned char)text[i + 1] : ' ';
-        can_open = byte < ' ' ? strchr("\t\n", byte) && byte : byte != 0x7f && (byte != 0xc2 || next >= 0xa0);
-    }
+    for (size_t i = 0; can_open && i < len; i++)
+        can_open = text[i] == '\t' || text[i] == '\n' || !is_control(text + i, len - i);
     if (options.limit < len) options.limit = len;
     snprintf(e->kept, sizeof e->kept, "%.*s.%s.undo", (int)(name - e->path), e->path, name);
     if (can_open && (e->session = kept_load(e->kept, options))) lodvarn_text(e->session, &kept);
     if (kept.len != len || (len && memcmp(kept.at, text, len))) lodvarn_close(&e->session);
-    if (can_open && !e->session) lodvarn_open(&e->session, &options, text, len);
+    if (!e->session && can_open) can_open = lodvarn_open(&e->session, &options, text, len) > 0;
     free(text);
-    return e->session != NULL;
+    return can_open;
 }
 
 static void write_file(struct editor *e, uint32_t unused) {
@@ -433,7 +460,7 @@ static void end_text(struct editor *e, uint32_t is_accepted) {
     if (e->path) return;
     lodvarn_move(e->session, lodvarn_to_text_end());
     redraw(e);
-    if (is_accepted) printf("\n=> %.*s\n", (int)e->len, e->text);
+    if (is_accepted) printf("\n=> %s\n", e->text);
     else fputs("^C\n", stdout);
     if (lodvarn_restart(e->session, "", 0) < 0) end_without_memory(e);
     forget_screen(e);
@@ -470,6 +497,8 @@ static const struct key {
     {{"\x0c"}, "clear-screen", .does = clear_screen},
     {{"\x0e", "\x1b[B"}, "to the line below", .call = lodvarn_move, .by = line_down},
     {{"\x10", "\x1b[A"}, "to the line above", .call = lodvarn_move, .by = line_up},
+    {{"\x12"}, "search back for a text", .does = search, .number = LODVARN_BACKWARD},
+    {{"\x13"}, "search ahead for a text", .does = search, .number = LODVARN_FORWARD},
     {{"\x14"}, "transpose-chars", .does = change, .number = CHARS},
     {{"\x15"}, "unix-line-discard", .call = lodvarn_kill, .by = lodvarn_to_line_start},
     {{"\x17"}, "unix-word-rubout", .call = lodvarn_kill, .by = big_word_back},
@@ -510,15 +539,14 @@ static void pass_over(struct editor *e, const char *bytes, size_t len) {
     for (; byte >= 0 && !(ends && 0x40 <= byte && byte <= 0x7e); ends = 1) byte = next_byte(e, WAIT);
 }
 
-/* Reads a character and inserts it, or a key, and does what it says. What is cut short or not UTF-8 is skipped. Returns
- * 0 if the editor should end. */
+/* Types a text, or reads a key and does what it says. Returns 0 if the editor should end. */
 static int take_key(struct editor *e) {
-    struct character c;
     char bytes[8];
     size_t len = 0;
     int byte = next_byte(e, FOR_EVER);
     if (byte >= 0x20 && byte != 0x7f) {
-        if (read_character(e, byte, WAIT, &c)) insert(e, c.number);
+        put_back(e);
+        type(e);
         return 1;
     }
     while (byte >= 0) {

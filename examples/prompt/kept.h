@@ -18,7 +18,7 @@
 #include <sys/stat.h>
 #include <unistd.h>
 
-/* Reads a whole file; free frees its bytes. Returns NULL if it can't be read, or memory is out. */
+/* Reads a whole file; free frees its bytes. Returns NULL if it can't be read, or there is no memory. */
 static inline char *kept_read(const char *path, size_t *len) {
     int file = open(path, O_RDONLY);
     if (file < 0) return NULL;
@@ -33,7 +33,7 @@ static inline char *kept_read(const char *path, size_t *len) {
     return bytes;
 }
 
-/* Writes a whole file of that mode beside the old one, PATH.new, which then takes its place: so one of the two is whole
+/* Writes a whole file of that mode beside the old one, PATH.new, which then replaces it: so one of the two is whole
  * whenever the process ends. Returns whether it could. */
 static inline bool kept_write(const char *path, mode_t mode, const char *bytes, size_t len) {
     char beside[4096];
@@ -58,12 +58,8 @@ static inline lodvarn *kept_load(const char *path, lodvarn_options options) {
 /* Saves a session to a file that only its owner may read, since the ring has what was killed. Returns whether it
  * could. */
 static inline bool kept_save(const char *path, lodvarn *s) {
-    size_t len = 0;
-    lodvarn_save(s, NULL, 0, &len);
-    char *bytes = malloc(len);
-    bool is_saved = bytes && lodvarn_save(s, bytes, len, &len) > 0 && kept_write(path, 0600, bytes, len);
-    free(bytes);
-    return is_saved;
+    lodvarn_view bytes;
+    return lodvarn_save(s, &bytes) > 0 && kept_write(path, 0600, bytes.at, bytes.len);
 }
 
 #endif

@@ -19,10 +19,10 @@ enum {
     AHEAD = 8     /* columns from the cursor to the right edge, in a row that slides */
 };
 
-/* Keys. That of a character is the character; META(c) is c after an escape. */
+/* Keys. That of a character is its first byte; META(c) is c after an escape. */
 #define CONTROL(letter) ((letter)&31)
-#define META(c) (0x200000 + (c))
-enum { ESCAPE = 0x1b, DELETE = 0x7f, UP = 0x400000, DOWN, OTHER, END };
+#define META(c) (0x1000 + (c))
+enum { ESCAPE = 0x1b, DELETE = 0x7f, UP = 0x2000, DOWN, OTHER };
 
 static lodvarn *s;
 static struct termios outside, raw;  /* the terminal's modes for commands, and those for keys */
@@ -30,10 +30,12 @@ static char lines[LINES][LIMIT + 1]; /* the one that is typed, and those before 
 static size_t shown;                 /* which of them the session has */
 static const char *path;             /* of the file that keeps the session, or NULL */
 
-static lodvarn_view text(void) {
-    lodvarn_view view = {"", 0};
-    lodvarn_text(s, &view);
-    return view;
+/* Copies the text, and ends it with a NUL. The next call overwrites the copy. */
+static char *text(void) {
+    static char copied[LIMIT + 1];
+    size_t len;
+    if (lodvarn_text_copy(s, copied, sizeof copied, &len) < 0) *copied = 0;
+    return copied;
 }
 
 static size_t columns(void) {
@@ -44,15 +46,15 @@ static size_t columns(void) {
 
 /* Draws one row, which the terminal cuts at its right edge. It slides to keep the cursor some columns before that. */
 static void draw(void) {
-    lodvarn_screen endless = {.columns = UINT16_MAX, .mode = LODVARN_UNICODE};
+    lodvarn_screen endless = LODVARN_SCREEN(65535);
     lodvarn_position cursor = {0, 0}, left = {0, 0};
-    lodvarn_view line = text();
+    const char *line = text();
     size_t pos = lodvarn_pos(s), from = 0, width = 0;
     lodvarn_cursor_position(s, &cursor);
     if (cursor.column + AHEAD > columns()) left.column = cursor.column + AHEAD - columns();
-    lodvarn_offset_at(&endless, left, line.at, pos, &from);
-    lodvarn_width(LODVARN_UNICODE, line.at + from, pos - from, &width);
-    dprintf(1, "\r\x1b[?7l$ %.*s\x1b[K\x1b[?7h\r\x1b[%zuC", (int)(line.len - from), line.at + from, 2 + width);
+    lodvarn_offset_at(&endless, left, line, pos, &from);
+    lodvarn_width(LODVARN_UNICODE, line + from, pos - from, &width);
+    dprintf(1, "\r\x1b[?7l$ %s\x1b[K\x1b[?7h\r\x1b[%zuC", line + from, 2 + width);
 }
 
 /* Ends at a hang-up, and leaves the terminal as it was. A handler may make these calls. */
@@ -67,7 +69,7 @@ static void keep_session(void) {
 
 /* Keeps what is typed, if no line of before is shown. */
 static void keep_typed(void) {
-    if (shown == 0) snprintf(lines[0], sizeof lines[0], "%.*s", (int)text().len, text().at);
+    if (shown == 0) strcpy(lines[0], text());
 }
 
 /* Shows the n-th line back, or for 0 what was typed. The session begins anew with it, so no undo leads out of it. */
@@ -115,17 +117,27 @@ static int run_line(void) {
     return begin_line();
 }
 
-/* Types a character. All that is typed with no other key between is one undo, as in GNU readline. */
-static int type(uint32_t c, bool goes_on) {
+/* Types a character, and reads its other bytes as long as lodvarn_type waits for them. All that is typed with no other
+ * key between is one undo, as in GNU readline. */
+static int type(int first, bool goes_on) {
+    char bytes[4] = {first};
+    size_t len = 1, used;
+    int byte = first;
     if (!goes_on || lodvarn_reopen_group(s) <= 0) lodvarn_begin_group(s);
-    int answer = lodvarn_insert(s, c, 1);
+    int answer = lodvarn_type(s, bytes, len, &used);
+    while (answer == LODVARN_NOTHING && (byte = getchar()) != EOF) {
+        bytes[len++] = byte;
+        if (first == 0xc2 && 0x80 <= byte && byte < 0xa0) break; /* a control character */
+        answer = lodvarn_type(s, bytes, len, &used);
+    }
     lodvarn_end_group(s);
+    if (answer == LODVARN_NOT_UTF8 && len > 1) ungetc(byte, stdin); /* it begins another key */
     return answer;
 }
 
 /* Returns the word before the cursor: up to a character that parts words, and is not quoted. */
 static lodvarn_range word_before_cursor(void) {
-    const char *at = text().at;
+    const char *at = text();
     lodvarn_range word = {lodvarn_pos(s), lodvarn_pos(s)};
     for (; word.from > 0; word.from--) {
         bool is_quoted = word.from > 1 && at[word.from - 2] == '\\';
@@ -151,12 +163,14 @@ static size_t quote(const char *name, char *quoted) {
  * stays open, for the next key to abandon or to end. */
 static int complete(void) {
     static size_t next;
-    char pattern[LIMIT + 2], name[LIMIT];
+    char pattern[LIMIT + 2], name[LIMIT], *line;
     int answer = LODVARN_NOTHING;
     glob_t found = {0};
     if (lodvarn_abandon_group(s) <= 0) next = 0;
     lodvarn_range word = word_before_cursor();
-    snprintf(pattern, sizeof pattern, "%.*s*", (int)(word.to - word.from), text().at + word.from);
+    line = text();
+    line[word.to] = 0;
+    snprintf(pattern, sizeof pattern, "%s*", line + word.from);
     if (glob(pattern, GLOB_MARK, NULL, &found) == 0) lodvarn_begin_group(s);
     for (size_t n = 0; n < found.gl_pathc && answer <= 0; n++) {
         size_t len = quote(found.gl_pathv[next % found.gl_pathc], name);
@@ -169,49 +183,32 @@ static int complete(void) {
 }
 
 /* Reads what comes after an escape. */
-static uint32_t read_escape(void) {
+static int read_escape(void) {
     int c = getchar();
     if (c == ESCAPE) return read_escape();
-    if (c != '[' && c != 'O') return META((uint32_t)c);
+    if (c != '[' && c != 'O') return META(c);
     do {
         c = getchar();
     } while (' ' <= c && c < '@'); /* the numbers of a key */
     return c == 'A' ? UP : c == 'B' ? DOWN : OTHER;
 }
 
-/* Reads the rest of a character, whose first byte says how many more there are. Returns OTHER if they are no UTF-8. */
-static uint32_t read_character(int first) {
-    static const uint32_t least[] = {0, 0x80, 0x800, 0x10000};
-    int more = first < 0x80 ? 0 : first < 0xe0 ? 1 : first < 0xf0 ? 2 : 3;
-    uint32_t c = first & (more == 0 ? 0x7f : 0x3f >> more);
-    for (int n = 0; n < more; n++) {
-        int byte = getchar();
-        if ((byte & 0xc0) != 0x80) {
-            ungetc(byte, stdin);
-            return OTHER;
-        }
-        c = c << 6 | (byte & 0x3f);
-    }
-    return c < least[more] ? OTHER : c;
-}
-
-static uint32_t read_key(void) {
+static int read_key(void) {
     int first = getchar();
-    if (first == EOF) return END;
-    return first == ESCAPE ? read_escape() : read_character(first);
+    return first == ESCAPE ? read_escape() : first;
 }
 
-static bool is_text(uint32_t key) {
-    return (' ' <= key && key < DELETE) || (0xa0 <= key && key <= 0x10ffff);
+static bool is_text(int key) {
+    return (' ' <= key && key < DELETE) || (0x80 <= key && key <= 0xff);
 }
 
 /* Does what a key says, or types the character that it is. */
-static int press(uint32_t key) {
+static int press(int key) {
     static bool was_text;
     bool goes_on = was_text;
     was_text = is_text(key);
     if (key == CONTROL('g')) return lodvarn_abandon_group(s);
-    if (key != '\t' && lodvarn_group_level(s) > 0) lodvarn_end_group(s); /* any other key keeps the name that is tried */
+    if (key != '\t' && lodvarn_group_level(s) > 0) lodvarn_end_group(s); /* other keys keep the name that is tried */
     if (is_text(key)) return type(key, goes_on);
     switch (key) {
     case CONTROL('a'): return lodvarn_move(s, lodvarn_to_line_start());
@@ -253,7 +250,7 @@ static void enter_raw(void) {
 int main(int argc, char **argv) {
     lodvarn_options options = LODVARN_OPTIONS;
     options.limit = LIMIT;
-    options.keeps_undone = true; /* no edit loses what was undone: undos come to it */
+    options.keep_undone = true; /* no edit drops the undone changes: undos come to them */
     if (argc > 1) path = argv[1];
     if (path) s = kept_load(path, options);
     if (tcgetattr(0, &outside) < 0 || (!s && lodvarn_open(&s, &options, "", 0) < 0)) {
@@ -263,8 +260,8 @@ int main(int argc, char **argv) {
     enter_raw();
     for (;;) {
         draw();
-        uint32_t key = read_key();
-        if (key == END || (key == CONTROL('d') && text().len == 0)) break;
+        int key = read_key();
+        if (key == EOF || (key == CONTROL('d') && !*text())) break;
         if (press(key) <= 0) dprintf(1, "\a"); /* nothing was done */
     }
     dprintf(1, "\n");

@@ -19,7 +19,7 @@ void *__wrap_malloc(size_t size) { return refuses() ? NULL : __real_malloc(size)
 
 void *__wrap_realloc(void *at, size_t size) { return refuses() ? NULL : __real_realloc(at, size); }
 
-/* A copy of the text, and whether all that it was told fitted it. */
+/* A copy of the text, and whether all changes fitted it. */
 struct copy { char text[ROOM]; size_t len; int holds; };
 
 static void splice(struct copy *c, size_t at, size_t old_len, const char *new, size_t new_len) {
@@ -50,35 +50,34 @@ static void splice_changed(struct copy *c) {
     if (c->holds) splice(c, p.from, p.old_to - p.from, text.at + p.from, p.new_to - p.from);
 }
 
-/* Reads up to that many reports into a copy, and counts each kind. What came by a report without texts is taken from
- * the present text, and by any other from its own. A report is told again until it is forgotten. */
+/* Takes up to that many reports into a copy, and counts each kind. The new text of a report without texts is taken from
+ * the present text, and that of any other is its own. */
 static void read_reports(struct copy *c, int has_texts, unsigned most, unsigned counts[]) {
-    lodvarn_report r, again;
-    while (c->holds && most-- > 0 && lodvarn_next_report(s, &r) == LODVARN_DONE) {
-        size_t waiting = lodvarn_report_count(s);
+    lodvarn_report r = LODVARN_REPORT;
+    size_t waiting = lodvarn_report_count(s);
+    while (c->holds && most-- > 0 && lodvarn_take_report(s, &r) == LODVARN_DONE) {
         int is_whole = has_texts && r.kind != LODVARN_FOLDED;
         c->holds = r.kind <= LODVARN_FOLDED && r.pos_before <= c->len && r.at <= c->len && r.old_len <= c->len - r.at
             && r.old_text.len == (is_whole ? r.old_len : 0) && r.new_text.len == (is_whole ? r.new_len : 0)
-            && lodvarn_next_report(s, &again) == LODVARN_DONE && again.kind == r.kind && again.at == r.at;
+            && lodvarn_report_count(s) == --waiting;
         if (!c->holds) return;
         counts[r.kind]++;
         lodvarn_view text = text_of();
         if (is_whole) c->holds = !memcmp(r.old_text.at, c->text + r.at, r.old_len);
         else c->holds = r.at + r.new_len <= text.len;
         if (c->holds) splice(c, r.at, r.old_len, is_whole ? r.new_text.at : text.at + r.at, r.new_len);
-        c->holds = c->holds && r.pos_after <= c->len && lodvarn_forget_report(s) == LODVARN_DONE
-            && lodvarn_report_count(s) == waiting - 1;
+        c->holds = c->holds && r.pos_after <= c->len;
     }
 }
 
-/* Bounds record and ring, or lets them grow; and lets edits keep what was undone, or drop it. */
+/* Bounds record and ring, or lets them grow; and lets edits keep the undone changes, or drop them. */
 static int bound(void) {
     lodvarn_options options = LODVARN_OPTIONS;
     must(lodvarn_get_options(s, &options) == LODVARN_DONE);
     options.max_entries = below(2) ? most : LODVARN_NO_BOUND;
     options.max_bytes = below(2) ? most : LODVARN_NO_BOUND;
     options.max_ring_bytes = below(2) ? most : LODVARN_NO_BOUND;
-    options.keeps_undone = below(2);
+    options.keep_undone = below(2);
     return lodvarn_set_options(s, &options);
 }
 
@@ -91,8 +90,9 @@ static int run_command(void) {
     size_t n = ONE_OF(counts), len = text_of().len, from = below((unsigned)len + 2), size = strlen(text);
     lodvarn_range covered = {from, from + below(5)};
     uint32_t c = ONE_OF(chars);
-    uint32_t kind = LODVARN_WHOLE_LINE_ + below(LODVARN_WHOLE_LINES_DOWN_ - LODVARN_WHOLE_LINE_ + 1);
+    uint32_t kind = LODVARN_WHOLE_LINE_ + below(LAST_MOVEMENT - LODVARN_WHOLE_LINE_ + 1);
     lodvarn_movement movement = lodvarn_movement_(kind, c, n);
+    movement.text = text, movement.len = size;
     switch (len > LONG ? 0 : below(40)) {
     case 0: return below(32) ? lodvarn_set_text(s, size, text, size) : lodvarn_restart(s, text, size);
     case 1: return lodvarn_replace(s, covered, text, size);
@@ -104,7 +104,7 @@ static int run_command(void) {
     case 11: return lodvarn_transpose_chars(s);
     case 12: return lodvarn_transpose_words(s, n);
     case 13: return lodvarn_change_case(s, LODVARN_CAPITALIZE + below(3));
-    case 14: return lodvarn_indent(s, movement, (uint8_t)below(9), LODVARN_INDENT + below(2));
+    case 14: return lodvarn_indent(s, movement, below(9), LODVARN_INDENT + below(2));
     case 15: case 16: case 17: case 18: return lodvarn_kill(s, movement);
     case 19: return lodvarn_yank(s, n);
     case 20: return lodvarn_yank_pop(s);
@@ -120,7 +120,8 @@ static int run_command(void) {
     case 33: return lodvarn_ring_add(s, text, size);
     case 34: return bound();
     case 35: return below(2) ? lodvarn_undo_boundary(s) : lodvarn_reopen_group(s);
-    case 36: return below(2) ? lodvarn_keep_undone(s) : lodvarn_abandon_group(s);
+    case 36: return lodvarn_abandon_group(s);
+    case 37: return lodvarn_type(s, text, size, &len);
     default: return lodvarn_insert(s, c, n);
     }
 }
@@ -131,36 +132,36 @@ static void check(const char *what, int holds, size_t reports, unsigned one_of) 
 
 /* Random commands on a session with a queue of that room. Reports and changes are read late now and then. */
 static void run(size_t reports, size_t text_bytes, unsigned one_of) {
-    static struct copy told, changed;
+    static struct copy reported, changed;
     unsigned counts[LODVARN_FOLDED + 1] = {0}, refused = 0, halfway = 0, late = 0, i;
-    told.len = changed.len = 0;
-    told.holds = changed.holds = 1;
+    reported.len = changed.len = 0;
+    reported.holds = changed.holds = 1;
     lodvarn_options options = LODVARN_OPTIONS;
     options.limit = LIMIT;
     options.ring_size = 3;
     must(lodvarn_open(&s, &options, "", 0) > 0 && lodvarn_watch(s, reports, text_bytes) > 0);
     refused_of = one_of;
     most = reports < 1000 ? 40 : LODVARN_NO_BOUND; /* an undo of more changes folds the reports of a long queue */
-    for (i = 0; i < COMMANDS && told.holds && changed.holds; i++) {
+    for (i = 0; i < COMMANDS && reported.holds && changed.holds; i++) {
         int is_refused = run_command() == LODVARN_NO_MEMORY;
         refused += is_refused;
-        halfway += is_refused && !late && !is_present(&told);
+        halfway += is_refused && !late && !is_present(&reported);
         late = !below(3);
-        read_reports(&told, text_bytes > 0, late ? below(3) : UINT_MAX, counts);
-        if (!late) told.holds = is_present(&told);
+        read_reports(&reported, text_bytes > 0, late ? below(3) : UINT_MAX, counts);
+        if (!late) reported.holds = is_present(&reported);
         if (!below(3)) continue;
         splice_changed(&changed);
         changed.holds = is_present(&changed);
     }
     refused_of = 0;
-    check("the copy by reports is the text", told.holds, reports, one_of);
+    check("the copy by reports is the text", reported.holds, reports, one_of);
     check("the copy by what changed is the text", changed.holds, reports, one_of);
     if (i < COMMANDS) printf("  after command %u\n", i);
-    check("commands were refused", (refused > 0) == (one_of > 0), reports, one_of);
+    check("some commands were out of memory", (refused > 0) == (one_of > 0), reports, one_of);
     check("some of them halfway", (halfway > 0) == (one_of > 0), reports, one_of);
     for (uint32_t kind = LODVARN_CHAR_INSERTED; kind <= LODVARN_FOLDED; kind++) {
         int is_mark = kind == LODVARN_KILL_STARTED || kind == LODVARN_KILL_STOPPED, is_alone = reports == 1;
-        check("each kind of report came", counts[kind] > 0 || (is_mark && is_alone), reports, one_of);
+        check("there was each kind of report", counts[kind] > 0 || (is_mark && is_alone), reports, one_of);
     }
     lodvarn_close(&s);
 }

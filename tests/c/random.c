@@ -1,9 +1,12 @@
 /* random SEED LINES SCRIPT ANSWERS: makes a script of random lines, runs each by the typed calls, and writes the
- * script, and what the calls returned in the form in which a script prints it. */
+ * script, and what the calls returned in the form in which a script prints it. What a script has no word for, typed
+ * bytes and the search for a text, is done in a twin of the session, and by lines of the script in the session. */
 #include "chance.h"
 #include "see.h"
 #include "typed.h"
 #include <stdarg.h>
+
+enum { ROOM = 1 << 14 };
 
 static char line[1024];
 
@@ -27,8 +30,8 @@ static unsigned length(struct typed *t) {
     return (unsigned)text.len;
 }
 
-/* Mostly a place of the text, now and then one past its end. */
-static unsigned place(struct typed *t) { return below(length(t) + 2); }
+/* Mostly an offset of the text, now and then one past its end. */
+static unsigned offset(struct typed *t) { return below(length(t) + 2); }
 
 static void add_char(void) {
     static const char *const chars[] = {
@@ -54,7 +57,7 @@ static const char *const ats[] = {"start", "before", "after"};
 static const char *const searches[] = {"f", "t", "F", "T"};
 
 static void add_movement(void) {
-    static const char *const plain[] = {"line", "home", "eol", "first", "nonblank", "buf", "bob", "eob"};
+    static const char *const plain[] = {"line", "home", "eol", "nonblank", "buf", "bob", "eob"};
     static const char *const counted[] = {"bchar", "fchar", "up", "down", "linesup", "lines"};
     switch (below(8)) {
     case 0: case 1: add(" %s", ONE_OF(plain)); break;
@@ -79,7 +82,7 @@ static void add_start(void) {
 
 /* A line that inserts or replaces something. */
 static void add_insertion(struct typed *t) {
-    unsigned from = place(t);
+    unsigned from = offset(t);
     switch (below(8)) {
     case 0: add("paste %u ", count()); add_text(); break;
     case 1: add("str %u ", from); add_text(); break;
@@ -95,7 +98,7 @@ static void add_insertion(struct typed *t) {
 /* A line that deletes something. */
 static void add_deletion(struct typed *t) {
     static const char *const whole[] = {"killline", "killline", "discline", "discline", "killbuf", "discbuf"};
-    unsigned from = place(t);
+    unsigned from = offset(t);
     switch (below(11)) {
     case 0: add("range %u %u", from, from + below(4)); break;
     case 10: add("killrange %u %u %s", from, from + below(4), below(2) ? "f" : "b"); break;
@@ -140,13 +143,13 @@ static void add_mark(struct typed *t) {
 
 /* Any other line. */
 static void add_other(struct typed *t) {
-    static const char *const plain[] = {"tchars", "part", "redo", "redo", "reopen", "keepundone", "keepundone", "where"};
+    static const char *const plain[] = {"tchars", "part", "redo", "redo", "reopen", "where"};
     static const char *const cases[] = {"cap", "low", "up"};
     switch (below(17)) {
     case 16: case 15: add_mark(t); break;
     case 14: add_yank_pop(t); break;
     case 13: add("keep "); add_text(); break;
-    case 0: add("pos %u", place(t)); break;
+    case 0: add("pos %u", offset(t)); break;
     case 1: add("move"); add_movement(); break;
     case 2: add("copy"); add_movement(); break;
     case 3: add("case %s", ONE_OF(cases)); break;
@@ -209,6 +212,124 @@ static void run_line(struct typed *t, FILE *script, FILE *answers) {
     if (more > 1) fputs("true", answers), typed_state(t, answers);
 }
 
+/* Some characters: their bytes, and for each a line of a script that inserts it. */
+struct chars { char bytes[64]; size_t len; char lines[8][32]; unsigned count; };
+
+static struct chars some_chars(void) {
+    static const struct { const char *bytes, *written; } chars[] = {
+        {"a", "a"}, {"b", "b"}, {"Z", "Z"}, {"7", "7"}, {"_", "_"}, {" ", "\\s"}, {"\n", "\\n"}, {"\r", "\\r"},
+        {"é", "é"}, {"漢", "漢"}, {"\u0301", "\\u{301}"}, {"\u200d", "\\u{200d}"}, {"\U0001f469", "\\u{1f469}"},
+        {"\U0010ffff", "\\u{10ffff}"},
+    };
+    struct chars made = {{0}, 0, {{0}}, 0};
+    for (unsigned count = below(8); made.count < count; made.count++) {
+        unsigned which = below(COUNT(chars));
+        made.len += (size_t)sprintf(made.bytes + made.len, "%s", chars[which].bytes);
+        sprintf(made.lines[made.count], "ins 1 %s", chars[which].written);
+    }
+    return made;
+}
+
+/* Types some bytes in a twin, and inserts their characters in the session, up to the first that has no room. */
+static int type_beside(struct typed *t, FILE *script, FILE *answers) {
+    static const struct { const char *bytes; int answer; } ends[] = {
+        {"", LODVARN_NOTHING}, {"\xc3", LODVARN_NOTHING}, {"\xe6\x97", LODVARN_NOTHING},
+        {"\xf0\x9f\x91", LODVARN_NOTHING}, {"\xff", LODVARN_NOT_UTF8}, {"\x80", LODVARN_NOT_UTF8},
+        {"\xed\xa0\x80", LODVARN_NOT_UTF8}, {"\xe6" "a", LODVARN_NOT_UTF8},
+    };
+    struct chars made = some_chars();
+    unsigned end = below(COUNT(ends));
+    lodvarn_options options = LODVARN_OPTIONS;
+    lodvarn *twin = twin_of(t->s);
+    size_t used = 0, wanted = 0, from = lodvarn_pos(t->s);
+    int answer;
+    lodvarn_get_options(t->s, &options);
+    strcpy(made.bytes + made.len, ends[end].bytes);
+    answer = lodvarn_type(twin, made.bytes, strlen(made.bytes), &used);
+    int model = made.count ? LODVARN_NO_ROOM : ends[end].answer;
+    for (unsigned i = 0; i < made.count; i++, wanted = lodvarn_pos(t->s) - from) {
+        if (length(t) + utf8_length(made.bytes + wanted) > options.limit) break;
+        fprintf(script, "%s\n", made.lines[i]);
+        typed_line(t, made.lines[i], answers);
+        model = lodvarn_pos(t->s) == length(t) ? LODVARN_DONE_AT_END : LODVARN_DONE;
+    }
+    int same = answer == model && used == wanted && (answer <= 0 || are_same(t->s, twin));
+    lodvarn_close(&twin);
+    return same;
+}
+
+/* Sets the range to where the text is, by comparing it at each offset. Returns whether it is there. */
+static int search(lodvarn_view in, size_t from, const char *text, size_t len, int is_ahead, lodvarn_range *range) {
+    for (size_t n = 0; len && n <= in.len; n++) {
+        size_t at = is_ahead ? from + n : from - len - n;
+        if (is_ahead ? at + len > in.len : n + len > from) return 0;
+        *range = (lodvarn_range){at, at + len};
+        if (!memcmp(in.at + at, text, len)) return 1;
+        *range = (lodvarn_range){0, 0};
+    }
+    return 0;
+}
+
+/* A text to search for: often one of the text. */
+static size_t add_needle(lodvarn_view in, char needle[64]) {
+    size_t from = below((unsigned)in.len + 1), to;
+    while (from > 0 && (in.at[from] & 0xc0) == 0x80) from--;
+    to = from;
+    for (unsigned n = below(4); n && to < in.len; n--) to += utf8_length(in.at + to);
+    if (to == from || to - from > 60 || !below(4)) return (size_t)sprintf(needle, "%s", some_chars().bytes);
+    memcpy(needle, in.at + from, to - from);
+    return to - from;
+}
+
+/* Whether a text is found from an offset as by the model. The offset may be none. */
+static int find_agrees(lodvarn *s, lodvarn_view in, const char *text, size_t len, enum lodvarn_direction direction) {
+    size_t from = below((unsigned)in.len + 2);
+    lodvarn_range model = {0, 0}, got = model;
+    int is_bad = from > in.len || (in.at[from] & 0xc0) == 0x80;
+    int is_there = !is_bad && search(in, from, text, len, direction == LODVARN_FORWARD, &model);
+    int answer = lodvarn_find(s, from, text, len, direction, &got);
+    return answer == (is_bad ? LODVARN_BAD_OFFSET : is_there) && got.from == model.from && got.to == model.to;
+}
+
+/* Moves to a text, or kills, deletes or copies up to it in a twin, and in the session by the line that does so by
+ * offsets: one that only ends a run of kills if nothing lies between. */
+static int go_beside(struct typed *t, lodvarn_movement by, int is_there, lodvarn_range covered, int is_ahead) {
+    static char copied[ROOM];
+    size_t pos = lodvarn_pos(t->s), len = 0;
+    int which = is_there ? (int)below(4) : 0, is_empty = !is_there || covered.from == covered.to;
+    line[0] = 0;
+    if (which == 0) add("pos %zu", !is_there ? pos : is_ahead ? covered.to : covered.from);
+    else if (which == 1) add("killrange %zu %zu %s", covered.from, covered.to, is_ahead ? "f" : "b");
+    else if (which == 2 && !is_empty) add("range %zu %zu", covered.from, covered.to);
+    else add("where");
+    int answer = which == 0 ? lodvarn_move(t->s, by) : which == 1 ? lodvarn_kill(t->s, by)
+        : which == 2 ? lodvarn_delete_by(t->s, by) : lodvarn_copy(t->s, by, copied, ROOM, &len);
+    return answer == (which == 0 ? is_there : !is_empty) && (which < 3 || is_empty || len == covered.to - covered.from);
+}
+
+/* Searches for a text, from an offset and by a movement. */
+static int find_beside(struct typed *t, FILE *script, FILE *answers) {
+    static char whole[ROOM];
+    char needle[64];
+    lodvarn_view in = {"", 0};
+    lodvarn_range model = {0, 0};
+    lodvarn_text(t->s, &in);
+    memcpy(whole, in.at, in.len), whole[in.len] = 0, in.at = whole;
+    size_t len = add_needle(in, needle), pos = lodvarn_pos(t->s);
+    int is_ahead = (int)below(2), is_there = search(in, pos, needle, len, is_ahead, &model);
+    lodvarn_movement by = lodvarn_to_match(is_ahead ? LODVARN_FORWARD : LODVARN_BACKWARD, needle, len);
+    if (!find_agrees(t->s, in, needle, len, is_ahead ? LODVARN_FORWARD : LODVARN_BACKWARD)) return 0;
+    if (!len) return lodvarn_move(t->s, by) == LODVARN_NO_SUCH_NUMBER;
+    struct typed twin = *t;
+    twin.s = twin_of(t->s);
+    int agrees = go_beside(&twin, by, is_there, is_ahead ? range(pos, model.from) : range(model.from, pos), is_ahead);
+    fprintf(script, "%s\n", line);
+    typed_line(t, line, answers);
+    agrees = agrees && are_same(t->s, twin.s);
+    lodvarn_close(&twin.s);
+    return agrees;
+}
+
 int main(int argc, char **argv) {
     if (argc != 5) { fputs("random SEED LINES SCRIPT ANSWERS\n", stderr); return 2; }
     begin_chance(strtoull(argv[1], NULL, 10));
@@ -218,10 +339,11 @@ int main(int argc, char **argv) {
     struct typed t;
     typed_begin(&t);
     for (long i = 0; i < lines; i++) {
-        make_line(&t);
-        run_line(&t, script, answers);
-        if (typed_reads_agree(&t)) continue;
-        printf("the reads disagree with the text after line %ld: %s\n", i + 1, line);
+        unsigned which = popped ? 2 : below(24);
+        int agrees = which == 0 ? type_beside(&t, script, answers) : which == 1 ? find_beside(&t, script, answers) : 1;
+        if (which > 1) make_line(&t), run_line(&t, script, answers);
+        if (agrees && typed_reads_agree(&t)) continue;
+        printf("calls disagree with each other after line %ld: %s\n", i + 1, which == 0 ? "typed bytes" : line);
         disagree++;
     }
     lodvarn_close(&t.s);

@@ -81,19 +81,26 @@ static int opens(void) {
     return closes(opened, answer);
 }
 
-static char saved[1 << 14];
-static size_t saved_len;
+static lodvarn_view saved;
 
 static int loads(void) {
     lodvarn *opened = NONE;
-    int answer = lodvarn_load(&opened, saved, saved_len);
+    int answer = lodvarn_load(&opened, saved.at, saved.len);
     return closes(opened, answer);
 }
 
-static int keeps_undone(void) {
+/* Types a line. The bytes that were not used are passed again. Only the first call may return an error. */
+static int types(const char *line) {
+    size_t len = strlen(line), used = 0, more = 0;
+    int answer = lodvarn_type(s, line, len, &used);
+    if (answer > 0 && used < len) answer = lodvarn_type(s, line + used, len - used, &more);
+    return answer < 0 || used + more == len ? answer : LODVARN_NOTHING;
+}
+
+static int keep_undone(void) {
     lodvarn_options options = LODVARN_OPTIONS;
     must(lodvarn_get_options(s, &options) > 0);
-    options.keeps_undone = true;
+    options.keep_undone = true;
     return lodvarn_set_options(s, &options);
 }
 
@@ -109,6 +116,8 @@ static int step(unsigned which) {
     CALL(lodvarn_watch(s, 3, 40));
     CALL(lodvarn_insert(s, 'e', 3));
     CALL(lodvarn_backspace(s, 1));
+    CALL(types("Zwölf, 12\u65e5\n"));
+    CALL(lodvarn_backspace(s, 11));
     CALL(lodvarn_begin_group(s));
     CALL(lodvarn_paste(s, "x y", 3, 2));
     CALL(lodvarn_set_pos(s, 3));
@@ -130,7 +139,6 @@ static int step(unsigned which) {
     CALL(lodvarn_delete_by(s, lodvarn_words_back(LODVARN_VI, 1)));
     CALL(lodvarn_undo(s, 2));
     CALL(lodvarn_redo(s));
-    CALL(lodvarn_keep_undone(s));
     STEPS(lodvarn_set_text(s, 3, "one two", 7));
     CALL(lodvarn_delete_by(s, lodvarn_words_forward(LODVARN_BIG, LODVARN_AFTER_END, 1)));
     CALL(lodvarn_delete_by(s, lodvarn_to_char(LODVARN_BACK_TO, 'o', 1)));
@@ -138,6 +146,7 @@ static int step(unsigned which) {
     CALL(lodvarn_delete_by(s, lodvarn_to_line_end()));
     CALL(lodvarn_delete_by(s, lodvarn_to_text_start()));
     CALL(lodvarn_paste(s, "kept and killed", 15, 1));
+    CALL(lodvarn_kill(s, lodvarn_to_match(LODVARN_BACKWARD, "led", 3)));
     CALL(lodvarn_kill_range(s, range(2, 5), LODVARN_FORWARD));
     CALL(lodvarn_kill_range(s, range(0, 2), LODVARN_BACKWARD));
     CALL(lodvarn_ring_add(s, "kept", 4));
@@ -154,13 +163,14 @@ static int step(unsigned which) {
     CALL(lodvarn_replace(s, range(0, 1), "é", 2));
     CALL(lodvarn_end_group(s));
     CALL(lodvarn_undo(s, 3));
-    CALL(keeps_undone());
+    CALL(keep_undone());
     CALL(lodvarn_delete_range(s, range(0, 0))); /* all that it does is to keep what was undone */
     CALL(lodvarn_undo(s, 2));
     KEEPS(lodvarn_paste(s, "x y", 3, 2));
     CALL(lodvarn_undo(s, 3));
     KEEPS(lodvarn_begin_group(s));
-    CALL(lodvarn_save(s, saved, sizeof saved, &saved_len));
+    CALL(lodvarn_save(s, &saved));
+    CALL(lodvarn_save(s, &saved));
     CALL(loads());
     return NO_MORE;
 }
@@ -172,9 +182,9 @@ static int step_of_restart(unsigned which) {
     return NO_MORE;
 }
 
-/* The text is UTF-8 and keeps to the limit, and the cursor is a place of it. */
+/* The text is UTF-8 and keeps to the limit, and the cursor is at an offset of it. */
 static int stands(void) {
-    static const lodvarn_screen screen = {80, 0, 8, LODVARN_UNICODE, 0, 0};
+    static const lodvarn_screen screen = LODVARN_SCREEN(80);
     lodvarn_options now = LODVARN_OPTIONS;
     lodvarn_position cell;
     lodvarn_view text;
@@ -187,8 +197,8 @@ static void print_state(char *to, size_t cap) {
     lodvarn_options now = LODVARN_OPTIONS;
     lodvarn_view text;
     must(lodvarn_text(s, &text) > 0 && lodvarn_get_options(s, &now) > 0);
-    snprintf(to, cap, "%.*s %zu %zu %zu %zu %d", (int)text.len, text.at, lodvarn_pos(s), now.limit, lodvarn_record_entries(s),
-             lodvarn_group_level(s), lodvarn_can_redo(s));
+    snprintf(to, cap, "%.*s %zu %zu %zu %zu %d", (int)text.len, text.at, lodvarn_pos(s), now.limit,
+             lodvarn_record_entries(s), lodvarn_group_level(s), lodvarn_can_redo(s));
 }
 
 /* After everything is undone the text is the first one. */
@@ -202,7 +212,7 @@ static int leads_back(void) {
 /* How the last run of calls ended. */
 static char ended[1024];
 
-/* How many calls said that memory is out if the request of that number is refused. A call of one step leaves all as it
+/* How many calls returned NO_MEMORY if the request of that number is refused. A call of one step leaves all as it
  * was then. If there is no such request each call finds something to do. */
 static int refused_at(int (*calls)(unsigned), size_t request, int *holds) {
     char before[sizeof ended], after[sizeof ended];
@@ -242,17 +252,16 @@ static void refuse_each(const char *what, int (*calls)(unsigned)) {
     } while (was_refused);
 }
 
-/* A script that ends because a request is refused still tells how much it printed: whole lines, or none. */
-static int script_tells_its_length(size_t request) {
+/* A script of which a request is refused writes nothing, or its lines say so. */
+static int script_is_whole(size_t request) {
     static const char script[] = "text a\ntext b\n", whole[] = "ok 1 a\nok 1 b\n";
-    char out[64];
+    char out[64] = "#";
     size_t len = sizeof out + 1;
     was_refused = 0;
     left = request;
     int answer = lodvarn_script(script, sizeof script - 1, out, sizeof out, &len);
     left = SIZE_MAX;
-    if (len > sizeof out) return 0;
-    if (answer == LODVARN_NO_MEMORY) return was_refused && len < sizeof whole - 1 && !memcmp(out, whole, len);
+    if (answer == LODVARN_NO_MEMORY) return was_refused && len > sizeof out && !strcmp(out, "#");
     int same = len == sizeof whole - 1 && !memcmp(out, whole, len);
     return answer == LODVARN_DONE && same != was_refused;
 }
@@ -260,32 +269,36 @@ static int script_tells_its_length(size_t request) {
 /* The calls whose comments name no NO_MEMORY, one after the other. */
 static int frugal_step(unsigned which) {
     static const char text[] = "e\u0301 \U0001F468\u200D\U0001F469\n日本";
-    static const lodvarn_screen screen = {2, 0, 8, LODVARN_UNICODE, 0, 0};
+    static const lodvarn_screen screen = LODVARN_SCREEN(2);
     enum { LEN = sizeof text - 1 };
     lodvarn_options options = LODVARN_OPTIONS;
     lodvarn_view view;
     lodvarn_range covered;
     lodvarn_position position = {1, 1};
-    lodvarn_cluster cluster;
+    lodvarn_cluster cluster, clusters[8];
     lodvarn_splice splice;
-    lodvarn_report report;
+    lodvarn_report report = LODVARN_REPORT;
     char out[64];
-    size_t n, column = LODVARN_OWN_COLUMN;
+    size_t n, column = LODVARN_OWN_COLUMN, starts[8];
     CALL(lodvarn_set_pos(s, 1));
     CALL(lodvarn_move(s, lodvarn_words_forward(LODVARN_VI, LODVARN_AT_START, 1)));
     CALL(lodvarn_move(s, lodvarn_to_char(LODVARN_BACK_TO, 'a', 1)));
     CALL(lodvarn_move(s, lodvarn_lines_up(1)));
+    CALL(lodvarn_move(s, lodvarn_to_match(LODVARN_BACKWARD, "\n", 1)));
     CALL(lodvarn_copy(s, lodvarn_whole_text(), out, sizeof out, &n));
+    CALL(lodvarn_copy(s, lodvarn_to_match(LODVARN_BACKWARD, "d\n", 2), out, sizeof out, &n));
+    CALL(lodvarn_text_copy(s, out, sizeof out, &n));
+    CALL(lodvarn_find(s, 1, "d\n", 2, LODVARN_FORWARD, &covered));
     CALL(lodvarn_undo_boundary(s));
     CALL(lodvarn_take_change(s, &splice));
-    CALL(lodvarn_next_report(s, &report));
-    CALL(lodvarn_forget_report(s));
+    CALL(lodvarn_take_report(s, &report));
     CALL(lodvarn_unwatch(s));
     CALL(lodvarn_text(s, &view));
     CALL(lodvarn_slice(s, range(1, 2), &view));
     CALL(-!(lodvarn_pos(s) && lodvarn_line_count(s) && lodvarn_record_entries(s)));
     CALL(-!(lodvarn_can_undo(s) && !lodvarn_can_redo(s) && !lodvarn_group_level(s) && !lodvarn_last_was_yank(s)));
-    CALL(-!(lodvarn_ring_count(s) && lodvarn_report_count(s) && lodvarn_version() && lodvarn_answer_name(0)));
+    CALL(-!(lodvarn_ring_count(s) && lodvarn_report_count(s)));
+    CALL(-!(lodvarn_version() && lodvarn_answer_name(0) && lodvarn_error_text(0)));
     CALL(lodvarn_ring_text(s, 0, &view));
     CALL(lodvarn_ring_clear(s));
     CALL(lodvarn_mark_saved(s));
@@ -309,15 +322,16 @@ static int frugal_step(unsigned which) {
     CALL(lodvarn_last_cluster(text, LEN, &n));
     CALL(lodvarn_cell(&screen, LEN, text, LEN, &position));
     CALL(lodvarn_offset_at(&screen, position, text, LEN, &n));
-    CALL(lodvarn_rows(&screen, text, LEN, NULL, 0, &n));
-    CALL(lodvarn_clusters(LODVARN_UNICODE, text, LEN, &cluster, 1, &n));
+    CALL(lodvarn_rows(&screen, text, LEN, starts, 8, &n));
+    CALL(-(lodvarn_rows(&screen, text, LEN, NULL, 0, &n) != LODVARN_TOO_SMALL));
+    CALL(lodvarn_clusters(LODVARN_UNICODE, text, LEN, clusters, 8, &n));
     CALL(lodvarn_map_offset(&(lodvarn_splice){0, 1, 2}, 1, LODVARN_AFTER, &n));
     CALL(lodvarn_row_above(s, &screen, 1, &column, &n));
     CALL(lodvarn_row_below(s, &screen, 1, &column, &n));
     return NO_MORE;
 }
 
-/* What the call of that number returns while every request is refused. There is a change and a report to tell, a ring
+/* What the call of that number returns while every request is refused. There is a change and a report, a ring
  * with one text, and the table by which the text's lines are looked up. */
 static int frugal_answer(unsigned which) {
     open_it(3);
@@ -337,9 +351,9 @@ static void frugal_calls_take_nothing(void) {
         if (!see("a call without a request", answer >= 0 && !was_refused)) printf("  call %u returns %d\n", i, answer);
 }
 
-/* A great text, as a line of a script, and what comes of it. */
+/* A great text, as a line of a script, and what it prints. */
 enum { GREAT = 1000000 };
-static char great[GREAT + 6], come[GREAT + 64];
+static char great[GREAT + 6], printed[GREAT + 64];
 
 static int closes_a_group(void) {
     return lodvarn_begin_group(s) > 0 && lodvarn_insert(s, 'a', 1) > 0 && lodvarn_end_group(s) > 0;
@@ -364,7 +378,7 @@ static void little_is_taken(void) {
     see_taken("a great text", lodvarn_insert_at(s, 0, great, GREAT) > 0 && greatest < GREAT * 3 / 2);
     see_taken("a great kill", lodvarn_kill(s, lodvarn_whole_text()) > 0 && greatest < GREAT * 3 / 2);
     lodvarn_close(&s);
-    int answer = lodvarn_script(great, sizeof great, come, sizeof come, &len);
+    int answer = lodvarn_script(great, sizeof great, printed, sizeof printed, &len);
     see_taken("a great line of a script", answer == LODVARN_DONE && peak < GREAT * 9 / 2 && !held);
 }
 
@@ -384,6 +398,9 @@ static void all_is_given_back(void) {
     GIVES_BACK(lodvarn_insert(s, '\n', 9));
     GIVES_BACK(lodvarn_ring_add(s, "kept", 4));
     GIVES_BACK(lodvarn_restart(s, "a\nb", 3));
+    GIVES_BACK(types("a\nb"));
+    GIVES_BACK(lodvarn_save(s, &saved));
+    GIVES_BACK(lodvarn_save(s, &saved) > 0 ? lodvarn_save(s, &saved) : 0);
 }
 
 int main(void) {
@@ -393,7 +410,7 @@ int main(void) {
     all_is_given_back();
     refuse_each("a refused request of a session", step);
     refuse_each("a refused request of a restart", step_of_restart);
-    do see("a refused request of a script", script_tells_its_length(request++));
+    do see("a refused request of a script", script_is_whole(request++));
     while (was_refused);
     return sum();
 }

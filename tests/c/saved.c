@@ -12,7 +12,7 @@ static const char *const scripts[] = {
     "limit 40;ring 2;text one two three;kill bword 1 emacs;pos 0;kill fword 1 after emacs;yank 1;yankpop",
     "text \\u{1f469}\\u{200d}\\u{1f680} é\\n漢;pos 0;ins 2 \\u{1f680};rep 0 4 x;back 1;undo 2",
     "text a b;begin;ins 1 é;begin;kill home;str 0 \\u{1f1e9}\\u{1f1ea};undo 1",
-    "mode nozwj;ring 1;text a\\nb;begin;tchars;endone;ins 1 x;ins 1 y;undo 1;redo;case up;undo 3;keepundone",
+    "mode nozwj;ring 1;text a\\nb;begin;tchars;endone;ins 1 x;ins 1 y;undo 1;redo;case up;undo 3;keep",
     "text one two;begin;twords 1;end;begin;ins 1 z;end;undo 2",
 };
 static struct file { unsigned char bytes[ROOM]; size_t len; } files[COUNT(scripts)], file;
@@ -58,10 +58,27 @@ static void mend(void) {
 
 /* Makes a file of a session. Returns whether it could. */
 static int save(lodvarn *s, struct file *to) {
-    int answer = lodvarn_save(s, NULL, 0, &to->len);
-    if (answer == LODVARN_TOO_SMALL && to->len < ROOM) answer = lodvarn_save(s, end - to->len, to->len, &to->len);
-    if (answer > 0) memcpy(to->bytes, end - to->len, to->len);
-    return answer == LODVARN_DONE;
+    lodvarn_view bytes = {NULL, ROOM};
+    int is_saved = lodvarn_save(s, &bytes) == LODVARN_DONE && bytes.len < ROOM;
+    if (is_saved) memcpy(to->bytes, bytes.at, to->len = bytes.len);
+    return is_saved;
+}
+
+/* Loads a session from bytes after which there is no more memory. */
+static int load(lodvarn **s, const struct file *from) {
+    return lodvarn_load(s, memcpy(end - from->len, from->bytes, from->len), from->len);
+}
+
+/* All that it does is to record the undone changes. The option stays as it was. */
+static int keep_undone(lodvarn *s) {
+    size_t pos = lodvarn_pos(s);
+    lodvarn_options options = LODVARN_OPTIONS, kept;
+    must(lodvarn_get_options(s, &options) > 0);
+    kept = options, kept.keep_undone = true;
+    must(lodvarn_set_options(s, &kept) > 0);
+    int answer = lodvarn_delete_range(s, range(pos, pos));
+    must(lodvarn_set_options(s, &options) > 0);
+    return answer;
 }
 
 static int is_same(const struct file *it) { return it->len == file.len && !memcmp(it->bytes, file.bytes, it->len); }
@@ -71,7 +88,8 @@ static void make_file(const char *script, struct file *to, FILE *nowhere) {
     struct typed t;
     typed_begin(&t);
     for (char *line = strtok(strcpy(lines, script), ";"); line; line = strtok(NULL, ";"), lodvarn_mark_saved(t.s))
-        typed_line(&t, line, nowhere);
+        if (strcmp(line, "keep")) typed_line(&t, line, nowhere);
+        else must(keep_undone(t.s) > 0);
     must(save(t.s, to));
     file = *to;
     mend();
@@ -126,9 +144,9 @@ static int goes_on(lodvarn *s, int (*call)(lodvarn *)) {
 static int goes_well(lodvarn *s) {
     static struct file again;
     lodvarn *second = NULL;
-    int holds = save(s, &file) && lodvarn_load(&second, end - file.len, file.len) > 0 && save(second, &again)
+    int holds = save(s, &file) && load(&second, &file) > 0 && save(second, &again)
         && is_same(&again) && goes_on(s, undo) && goes_on(s, lodvarn_redo) && goes_on(s, undo)
-        && is_popped(lodvarn_yank_pop(second)) && is_fine(lodvarn_keep_undone(second))
+        && is_popped(lodvarn_yank_pop(second)) && is_fine(keep_undone(second))
         && is_fine(lodvarn_kill(second, lodvarn_words_back(LODVARN_BIG, 1))) && is_fine(lodvarn_yank(second, 1))
         && is_fine(lodvarn_abandon_group(second)) && goes_on(second, undo) && goes_on(second, lodvarn_redo);
     lodvarn_close(&second);
@@ -140,8 +158,7 @@ static int goes_well(lodvarn *s) {
 static int is_met(const struct file *from, int is_mended) {
     lodvarn *s = NULL;
     int is_changed = !is_same(from), is_known = !memcmp(file.bytes, from->bytes, HEADING);
-    memcpy(end - file.len, file.bytes, file.len);
-    int answer = lodvarn_load(&s, end - file.len, file.len);
+    int answer = load(&s, &file);
     if (answer < 0) return is_changed && !s && answer == (is_known ? LODVARN_DAMAGED : LODVARN_UNKNOWN_FORMAT);
     loaded += (size_t)is_changed;
     int is_well = (!is_changed || is_mended) && goes_well(s);

@@ -60,28 +60,35 @@ static const uint32_t no_characters[] = {0xd800, 0xdfff, 0x110000, UINT32_MAX};
 static const size_t great_counts[] = {65536, 65537, (size_t)1 << 32, SIZE_MAX};
 
 /* Numbers around an enum, and far from it. */
-enum { NUMBERS = 136 };
+enum { NUMBERS = 145 };
 static inline int around(int k, int first) {
     static const int far[] = {256, 65536, 1 << 30};
-    return k < 131 ? k - 1 : k < 134 ? first + far[k - 131] : k == 134 ? INT_MAX : INT_MIN;
+    return k < 140 ? k - 1 : k < 143 ? first + far[k - 140] : k == 143 ? INT_MAX : INT_MIN;
 }
 
-/* Each number that is none of an enum, in turn. */
-#define EACH_OUTSIDE(first, last)             \
+/* Each number for which that holds, in turn; each that is none of an enum. */
+#define EACH_NUMBER(first, is_bad)            \
     for (int k = 0, number; k < NUMBERS; k++) \
-        if ((number = around(k, first)) < (int)(first) || number > (int)(last))
+        if (number = around(k, first), is_bad)
+#define EACH_OUTSIDE(first, last) EACH_NUMBER(first, number < (int)(first) || number > (int)(last))
+
+enum { LAST_MOVEMENT = LODVARN_TO_CHAR_ + LODVARN_BACK_TO_AFTER - LODVARN_TO };
 
 /* Tries each kind of movement that has a count. */
 static inline void each_counted_movement(size_t n, void (*try)(lodvarn_movement)) {
-    for (uint32_t kind = LODVARN_WORDS_BACK_; kind <= LODVARN_LINES_DOWN_; kind++)
-        if (kind != LODVARN_FROM_FIRST_WORD_) try(lodvarn_movement_(kind, 'a', n));
-    try(lodvarn_whole_lines_up(n));
-    try(lodvarn_whole_lines_down(n));
+    for (uint32_t kind = LODVARN_CHARS_BACK_; kind <= LAST_MOVEMENT; kind++) try(lodvarn_movement_(kind, 'a', n));
 }
 
-/* Tries movements of no kind, of a number outside of its enum, with a count that is too great, and to no character. */
+/* Tries movements of no kind, of a number outside of its enum, with a count that is too great, to no character, and to
+ * no text. */
 static inline void each_bad_movement(void (*refuse)(lodvarn_movement)) {
-    EACH_OUTSIDE(LODVARN_WHOLE_LINE_, LODVARN_WHOLE_LINES_DOWN_) refuse(lodvarn_movement_((uint32_t)number, 'a', 1));
+    EACH_OUTSIDE(LODVARN_WHOLE_LINE_, LAST_MOVEMENT) refuse(lodvarn_movement_((uint32_t)number, 'a', 1));
+    refuse(lodvarn_movement_(LODVARN_CHARS_BACK_ - 1, 'a', 1));
+    EACH_OUTSIDE(LODVARN_FORWARD, LODVARN_BACKWARD) refuse(lodvarn_to_match((enum lodvarn_direction)number, "a", 1));
+    for (int direction = LODVARN_FORWARD; direction <= LODVARN_BACKWARD; direction++) {
+        refuse(lodvarn_to_match((enum lodvarn_direction)direction, NULL, 0));
+        refuse(lodvarn_to_match((enum lodvarn_direction)direction, "a", 0));
+    }
     EACH_OUTSIDE(LODVARN_BIG, LODVARN_VI) {
         refuse(lodvarn_words_back((enum lodvarn_word)number, 1));
         refuse(lodvarn_words_forward((enum lodvarn_word)number, LODVARN_AT_START, 1));

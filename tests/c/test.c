@@ -17,6 +17,10 @@
 #define U LODVARN_UNICODE
 #define W LODVARN_WC_WIDTH
 #define Z LODVARN_NO_ZWJ
+#define F LODVARN_FORWARD
+#define B LODVARN_BACKWARD
+#define ON(columns, prompt, continuation, tab, controls, mode) \
+    {sizeof(lodvarn_screen), columns, prompt, continuation, tab, controls, mode}
 
 enum { NO = 99, PRINTED = 1 << 14 };
 
@@ -40,6 +44,13 @@ static lodvarn_options chosen(void) {
     return now;
 }
 
+static int add_to_ring(const char *text) { return lodvarn_ring_add(s, text, strlen(text)); }
+
+/* Adds each character of a text. */
+static void add_each(const char *text) {
+    for (; *text; text++) must(lodvarn_ring_add(s, text, 1) == LODVARN_DONE);
+}
+
 static void print_ring(FILE *to) {
     lodvarn_view view;
     for (size_t back = 0; lodvarn_ring_text(s, back, &view) > 0; back++) fprintf(to, "#%.*s", (int)view.len, view.at);
@@ -52,7 +63,8 @@ static void does(const char *what, int answer, int wanted, const char *left) {
     must(to && lodvarn_text(s, &text) == LODVARN_DONE);
     print_marked(to, text, lodvarn_pos(s));
     if (strchr(left, '#')) print_ring(to);
-    if (!see(what, answer == wanted && !strcmp(printed_in(to, got, sizeof got), left)))
+    printed_in(to, got, sizeof got);
+    if (!see(what, answer == wanted && !strcmp(got, left)))
         printf("  returned %s and left %s, not %s\n", lodvarn_answer_name(answer), got, left);
 }
 
@@ -115,16 +127,21 @@ static void scripts_print(void) {
 #define NAMED(answer) see(#answer " has its name", !strcmp(lodvarn_answer_name(LODVARN_##answer), "LODVARN_" #answer))
 
 static void versions_and_answers_have_names(void) {
-    static const int none[] = {3, 4, 255, 256, INT_MAX, -13, -14, -255, INT_MIN};
+    static const int none[] = {3, 4, 255, 256, INT_MAX, -14, -15, -255, INT_MIN};
     char numbers[32];
     snprintf(numbers, sizeof numbers, "%d.%d.%d", LODVARN_VERSION_MAJOR, LODVARN_VERSION_MINOR, LODVARN_VERSION_PATCH);
     SEE(!strcmp(LODVARN_VERSION, numbers) && lodvarn_version() == LODVARN_VERSION_NUMBER);
     SEE(lodvarn_version() == LODVARN_VERSION_MAJOR * 65536 + LODVARN_VERSION_MINOR * 256 + LODVARN_VERSION_PATCH);
-    NAMED(NOTHING), NAMED(DONE), NAMED(DONE_AT_END), NAMED(NO_MEMORY), NAMED(BAD_PLACE), NAMED(BAD_YANK_SIZE);
+    NAMED(NOTHING), NAMED(DONE), NAMED(DONE_AT_END), NAMED(NO_MEMORY), NAMED(BAD_OFFSET), NAMED(BAD_YANK_SIZE);
     NAMED(NOT_REPLAYING), NAMED(NO_ROOM), NAMED(NOT_UTF8), NAMED(NO_SUCH_NUMBER), NAMED(TOO_SMALL), NAMED(IS_WATCHED);
-    NAMED(CLOSED), NAMED(UNKNOWN_FORMAT), NAMED(DAMAGED);
+    NAMED(CLOSED), NAMED(UNKNOWN_FORMAT), NAMED(DAMAGED), NAMED(BAD_SIZE);
     for (size_t i = 0; i < COUNT(none); i++)
-        if (!SEE(!strcmp(lodvarn_answer_name(none[i]), "unknown"))) printf("  of %d\n", none[i]);
+        if (!SEE(!strcmp(lodvarn_answer_name(none[i]), "unknown") && *lodvarn_error_text(none[i])))
+            printf("  of %d\n", none[i]);
+    SEE(strstr(lodvarn_error_text(LODVARN_NO_ROOM), "the text would exceed the limit") != NULL);
+    for (int a = LODVARN_BAD_SIZE; a <= LODVARN_DONE_AT_END; a++)
+        for (int b = LODVARN_BAD_SIZE; b < a; b++)
+            if (!SEE(strcmp(lodvarn_error_text(a), lodvarn_error_text(b)))) printf("  of %d and %d\n", a, b);
 }
 
 static void sessions_open_and_close(void) {
@@ -148,25 +165,26 @@ static int has_chosen(const lodvarn_options *wanted) {
     return now.size == sizeof now && now.mode == wanted->mode && now.prompt == wanted->prompt
         && now.limit == wanted->limit && now.ring_size == wanted->ring_size && now.max_entries == wanted->max_entries
         && now.max_bytes == wanted->max_bytes && now.max_ring_bytes == wanted->max_ring_bytes
-        && now.keeps_undone == wanted->keeps_undone;
+        && now.keep_undone == wanted->keep_undone;
 }
 
 static void options_are_chosen(void) {
     static const lodvarn_options defaults = LODVARN_OPTIONS,
-                                 first = {sizeof first, Z, 65535, 64, 3, 5, 90, 9, false},
-                                 second = {sizeof second, W, 0, LODVARN_NO_LIMIT,
-                                           2, LODVARN_NO_BOUND, 0, LODVARN_NO_BOUND, true};
+                                 first = {sizeof first, 64, 5, 90, 3, 9, 65535, Z, false},
+                                 second = {sizeof second, LODVARN_NO_LIMIT, LODVARN_NO_BOUND, 0,
+                                           2, LODVARN_NO_BOUND, 0, W, true};
     lodvarn_close(&s);
+    SEE(defaults.size == sizeof defaults && LODVARN_UNICODE == 0);
     SEE(defaults.mode == LODVARN_UNICODE && defaults.prompt == 0 && defaults.limit == LODVARN_NO_LIMIT);
     SEE(defaults.max_entries == LODVARN_NO_BOUND && defaults.max_bytes == LODVARN_NO_BOUND);
-    SEE(defaults.max_ring_bytes == LODVARN_NO_BOUND && !defaults.keeps_undone && defaults.ring_size == 60);
+    SEE(defaults.max_ring_bytes == LODVARN_NO_BOUND && !defaults.keep_undone && defaults.ring_size == 60);
     SEE(lodvarn_open(&s, NULL, "ab", 2) == LODVARN_DONE && has_chosen(&defaults));
     lodvarn_close(&s);
     SEE(lodvarn_open(&s, &first, "ab", 2) == LODVARN_DONE && has_chosen(&first));
     SEE(lodvarn_set_options(s, &second) == LODVARN_DONE && has_chosen(&second));
     SEE(lodvarn_set_options(s, &first) == LODVARN_DONE && has_chosen(&first));
     DOES(DONE, lodvarn_restart(s, "", 0), "|");
-    for (const char *c = "abcd"; *c; c++) lodvarn_ring_add(s, c, 1);
+    add_each("abcd");
     DOES(DONE, lodvarn_undo_boundary(s), "|#d#c#b");
     SEE(has_chosen(&first));
 }
@@ -177,8 +195,8 @@ static void reads_read(void) {
     open_at("ab\n|\ncd", 6);
     SEE(chosen().limit == 6 && lodvarn_line_count(s) == 3);
     static const size_t line_of[] = {0, 0, 0, 1, 2, 2, 2};
-    for (size_t place = 0, number = NO; place <= 6; place++)
-        SEE(lodvarn_line_at(s, place, &number) == LODVARN_DONE && number == line_of[place]);
+    for (size_t offset = 0, number = NO; offset <= 6; offset++)
+        SEE(lodvarn_line_at(s, offset, &number) == LODVARN_DONE && number == line_of[offset]);
     SEE(lodvarn_line_range(s, 3, &line) == LODVARN_NOTHING && line.from == NO && line.to == NO);
     for (size_t i = 0; i < 3; i++)
         SEE(lodvarn_line_range(s, i, &line) == LODVARN_DONE && line.from == lines[i][0] && line.to == lines[i][1]);
@@ -191,7 +209,7 @@ static void reads_read(void) {
     SEE(!lodvarn_last_was_yank(s));
 }
 
-/* What a movement covers, and where it goes, from a place of "one two\n  three x\n \t \n", wherever the cursor is. NO
+/* What a movement covers, and where it goes, from an offset of "one two\n  three x\n \t \n", wherever the cursor is. NO
  * if that is nothing. */
 static void movements_are_asked(void) {
     const struct {
@@ -213,7 +231,12 @@ static void movements_are_asked(void) {
         {12, lodvarn_to_char(LODVARN_BACK_TO, 'w', 1), 5, 12, 5},
         {12, lodvarn_to_char(LODVARN_BACK_TO_AFTER, 'w', 1), 6, 12, 6},
         {12, lodvarn_to_char(LODVARN_TO, 'q', 1), NO, NO, NO},
-        {12, lodvarn_from_first_word(), 4, 12, NO},
+        {12, lodvarn_to_match(F, "x\n", 2), 12, 16, 16},
+        {12, lodvarn_to_match(F, "three", 5), NO, NO, NO},
+        {10, lodvarn_to_match(F, "three", 5), NO, NO, 10},
+        {12, lodvarn_to_match(B, "two", 3), 4, 12, 4},
+        {12, lodvarn_to_match(B, "th", 2), 10, 12, 10},
+        {11, lodvarn_to_match(B, "th", 2), NO, NO, NO},
         {12, lodvarn_chars_back(2), 10, 12, 10},
         {12, lodvarn_chars_forward(2), 12, 14, 14},
         {12, lodvarn_lines_up(1), 0, 18, 4},
@@ -239,7 +262,8 @@ static void movements_are_asked(void) {
     for (size_t i = 0; i < COUNT(table); i++) {
         lodvarn_range got = {NO, NO};
         size_t to = NO, from = table[i].pos;
-        int covers = lodvarn_movement_range(s, from, table[i].by, &got), goes = lodvarn_movement_target(s, from, table[i].by, &to);
+        int covers = lodvarn_movement_range(s, from, table[i].by, &got);
+        int goes = lodvarn_movement_target(s, from, table[i].by, &to);
         if (!SEE(covers == (table[i].from != NO) && got.from == table[i].from && got.to == table[i].to))
             printf("  by row %zu: %zu to %zu\n", i, got.from, got.to);
         if (!SEE(goes == (table[i].destination != NO) && to == table[i].destination))
@@ -292,14 +316,14 @@ static void insertions_return_where_they_went(void) {
     DOES(DONE_AT_END, lodvarn_paste(s, "z", 1, 2), "xyabzz|");
     open_at("|ab", 6);
     DOES(NOTHING, lodvarn_yank(s, 1), "|ab");
-    lodvarn_ring_add(s, "xy", 2);
+    must(add_to_ring("xy") > 0);
     DOES(NO_ROOM, lodvarn_yank(s, 3), "|ab#xy");
     SEE(!lodvarn_last_was_yank(s));
     DOES(DONE, lodvarn_yank(s, 1), "xy|ab#xy");
     lodvarn_set_pos(s, 4);
     DOES(DONE_AT_END, lodvarn_yank(s, 1), "xyabxy|");
     DOES(NO_ROOM, lodvarn_yank(s, 1), "xyabxy|");
-    lodvarn_ring_add(s, "", 0);
+    must(add_to_ring("") > 0);
     DOES(NOTHING, lodvarn_yank(s, 1), "xyabxy|##xy");
     open_at("ab|", 6);
     DOES(DONE, lodvarn_insert_at(s, 0, "é", 2), "é|ab");
@@ -308,8 +332,8 @@ static void insertions_return_where_they_went(void) {
 
 static void a_yank_is_popped(void) {
     open_at("ab|", 4);
-    lodvarn_ring_add(s, "xyz", 3);
-    lodvarn_ring_add(s, "c", 1);
+    must(add_to_ring("xyz") > 0);
+    must(add_to_ring("c") > 0);
     DOES(NOTHING, lodvarn_yank_pop(s), "ab|#c#xyz");
     DOES(DONE_AT_END, lodvarn_yank(s, 1), "abc|#c#xyz");
     DOES(NO_ROOM, lodvarn_yank_pop(s), "abc|#c#xyz");
@@ -318,13 +342,13 @@ static void a_yank_is_popped(void) {
     DOES(DONE_AT_END, lodvarn_yank_pop(s), "abxyz|#xyz#c");
     lodvarn_set_pos(s, 0);
     DOES(NOTHING, lodvarn_yank_pop(s), "|abxyz#xyz#c");
-    lodvarn_ring_add(s, "", 0);
-    lodvarn_ring_add(s, "c", 1);
+    must(add_to_ring("") > 0);
+    must(add_to_ring("c") > 0);
     DOES(DONE, lodvarn_yank(s, 1), "c|abxyz#c##c#xyz");
     DOES(DONE, lodvarn_yank_pop(s), "|abxyz##c#xyz#c");
     open_at("|ab", 64);
-    lodvarn_ring_add(s, "xy", 2);
-    lodvarn_ring_add(s, "c", 1);
+    must(add_to_ring("xy") > 0);
+    must(add_to_ring("c") > 0);
     DOES(DONE, lodvarn_yank(s, 1), "c|ab");
     DOES(DONE, lodvarn_yank_pop(s), "xy|ab#xy#c");
 }
@@ -344,17 +368,18 @@ static void the_ring_has_what_was_killed_and_kept(void) {
     DOES(NOTHING, lodvarn_kill(s, lodvarn_to_text_end()), "one |#two");
     DOES(DONE, lodvarn_undo_boundary(s), "one |#two");
     DOES(DONE, lodvarn_kill(s, WORD_BACK), "|#one #two");
-    DOES(DONE, lodvarn_ring_add(s, "né", 3), "|#né#one #two");
+    DOES(DONE, add_to_ring("né"), "|#né#one #two");
     DOES(DONE, lodvarn_ring_add(s, NULL, 0), "|##né#one #two");
     SEE(lodvarn_record_entries(s) == 2 && lodvarn_yank_pop(s) == LODVARN_NOTHING);
     DOES(DONE, lodvarn_ring_clear(s), "|");
-    SEE(lodvarn_yank(s, 1) == LODVARN_NOTHING && lodvarn_yank_pop(s) == LODVARN_NOTHING && lodvarn_record_entries(s) == 2);
+    SEE(lodvarn_yank(s, 1) == LODVARN_NOTHING && lodvarn_yank_pop(s) == LODVARN_NOTHING);
+    SEE(lodvarn_record_entries(s) == 2);
     open_at("one two|", 64);
     lodvarn_kill(s, WORD_BACK);
     DOES(DONE, lodvarn_ring_clear(s), "one |");
     DOES(DONE, lodvarn_kill(s, WORD_BACK), "|#one ");
     open_at("|", 64);
-    for (const char *c = "abcd"; *c; c++) lodvarn_ring_add(s, c, 1);
+    add_each("abcd");
     DOES(DONE_AT_END, lodvarn_yank(s, 1), "d|#d#c#b#a");
     SEE(lodvarn_yank_pop(s) == LODVARN_DONE_AT_END && lodvarn_yank_pop(s) == LODVARN_DONE_AT_END);
     DOES(DONE, lodvarn_kill(s, WORD_BACK), "|#b#d#c#b#a");
@@ -364,7 +389,8 @@ static void a_saved_text_comes_back(void) {
     open_at("|", 64);
     SEE(!lodvarn_is_saved(s) && lodvarn_mark_saved(s) == LODVARN_DONE && lodvarn_is_saved(s));
     lodvarn_insert(s, 'a', 1);
-    SEE(!lodvarn_is_saved(s) && lodvarn_mark_saved(s) == LODVARN_DONE && lodvarn_is_saved(s) && lodvarn_record_entries(s) == 1);
+    SEE(!lodvarn_is_saved(s) && lodvarn_mark_saved(s) == LODVARN_DONE && lodvarn_is_saved(s));
+    SEE(lodvarn_record_entries(s) == 1);
     lodvarn_insert(s, 'b', 1);
     SEE(!lodvarn_is_saved(s) && lodvarn_record_entries(s) == 2);
     DOES(DONE, lodvarn_undo(s, 1), "a|");
@@ -386,7 +412,8 @@ static void a_saved_text_comes_back(void) {
 
 static void groups_are_closed(void) {
     open_at("|one", 64);
-    SEE(lodvarn_end_group(s) == LODVARN_NOTHING && lodvarn_end_all_groups(s) == LODVARN_NOTHING && !lodvarn_group_level(s));
+    SEE(lodvarn_end_group(s) == LODVARN_NOTHING && lodvarn_end_all_groups(s) == LODVARN_NOTHING);
+    SEE(!lodvarn_group_level(s));
     SEE(lodvarn_begin_group(s) == LODVARN_DONE && lodvarn_record_entries(s) == 1);
     DOES(DONE, lodvarn_change_case(s, LODVARN_UPPERCASE), "ONE|");
     SEE(lodvarn_begin_group(s) == LODVARN_DONE && lodvarn_group_level(s) == 2 && !lodvarn_can_undo(s));
@@ -394,7 +421,8 @@ static void groups_are_closed(void) {
     SEE(lodvarn_can_undo(s) && lodvarn_end_group(s) == LODVARN_DONE && lodvarn_group_level(s) == 1);
     lodvarn_begin_group(s);
     SEE(lodvarn_end_group(s) == LODVARN_NOTHING && lodvarn_group_level(s) == 1);
-    SEE(lodvarn_end_group(s) == LODVARN_DONE && !lodvarn_group_level(s) && lodvarn_record_entries(s) == 9 && !lodvarn_can_redo(s));
+    SEE(lodvarn_end_group(s) == LODVARN_DONE && !lodvarn_group_level(s));
+    SEE(lodvarn_record_entries(s) == 9 && !lodvarn_can_redo(s));
     DOES(DONE, lodvarn_undo(s, 1), "|one");
     SEE(!lodvarn_can_undo(s) && lodvarn_can_redo(s));
     DOES(DONE, lodvarn_redo(s), "ONEb|");
@@ -440,7 +468,7 @@ static void an_edit_is_one_unit(void) {
 
 static void a_yank_and_its_pops_are_one_unit(void) {
     open_at("|", 64);
-    for (const char *c = "abc"; *c; c++) lodvarn_ring_add(s, c, 1);
+    add_each("abc");
     lodvarn_insert(s, '-', 1);
     DOES(DONE_AT_END, lodvarn_yank(s, 1), "-c|");
     DOES(DONE_AT_END, lodvarn_yank_pop(s), "-b|");
@@ -497,31 +525,30 @@ static void groups_are_abandoned(void) {
 
 static void what_was_undone_is_kept(void) {
     open_at("one two|", 64);
-    DOES(NOTHING, lodvarn_keep_undone(s), "one two|");
+    must(SET(keep_undone, true) > 0);
     lodvarn_kill(s, WORD_BACK), lodvarn_begin_group(s), lodvarn_insert(s, '-', 1), lodvarn_insert(s, '+', 1);
     lodvarn_end_group(s);
     DOES(DONE, lodvarn_undo(s, 2), "one two|#two");
-    DOES(DONE, lodvarn_keep_undone(s), "one two|#two");
-    DOES(NOTHING, lodvarn_keep_undone(s), "one two|#two");
-    SEE(lodvarn_record_entries(s) == 10 && !lodvarn_group_level(s) && !lodvarn_can_redo(s));
     lodvarn_set_pos(s, 0), lodvarn_insert(s, '*', 1);
+    SEE(lodvarn_record_entries(s) == 11 && !lodvarn_group_level(s) && !lodvarn_can_redo(s));
     DOES(DONE, lodvarn_undo(s, 2), "one |#two");
     DOES(DONE, lodvarn_undo(s, 1), "one -+|#two");
     DOES(DONE, lodvarn_undo(s, 1), "one |#two");
     DOES(DONE, lodvarn_undo(s, 1), "one two|#two");
     DOES(NOTHING, lodvarn_undo(s, 1), "one two|#two");
     open_at("|", 64);
-    SET(max_entries, 2);
-    lodvarn_insert(s, '-', 1), lodvarn_insert(s, '+', 1), lodvarn_undo(s, 1);
-    SEE(lodvarn_keep_undone(s) == LODVARN_DONE && lodvarn_record_entries(s) == 2);
-    DOES(DONE, lodvarn_undo(s, 1), "-+|");
-    DOES(DONE, lodvarn_undo(s, 9), "-|");
+    must(SET(max_entries, 2) > 0 && SET(keep_undone, true) > 0);
+    lodvarn_insert(s, '-', 1), lodvarn_insert(s, '+', 1), lodvarn_undo(s, 1), lodvarn_insert(s, '*', 1);
+    SEE(lodvarn_record_entries(s) == 2);
+    DOES(DONE, lodvarn_undo(s, 1), "-|");
+    DOES(DONE, lodvarn_undo(s, 9), "-+|");
+    DOES(NOTHING, lodvarn_undo(s, 1), "-+|");
 }
 
 /* A session in which "-" was typed after "one two", and undone. */
 static void begin_undone(bool keeps) {
     open_at("one two|", 64);
-    must(SET(keeps_undone, keeps) > 0 && lodvarn_ring_add(s, "kept", 4) > 0);
+    must(SET(keep_undone, keeps) > 0 && add_to_ring("kept") > 0);
     must(lodvarn_insert(s, '-', 1) > 0 && lodvarn_undo(s, 1) > 0);
 }
 
@@ -534,8 +561,8 @@ static int comes_back(void) {
     return 0;
 }
 
-/* The call keeps what was undone if that is chosen, and else it waits on or not; or it does not, and what was undone waits
- * on or is forgotten. */
+/* The call keeps the undone changes if that is chosen, and else they can be redone or not; or it does not, and they can
+ * be redone or are dropped. */
 #define KEEPS(call) UNDONE(call, comes_back() == keeps)
 #define STAYS(call) UNDONE(call, !keeps == (lodvarn_redo(s) == LODVARN_DONE))
 #define PASSES(call) UNDONE(call, lodvarn_can_redo(s) && !comes_back())
@@ -551,6 +578,7 @@ static void edits_keep_what_was_undone(void) {
     char copied[8];
     size_t len;
     KEEPS(lodvarn_insert(s, '+', 1));
+    KEEPS(lodvarn_type(s, "+*", 2, &len));
     KEEPS(lodvarn_paste(s, "+", 1, 1));
     KEEPS(lodvarn_yank(s, 1));
     KEEPS(lodvarn_yank_pop(s));
@@ -562,6 +590,7 @@ static void edits_keep_what_was_undone(void) {
     KEEPS(lodvarn_delete(s, 1));
     KEEPS(lodvarn_backspace(s, 1));
     KEEPS(lodvarn_delete_by(s, lodvarn_to_line_start()));
+    KEEPS(lodvarn_delete_by(s, lodvarn_to_match(B, "one", 3)));
     KEEPS(lodvarn_transpose_chars(s));
     KEEPS(lodvarn_transpose_words(s, 1));
     KEEPS(lodvarn_change_case(s, LODVARN_UPPERCASE));
@@ -579,10 +608,14 @@ static void edits_keep_what_was_undone(void) {
     PASSES(lodvarn_insert(s, '+', 65535));
     PASSES(lodvarn_insert(s, '+', 65536));
     PASSES(lodvarn_paste(s, "\xff", 1, 1));
+    PASSES(lodvarn_type(s, "\xc3", 1, &len));
+    PASSES(lodvarn_type(s, "\xff+", 2, &len));
+    PASSES(lodvarn_indent(s, lodvarn_whole_text(), 0, LODVARN_INDENT));
+    PASSES(lodvarn_indent(s, lodvarn_whole_text(), 1, LODVARN_DEDENT));
     PASSES(lodvarn_set_pos(s, 0));
     PASSES(lodvarn_move(s, WORD_BACK));
     PASSES(lodvarn_copy(s, WORD_BACK, copied, sizeof copied, &len));
-    PASSES(lodvarn_ring_add(s, "+", 1));
+    PASSES(add_to_ring("+"));
     PASSES(lodvarn_undo_boundary(s));
     PASSES(lodvarn_mark_saved(s));
     PASSES(lodvarn_undo(s, 1));
@@ -601,7 +634,7 @@ static void edits_keep_what_was_undone(void) {
     lodvarn_begin_group(s), lodvarn_insert(s, '-', 1), lodvarn_end_group(s);
     lodvarn_insert(s, '+', 1), lodvarn_undo(s, 1);
     SEE(lodvarn_reopen_group(s) == LODVARN_NOTHING && lodvarn_can_redo(s));
-    SEE(SET(keeps_undone, false) > 0 && lodvarn_reopen_group(s) == LODVARN_DONE && !lodvarn_can_redo(s));
+    SEE(SET(keep_undone, false) > 0 && lodvarn_reopen_group(s) == LODVARN_DONE && !lodvarn_can_redo(s));
 }
 
 static void options_take_effect(void) {
@@ -628,9 +661,9 @@ static void options_take_effect(void) {
     SEE(lodvarn_record_entries(s) == 3);
     open_at("abcd|", 64);
     DOES(DONE, SET(max_ring_bytes, 4), "abcd|");
-    DOES(DONE, lodvarn_ring_add(s, "x", 1), "abcd|#x");
-    DOES(DONE, lodvarn_ring_add(s, "yz", 2), "abcd|#yz#x");
-    DOES(DONE, lodvarn_ring_add(s, "w", 1), "abcd|#w#yz#x");
+    DOES(DONE, add_to_ring("x"), "abcd|#x");
+    DOES(DONE, add_to_ring("yz"), "abcd|#yz#x");
+    DOES(DONE, add_to_ring("w"), "abcd|#w#yz#x");
     DOES(DONE_AT_END, lodvarn_yank(s, 1), "abcdw|#w#yz#x");
     DOES(DONE_AT_END, lodvarn_yank_pop(s), "abcdyz|#yz#x#w");
     DOES(DONE, SET(max_ring_bytes, 3), "abcdyz|#yz#w");
@@ -676,110 +709,98 @@ static void clusters_are_found(void) {
     }
 }
 
-/* A place and its cell, on a screen of so many columns, after a prompt, with tab stops and in a mode. */
+/* A offset and its cell, on a screen of so many columns, after a prompt, with tab stops and in a mode. */
 struct laid {
     const char *what, *text;
-    size_t place;
+    size_t offset;
     lodvarn_screen screen;
     lodvarn_position cell;
 };
 
-/* The cell of each place; and the place is the last one at that cell. */
+/* The cell of each offset; and the offset is the last one at that cell. */
 static const struct laid cells[] = {
-    {"nothing, without a prompt", "", 0, {10, 0, 0, U, 0, 0}, {0, 0}},
-    {"nothing, after a prompt", "", 0, {10, 2, 0, U, 0, 0}, {0, 2}},
-    {"two letters after a prompt", "ab", 2, {10, 2, 0, U, 0, 0}, {0, 4}},
-    {"a newline leads below, and to the left", "ab\ncd", 3, {10, 2, 0, U, 0, 0}, {1, 0}},
-    {"and letters go on there", "ab\ncd", 5, {10, 2, 0, U, 0, 0}, {1, 2}},
-    {"so does the one cluster of a carriage return and a newline", "ab\r\ncd", 5, {10, 2, 0, U, 0, 0}, {1, 1}},
-    {"newlines alone", "\n\n", 2, {10, 5, 0, U, 0, 0}, {2, 0}},
-    {"a line after another prompt", "ab\ncd", 4, {10, 2, 0, U, 3, 0}, {1, 4}},
-    {"that leaves no column", "ab\ncd", 4, {10, 2, 0, U, 10, 0}, {2, 1}},
-    {"a control character of two columns", "a\1b", 2, {10, 0, 0, U, 0, 2}, {0, 3}},
-    {"a delete of as many", "a\177b", 2, {10, 0, 0, W, 0, 2}, {0, 3}},
-    {"and one of two bytes", "a\302\200b", 3, {10, 0, 0, U, 0, 4}, {0, 5}},
-    {"but no tab with stops", "\1\t", 2, {10, 0, 4, U, 0, 2}, {0, 4}},
-    {"which is one without", "\1\t", 2, {10, 0, 0, U, 0, 2}, {0, 4}},
-    {"before the right edge", "abcd", 3, {4, 0, 0, U, 0, 0}, {0, 3}},
-    {"the right edge is the next row", "abcd", 4, {4, 0, 0, U, 0, 0}, {1, 0}},
-    {"and the next letter stands there", "abcde", 5, {4, 0, 0, U, 0, 0}, {1, 1}},
-    {"a prompt counts for its row alone", "abcdef", 6, {4, 2, 0, U, 0, 0}, {2, 0}},
-    {"a newline at the edge makes one row", "abcd\ne", 5, {4, 0, 0, U, 0, 0}, {1, 0}},
-    {"and the letter after it stands on that", "abcd\ne", 6, {4, 0, 0, U, 0, 0}, {1, 1}},
-    {"a wide letter that fits to the edge", "ab漢", 5, {4, 0, 0, U, 0, 0}, {1, 0}},
-    {"before a wide letter that does not fit, where it stands", "abc漢", 3, {4, 0, 0, U, 0, 0}, {1, 0}},
-    {"a wide letter that does not fit is whole below", "abc漢", 6, {4, 0, 0, U, 0, 0}, {1, 2}},
-    {"a family is one cluster", FAMILY "x", 18, {10, 0, 0, U, 0, 0}, {0, 2}},
-    {"or three characters", FAMILY "x", 18, {10, 0, 0, W, 0, 0}, {0, 6}},
-    {"or three parts", FAMILY "x", 18, {10, 0, 0, Z, 0, 0}, {0, 6}},
-    {"a mark takes no column", "e\u0301x", 3, {10, 0, 0, U, 0, 0}, {0, 1}},
-    {"a prompt up to the edge", "", 0, {4, 4, 0, U, 0, 0}, {1, 0}},
-    {"a letter that is wider than the screen", "漢", 3, {1, 0, 0, U, 0, 0}, {2, 0}},
-    {"a tab as wide as it is measured", "a\tb", 3, {80, 0, 0, U, 0, 0}, {0, 3}},
-    {"or of no column", "a\tb", 3, {80, 0, 0, W, 0, 0}, {0, 2}},
-    {"a tab to the next multiple", "a\tb", 2, {80, 0, 8, U, 0, 0}, {0, 8}},
-    {"in each mode", "a\tb", 2, {80, 0, 8, W, 0, 0}, {0, 8}},
-    {"and the letter after it", "a\tb", 3, {80, 0, 8, U, 0, 0}, {0, 9}},
-    {"before it", "a\tb", 1, {80, 0, 8, U, 0, 0}, {0, 1}},
-    {"multiples of four", "a\tb", 2, {80, 0, 4, U, 0, 0}, {0, 4}},
-    {"a tab at a multiple", "abcd\t", 5, {80, 0, 4, U, 0, 0}, {0, 8}},
-    {"a tab after a prompt", "\t", 1, {80, 2, 8, U, 0, 0}, {0, 8}},
-    {"a tab on the next line", "abc\n\t\t", 6, {80, 2, 8, U, 0, 0}, {1, 16}},
-    {"a tab on a wrapped row", "abcdef\t", 7, {5, 0, 4, U, 0, 0}, {1, 4}},
-    {"a tab ends at the right edge", "abcdefghi\t", 10, {12, 0, 8, U, 0, 0}, {1, 0}},
-    {"and a letter after it stands on the next row", "abcdefghi\tj", 11, {12, 0, 8, U, 0, 0}, {1, 1}},
-    {"a tab at the right edge goes to the next row", "abcd\t", 5, {4, 0, 3, U, 0, 0}, {1, 3}},
-    {"a tab that is wider than the screen", "\t", 1, {4, 0, 8, U, 0, 0}, {1, 0}},
+    {"nothing, without a prompt", "", 0, ON(10, 0, 0, 0, 0, U), {0, 0}},
+    {"nothing, after a prompt", "", 0, ON(10, 2, 0, 0, 0, U), {0, 2}},
+    {"two letters after a prompt", "ab", 2, ON(10, 2, 0, 0, 0, U), {0, 4}},
+    {"a newline leads below, and to the left", "ab\ncd", 3, ON(10, 2, 0, 0, 0, U), {1, 0}},
+    {"and letters go on there", "ab\ncd", 5, ON(10, 2, 0, 0, 0, U), {1, 2}},
+    {"so does the one cluster of a carriage return and a newline", "ab\r\ncd", 5, ON(10, 2, 0, 0, 0, U), {1, 1}},
+    {"newlines alone", "\n\n", 2, ON(10, 5, 0, 0, 0, U), {2, 0}},
+    {"a line after another prompt", "ab\ncd", 4, ON(10, 2, 3, 0, 0, U), {1, 4}},
+    {"that leaves no column", "ab\ncd", 4, ON(10, 2, 10, 0, 0, U), {2, 1}},
+    {"a control character of two columns", "a\1b", 2, ON(10, 0, 0, 0, 2, U), {0, 3}},
+    {"a delete of as many", "a\177b", 2, ON(10, 0, 0, 0, 2, W), {0, 3}},
+    {"and one of two bytes", "a\302\200b", 3, ON(10, 0, 0, 0, 4, U), {0, 5}},
+    {"but no tab with stops", "\1\t", 2, ON(10, 0, 0, 4, 2, U), {0, 4}},
+    {"which is one without", "\1\t", 2, ON(10, 0, 0, 0, 2, U), {0, 4}},
+    {"before the right edge", "abcd", 3, ON(4, 0, 0, 0, 0, U), {0, 3}},
+    {"the right edge is the next row", "abcd", 4, ON(4, 0, 0, 0, 0, U), {1, 0}},
+    {"and the next letter stands there", "abcde", 5, ON(4, 0, 0, 0, 0, U), {1, 1}},
+    {"a prompt counts for its row alone", "abcdef", 6, ON(4, 2, 0, 0, 0, U), {2, 0}},
+    {"a newline at the edge makes one row", "abcd\ne", 5, ON(4, 0, 0, 0, 0, U), {1, 0}},
+    {"and the letter after it stands on that", "abcd\ne", 6, ON(4, 0, 0, 0, 0, U), {1, 1}},
+    {"a wide letter that fits to the edge", "ab漢", 5, ON(4, 0, 0, 0, 0, U), {1, 0}},
+    {"before a wide letter that does not fit, where it stands", "abc漢", 3, ON(4, 0, 0, 0, 0, U), {1, 0}},
+    {"a wide letter that does not fit is whole below", "abc漢", 6, ON(4, 0, 0, 0, 0, U), {1, 2}},
+    {"a family is one cluster", FAMILY "x", 18, ON(10, 0, 0, 0, 0, U), {0, 2}},
+    {"or three characters", FAMILY "x", 18, ON(10, 0, 0, 0, 0, W), {0, 6}},
+    {"or three parts", FAMILY "x", 18, ON(10, 0, 0, 0, 0, Z), {0, 6}},
+    {"a mark takes no column", "e\u0301x", 3, ON(10, 0, 0, 0, 0, U), {0, 1}},
+    {"a prompt up to the edge", "", 0, ON(4, 4, 0, 0, 0, U), {1, 0}},
+    {"a letter that is wider than the screen", "漢", 3, ON(1, 0, 0, 0, 0, U), {2, 0}},
+    {"a tab as wide as it is measured", "a\tb", 3, ON(80, 0, 0, 0, 0, U), {0, 3}},
+    {"or of no column", "a\tb", 3, ON(80, 0, 0, 0, 0, W), {0, 2}},
+    {"a tab to the next multiple", "a\tb", 2, ON(80, 0, 0, 8, 0, U), {0, 8}},
+    {"in each mode", "a\tb", 2, ON(80, 0, 0, 8, 0, W), {0, 8}},
+    {"and the letter after it", "a\tb", 3, ON(80, 0, 0, 8, 0, U), {0, 9}},
+    {"before it", "a\tb", 1, ON(80, 0, 0, 8, 0, U), {0, 1}},
+    {"multiples of four", "a\tb", 2, ON(80, 0, 0, 4, 0, U), {0, 4}},
+    {"a tab at a multiple", "abcd\t", 5, ON(80, 0, 0, 4, 0, U), {0, 8}},
+    {"a tab after a prompt", "\t", 1, ON(80, 2, 0, 8, 0, U), {0, 8}},
+    {"a tab on the next line", "abc\n\t\t", 6, ON(80, 2, 0, 8, 0, U), {1, 16}},
+    {"a tab on a wrapped row", "abcdef\t", 7, ON(5, 0, 0, 4, 0, U), {1, 4}},
+    {"a tab ends at the right edge", "abcdefghi\t", 10, ON(12, 0, 0, 8, 0, U), {1, 0}},
+    {"and a letter after it stands on the next row", "abcdefghi\tj", 11, ON(12, 0, 0, 8, 0, U), {1, 1}},
+    {"a tab at the right edge goes to the next row", "abcd\t", 5, ON(4, 0, 0, 3, 0, U), {1, 3}},
+    {"a tab that is wider than the screen", "\t", 1, ON(4, 0, 0, 8, 0, U), {1, 0}},
 };
 
-/* The place at each cell. */
-static const struct laid places[] = {
-    {"no text, far away", "", 0, {10, 2, 0, U, 0, 0}, {7, 7}},
-    {"on the prompt", "ab\ncd", 0, {10, 2, 0, U, 0, 0}, {0, 1}},
-    {"at the start", "ab\ncd", 0, {10, 2, 0, U, 0, 0}, {0, 2}},
-    {"between two letters", "ab\ncd", 1, {10, 2, 0, U, 0, 0}, {0, 3}},
-    {"at the end of a line", "ab\ncd", 2, {10, 2, 0, U, 0, 0}, {0, 4}},
-    {"to the right of a line", "ab\ncd", 2, {10, 2, 0, U, 0, 0}, {0, SIZE_MAX}},
-    {"inside it", "ab\ncd", 4, {10, 2, 0, U, 0, 0}, {1, 1}},
-    {"to the right of the last line", "ab\ncd", 5, {10, 2, 0, U, 0, 0}, {1, 9}},
-    {"below the last line", "ab\ncd", 5, {10, 2, 0, U, 0, 0}, {SIZE_MAX, 0}},
-    {"before a wide letter", "a漢b", 1, {10, 0, 0, U, 0, 0}, {0, 1}},
-    {"in its right half", "a漢b", 1, {10, 0, 0, U, 0, 0}, {0, 2}},
-    {"after it", "a漢b", 4, {10, 0, 0, U, 0, 0}, {0, 3}},
-    {"where it stands", "abc漢", 3, {4, 0, 0, U, 0, 0}, {1, 0}},
-    {"in its right half there", "abc漢", 3, {4, 0, 0, U, 0, 0}, {1, 1}},
-    {"inside a tab", "a\tb", 1, {20, 0, 8, U, 0, 0}, {0, 7}},
-    {"after a tab", "a\tb", 2, {20, 0, 8, U, 0, 0}, {0, 8}},
-    {"a tab of one column", "a\tb", 2, {20, 0, 0, U, 0, 0}, {0, 2}},
-    {"two places at one cell", "a\tb", 2, {20, 0, 0, W, 0, 0}, {0, 1}},
-    {"a mark is of its letter", "e\u0301x", 0, {10, 0, 0, U, 0, 0}, {0, 0}},
-    {"inside a family", FAMILY "x", 0, {10, 0, 0, U, 0, 0}, {0, 1}},
-    {"or of six", FAMILY "x", 0, {10, 0, 0, W, 0, 0}, {0, 5}},
+/* The offset at each cell. */
+static const struct laid offsets[] = {
+    {"no text, far away", "", 0, ON(10, 2, 0, 0, 0, U), {7, 7}},
+    {"on the prompt", "ab\ncd", 0, ON(10, 2, 0, 0, 0, U), {0, 1}},
+    {"at the start", "ab\ncd", 0, ON(10, 2, 0, 0, 0, U), {0, 2}},
+    {"between two letters", "ab\ncd", 1, ON(10, 2, 0, 0, 0, U), {0, 3}},
+    {"at the end of a line", "ab\ncd", 2, ON(10, 2, 0, 0, 0, U), {0, 4}},
+    {"to the right of a line", "ab\ncd", 2, ON(10, 2, 0, 0, 0, U), {0, SIZE_MAX}},
+    {"inside it", "ab\ncd", 4, ON(10, 2, 0, 0, 0, U), {1, 1}},
+    {"to the right of the last line", "ab\ncd", 5, ON(10, 2, 0, 0, 0, U), {1, 9}},
+    {"below the last line", "ab\ncd", 5, ON(10, 2, 0, 0, 0, U), {SIZE_MAX, 0}},
+    {"before a wide letter", "a漢b", 1, ON(10, 0, 0, 0, 0, U), {0, 1}},
+    {"in its right half", "a漢b", 1, ON(10, 0, 0, 0, 0, U), {0, 2}},
+    {"after it", "a漢b", 4, ON(10, 0, 0, 0, 0, U), {0, 3}},
+    {"where it stands", "abc漢", 3, ON(4, 0, 0, 0, 0, U), {1, 0}},
+    {"in its right half there", "abc漢", 3, ON(4, 0, 0, 0, 0, U), {1, 1}},
+    {"inside a tab", "a\tb", 1, ON(20, 0, 0, 8, 0, U), {0, 7}},
+    {"after a tab", "a\tb", 2, ON(20, 0, 0, 8, 0, U), {0, 8}},
+    {"a tab of one column", "a\tb", 2, ON(20, 0, 0, 0, 0, U), {0, 2}},
+    {"two offsets at one cell", "a\tb", 2, ON(20, 0, 0, 0, 0, W), {0, 1}},
+    {"a mark is of its letter", "e\u0301x", 0, ON(10, 0, 0, 0, 0, U), {0, 0}},
+    {"inside a family", FAMILY "x", 0, ON(10, 0, 0, 0, 0, U), {0, 1}},
+    {"or of six", FAMILY "x", 0, ON(10, 0, 0, 0, 0, W), {0, 5}},
 };
 
-static void see_place(const struct laid *row) {
+static void see_offset(const struct laid *row) {
     size_t got = NO;
     int answer = lodvarn_offset_at(&row->screen, row->cell, row->text, strlen(row->text), &got);
-    if (!see(row->what, answer == LODVARN_DONE && got == row->place)) printf("  got %zu\n", got);
+    if (!see(row->what, answer == LODVARN_DONE && got == row->offset)) printf("  got %zu\n", got);
 }
 
 static void see_cell(const struct laid *row) {
     lodvarn_position got = {NO, NO};
-    int answer = lodvarn_cell(&row->screen, row->place, row->text, strlen(row->text), &got);
+    int answer = lodvarn_cell(&row->screen, row->offset, row->text, strlen(row->text), &got);
     if (!see(row->what, answer == LODVARN_DONE && got.line == row->cell.line && got.column == row->cell.column))
         printf("  got %zu, %zu\n", got.line, got.column);
-}
-
-static void clusters_are_cut(void) {
-    static const char text[] = "e\u0301漢\r\n" FAMILY "x";
-    static const lodvarn_cluster wanted[] = {{0, 3, 1}, {3, 6, 2}, {6, 8, 1}, {8, 26, 2}, {26, 27, 1}};
-    for (size_t cap = 0; cap < 7; cap++) {
-        lodvarn_cluster got[7];
-        size_t count = NO, written = cap < COUNT(wanted) ? cap : COUNT(wanted);
-        memset(got, 0xff, sizeof got);
-        SEE(lodvarn_clusters(U, text, sizeof text - 1, got, cap, &count) == LODVARN_DONE && count == COUNT(wanted));
-        SEE(!memcmp(got, wanted, written * sizeof *got) && got[written].from == SIZE_MAX);
-    }
 }
 
 /* The rows of a text: where each begins, and how many there are. */
@@ -788,20 +809,20 @@ static const struct {
     lodvarn_screen screen;
     size_t count, starts[5];
 } laid_rows[] = {
-    {"no text", "", {80, 0, 0, U, 0, 0}, 1, {0}},
-    {"one row", "ab", {3, 0, 0, U, 0, 0}, 1, {0}},
-    {"one to the right edge, and the next for the cursor", "abc", {3, 0, 0, U, 0, 0}, 2, {0, 3}},
-    {"a wrapped line", "abcde", {3, 0, 0, U, 0, 0}, 2, {0, 3}},
-    {"after a prompt", "abcde", {3, 2, 0, U, 0, 0}, 3, {0, 1, 4}},
-    {"a prompt over a whole row", "ab", {3, 3, 0, U, 0, 0}, 2, {0, 0}},
-    {"two lines", "ab\r\ncd", {80, 2, 0, U, 0, 0}, 2, {0, 4}},
-    {"the end of a line at the right edge", "abc\nd", {3, 0, 0, U, 0, 0}, 2, {0, 3}},
-    {"after another prompt", "a\nbcde", {4, 0, 0, U, 2, 0}, 3, {0, 2, 4}},
-    {"a wide letter that does not fit", "ab漢", {3, 0, 0, U, 0, 0}, 2, {0, 2}},
-    {"a letter that is wider than the screen", "漢a", {1, 0, 0, U, 0, 0}, 4, {0, 0, 3, 4}},
-    {"a control character of two columns", "a\1b", {3, 0, 0, U, 0, 2}, 2, {0, 2}},
-    {"of as many as it has", "a\1b", {4, 0, 0, U, 0, 0}, 1, {0}},
-    {"a tab to the next stop", "a\tb", {4, 0, 4, U, 0, 2}, 2, {0, 2}},
+    {"no text", "", ON(80, 0, 0, 0, 0, U), 1, {0}},
+    {"one row", "ab", ON(3, 0, 0, 0, 0, U), 1, {0}},
+    {"one to the right edge, and the next for the cursor", "abc", ON(3, 0, 0, 0, 0, U), 2, {0, 3}},
+    {"a wrapped line", "abcde", ON(3, 0, 0, 0, 0, U), 2, {0, 3}},
+    {"after a prompt", "abcde", ON(3, 2, 0, 0, 0, U), 3, {0, 1, 4}},
+    {"a prompt over a whole row", "ab", ON(3, 3, 0, 0, 0, U), 2, {0, 0}},
+    {"two lines", "ab\r\ncd", ON(80, 2, 0, 0, 0, U), 2, {0, 4}},
+    {"the end of a line at the right edge", "abc\nd", ON(3, 0, 0, 0, 0, U), 2, {0, 3}},
+    {"after another prompt", "a\nbcde", ON(4, 0, 2, 0, 0, U), 3, {0, 2, 4}},
+    {"a wide letter that does not fit", "ab漢", ON(3, 0, 0, 0, 0, U), 2, {0, 2}},
+    {"a letter that is wider than the screen", "漢a", ON(1, 0, 0, 0, 0, U), 4, {0, 0, 3, 4}},
+    {"a control character of two columns", "a\1b", ON(3, 0, 0, 0, 2, U), 2, {0, 2}},
+    {"of as many as it has", "a\1b", ON(4, 0, 0, 0, 0, U), 1, {0}},
+    {"a tab to the next stop", "a\tb", ON(4, 0, 0, 4, 2, U), 2, {0, 2}},
 };
 
 static void rows_are_found(void) {
@@ -811,31 +832,26 @@ static void rows_are_found(void) {
         int same = answer == LODVARN_DONE && count == laid_rows[i].count && starts[5] == NO;
         for (size_t k = 0; k < count && k < 5; k++) same = same && starts[k] == laid_rows[i].starts[k];
         if (!see(laid_rows[i].what, same)) printf("  got %zu: %zu, %zu, %zu\n", count, starts[0], starts[1], starts[2]);
-        starts[1] = NO;
-        SEE(lodvarn_rows(&laid_rows[i].screen, laid_rows[i].text, len, starts, 1, &count) == LODVARN_DONE);
-        SEE(count == laid_rows[i].count && starts[0] == 0 && starts[1] == NO);
-        SEE(lodvarn_rows(&laid_rows[i].screen, laid_rows[i].text, len, NULL, 0, &count) == LODVARN_DONE);
-        SEE(count == laid_rows[i].count);
     }
 }
 
-/* Motions by rows, one after another from a place: up or down by so many, the place, and the column that is kept. */
+/* Motions by rows, one after another from an offset: up or down by so many, the offset, and the column that is kept. */
 static const struct moved {
     const char *what, *text;
     size_t pos;
     lodvarn_screen screen;
-    struct { int down; size_t n, place, column; } steps[4];
+    struct { int down; size_t n, offset, column; } steps[4];
 } rows_moved[] = {
-    {"over a shorter line, and back to the column", "abcdef\n\nghi", 11, {4, 0, 0, U, 0, 0},
+    {"over a shorter line, and back to the column", "abcdef\n\nghi", 11, ON(4, 0, 0, 0, 0, U),
      {{0, 1, 7, 3}, {0, 1, 6, 3}, {0, 1, 3, 3}, {0, 1, NO, 3}}},
-    {"down, to the last row of the next line", "abcdef\nghi", 1, {4, 0, 0, U, 0, 0},
+    {"down, to the last row of the next line", "abcdef\nghi", 1, ON(4, 0, 0, 0, 0, U),
      {{1, 1, 5, 1}, {1, 1, 8, 1}, {1, 1, NO, 1}, {0, 2, 1, 1}}},
-    {"after a prompt, and another", "abcd\nefg", 0, {80, 4, 0, U, 2, 0}, {{1, 1, 7, 4}, {0, 1, 0, 4}}},
-    {"many rows at once", "a\nb\nc\nd", 0, {80, 0, 0, U, 0, 0},
+    {"after a prompt, and another", "abcd\nefg", 0, ON(80, 4, 2, 0, 0, U), {{1, 1, 7, 4}, {0, 1, 0, 4}}},
+    {"many rows at once", "a\nb\nc\nd", 0, ON(80, 0, 0, 0, 0, U),
      {{1, 3, 6, 0}, {0, 2, 2, 0}, {0, 2, NO, 0}, {1, 3, NO, 0}}},
-    {"by columns over a wide letter and a tab", "ab日c\n\tx\nabcdefghij", 5, {80, 0, 8, U, 0, 0},
+    {"by columns over a wide letter and a tab", "ab日c\n\tx\nabcdefghij", 5, ON(80, 0, 0, 8, 0, U),
      {{1, 1, 7, 4}, {1, 1, 14, 4}, {0, 2, 5, 4}}},
-    {"a line that ends at the right edge has one row more", "abcd\nef", 6, {4, 0, 0, U, 0, 0},
+    {"a line that ends at the right edge has one row more", "abcd\nef", 6, ON(4, 0, 0, 0, 0, U),
      {{0, 1, 4, 1}, {0, 1, 1, 1}}},
 };
 
@@ -844,11 +860,11 @@ static void see_moved(const struct moved *row, lodvarn *t) {
     for (size_t k = 0; k < COUNT(row->steps) && row->steps[k].n; k++) {
         int (*call)(lodvarn *, const lodvarn_screen *, size_t, size_t *, size_t *) =
             row->steps[k].down ? lodvarn_row_below : lodvarn_row_above;
-        size_t place = NO;
-        int answer = call(t, &row->screen, row->steps[k].n, &column, &place);
-        int same = place == row->steps[k].place && column == row->steps[k].column && answer == (place != NO);
-        if (!see(row->what, same)) printf("  step %zu: got %d, %zu, %zu\n", k, answer, place, column);
-        if (answer > 0) lodvarn_set_pos(t, place);
+        size_t offset = NO;
+        int answer = call(t, &row->screen, row->steps[k].n, &column, &offset);
+        int same = offset == row->steps[k].offset && column == row->steps[k].column && answer == (offset != NO);
+        if (!see(row->what, same)) printf("  step %zu: got %d, %zu, %zu\n", k, answer, offset, column);
+        if (answer > 0) lodvarn_set_pos(t, offset);
     }
 }
 
@@ -862,12 +878,12 @@ static void motions_by_rows_keep_the_column(void) {
     }
 }
 
-static void cells_and_places_are_found(void) {
-    static const struct laid inside = {"inside a cluster, where it starts", "xe\u0301x", 2, {10, 0, 0, U, 0, 0},
+static void cells_and_offsets_are_found(void) {
+    static const struct laid inside = {"inside a cluster, where it starts", "xe\u0301x", 2, ON(10, 0, 0, 0, 0, U),
                                        {0, 1}};
     see_cell(&inside);
-    for (size_t i = 0; i < COUNT(cells); i++) see_cell(&cells[i]), see_place(&cells[i]);
-    for (size_t i = 0; i < COUNT(places); i++) see_place(&places[i]);
+    for (size_t i = 0; i < COUNT(cells); i++) see_cell(&cells[i]), see_offset(&cells[i]);
+    for (size_t i = 0; i < COUNT(offsets); i++) see_offset(&offsets[i]);
 }
 
 /* What each movement and number means: a call with it leaves what a line of a script does. */
@@ -887,14 +903,14 @@ static int kills_range(lodvarn_movement by, int number) {
     return lodvarn_yank(s, 1);
 }
 
-/* What each call left from both places of a text on which no two lines of a call do the same. */
+/* What each call left from both offsets of a text on which no two lines of a call do the same. */
 static struct { meaning *call; char left[2][80]; } meant[128];
 static size_t meanings;
 
 /* Also, but for motions, no other movement or number of the same call leaves that. */
 static void mean(meaning *call, lodvarn_movement by, int number, const char *format, const char *a, const char *b) {
     static const char text[] = "text   x One\\nx-two\\n two_x/y z,x aB b_c,d e.f x\\n3x\\n4\\n5";
-    static const char *const places[] = {"pos 26", "pos 28"};
+    static const char *const offsets[] = {"pos 26", "pos 28"};
     char line[64], script[256];
     size_t me = meanings++;
     int apart = 1;
@@ -903,12 +919,12 @@ static void mean(meaning *call, lodvarn_movement by, int number, const char *for
     snprintf(line, sizeof line, format, a, b);
     for (size_t k = 0; k < 2; k++) {
         begin_script();
-        run(text), run(places[k]);
+        run(text), run(offsets[k]);
         call(by, number);
         const char *shown = run("limit 4096");
         must(strlen(shown) < sizeof meant[me].left[k]);
         strcpy(meant[me].left[k], shown);
-        snprintf(script, sizeof script, "%s\n%s\n%s\nlimit 4096\n", text, places[k], line);
+        snprintf(script, sizeof script, "%s\n%s\n%s\nlimit 4096\n", text, offsets[k], line);
         char *printed = printed_at_once(script), *last = printed + strlen(printed) - strlen(shown);
         if (!see(line, last > printed && !strcmp(last, shown))) printf("  left %s, not %s", shown, printed);
         free(printed);
@@ -944,7 +960,7 @@ static void movements_mean_what_they_say(void) {
     }
     const struct { lodvarn_movement by; const char *name; } others[] = {
         {lodvarn_whole_line(), "line"},       {lodvarn_to_line_start(), "home"},  {lodvarn_to_line_end(), "eol"},
-        {lodvarn_from_first_word(), "first"}, {lodvarn_chars_back(2), "bchar 2"}, {lodvarn_chars_forward(2), "fchar 2"},
+        {lodvarn_chars_back(2), "bchar 2"},   {lodvarn_chars_forward(2), "fchar 2"},
         {lodvarn_lines_up(2), "up 2"},        {lodvarn_lines_down(2), "down 2"},  {lodvarn_whole_text(), "buf"},
         {lodvarn_to_text_start(), "bob"},     {lodvarn_to_text_end(), "eob"},
         {lodvarn_to_first_nonblank(), "nonblank"},
@@ -983,64 +999,67 @@ static struct out {
 } out, untouched;
 static char before[512];
 
-/* All that can be read of the session, but what was done last. */
+/* All that can be read of the session, but what was done last, and its reports. */
 static void print_state(char *to, size_t cap) {
     FILE *file = tmpfile();
     lodvarn_options now = chosen();
-    lodvarn_report report;
     lodvarn_view text;
-    must(file && lodvarn_text(s, &text) == LODVARN_DONE && lodvarn_next_report(s, &report) == LODVARN_DONE);
+    must(file && lodvarn_text(s, &text) == LODVARN_DONE);
     print_marked(file, text, lodvarn_pos(s));
     print_ring(file);
     fprintf(file, " %zu %zu", lodvarn_record_entries(s), lodvarn_group_level(s));
     fprintf(file, " %d %d", lodvarn_can_undo(s), lodvarn_can_redo(s));
-    fprintf(file, " %d %u %zu %zu %zu %zu %zu", now.mode, (unsigned)now.prompt, now.limit, now.ring_size,
-            now.max_entries, now.max_bytes, now.max_ring_bytes);
-    fprintf(file, " %d %zu %d %zu %zu", now.keeps_undone, lodvarn_report_count(s), report.kind, report.at,
-            report.old_len);
+    fprintf(file, " %d %zu %zu %zu %zu %zu %zu", now.mode, now.prompt, now.limit, now.ring_size, now.max_entries,
+            now.max_bytes, now.max_ring_bytes);
+    fprintf(file, " %d %zu", now.keep_undone, lodvarn_report_count(s));
     printed_in(file, to, cap);
 }
 
 /* "aé\nb " with a limit of 12 bytes, in a group, with reports. A kill was done last, or a yank. */
 static void begin_row(int yanked) {
     open_at("aé\nb cd|", 12);
-    must(lodvarn_watch(s, 9, 64) == LODVARN_DONE && lodvarn_ring_add(s, "kept", 4) == LODVARN_DONE);
+    lodvarn_report report = LODVARN_REPORT;
+    must(lodvarn_watch(s, 9, 64) == LODVARN_DONE && add_to_ring("kept") == LODVARN_DONE);
     must(lodvarn_begin_group(s) == LODVARN_DONE && lodvarn_kill(s, WORD_BACK) == LODVARN_DONE);
     if (yanked) {
         must(lodvarn_undo_boundary(s) == LODVARN_DONE && lodvarn_kill(s, WORD_BACK) == LODVARN_DONE);
         must(lodvarn_yank(s, 1) == LODVARN_DONE_AT_END);
     }
-    must(lodvarn_forget_report(s) == LODVARN_DONE && lodvarn_take_change(s, &out.splice) == LODVARN_DONE);
+    must(lodvarn_take_report(s, &report) == LODVARN_DONE && lodvarn_take_change(s, &out.splice) == LODVARN_DONE);
     memset(&out, '#', sizeof out);
     memset(&untouched, '#', sizeof untouched);
     print_state(before, sizeof before);
 }
 
-/* Whether the call left all as it was; if it parts, it was a command, which ends a run of kills. */
+/* Whether the call left all as it was; if it parts, it was a command, which ends a run of kills. The oldest report is
+ * that of the deletion of "cd". */
 static int has_left_all(int yanked, int parts) {
     char now[sizeof before];
+    lodvarn_report report = LODVARN_REPORT;
     print_state(now, sizeof now);
     int same = !strcmp(now, before) && !memcmp(&out, &untouched, sizeof out)
-        && lodvarn_last_was_yank(s) == (yanked && !parts) && lodvarn_take_change(s, &out.splice) == LODVARN_NOTHING;
+        && lodvarn_last_was_yank(s) == (yanked && !parts) && lodvarn_take_change(s, &out.splice) == LODVARN_NOTHING
+        && lodvarn_take_report(s, &report) == LODVARN_DONE && report.at == 6 && is(report.old_text, "cd");
     lodvarn_kill(s, WORD_BACK);
     same = same && lodvarn_ring_count(s) == (yanked ? 4 : parts ? 3 : 2);
     return same && lodvarn_undo(s, 65535) == LODVARN_DONE && lodvarn_text(s, &out.view) > 0 && is(out.view, "aé\nb cd");
 }
 
 /* The call returns that and changes nothing; PARTS: it counts as a command. */
-#define LEAVES(wanted, call) ROW(wanted, call, 0)
-#define PARTS(wanted, call) ROW(wanted, call, 1)
-#define ROW(wanted, call, parts)                                                          \
-    for (int yanked = 0; yanked < 2; yanked++) {                                          \
-        begin_row(yanked);                                                                \
-        int answer = (call);                                                              \
-        if (!see(#call, answer == LODVARN_##wanted && has_left_all(yanked, parts)))       \
-            printf("  returned %s after a %s\n", lodvarn_answer_name(answer), yanked ? "yank" : "kill"); \
+#define LEAVES(wanted, call) ROW(LODVARN_##wanted, call, 0)
+#define PARTS(wanted, call) ROW(LODVARN_##wanted, call, 1)
+#define RETURNS(wanted, call) ROW(wanted, call, 0)
+#define ROW(wanted, call, parts)                                                                              \
+    for (int yanked = 0; yanked < 2; yanked++) {                                                              \
+        begin_row(yanked);                                                                                    \
+        int answer = (call);                                                                                  \
+        if (!see(#call, answer == (wanted) && has_left_all(yanked, parts)))                                   \
+            printf("  returned %s after a %s\n", lodvarn_answer_name(answer), yanked ? "yank" : "kill");      \
     }
 
 /* Options that differ from the session's, with a limit that is less than what its text has. */
 static const lodvarn_options *other_options(size_t size, int mode) {
-    options = (lodvarn_options){size, (enum lodvarn_mode)mode, 7, 5, 1, 1, 1, 1, true};
+    options = (lodvarn_options){size, 5, 1, 1, 1, 1, 7, (enum lodvarn_mode)mode, true};
     return &options;
 }
 
@@ -1050,40 +1069,52 @@ static const lodvarn_splice *change_of(size_t from, size_t old_to, size_t new_to
     return &change;
 }
 
-static const lodvarn_screen *screen_of(uint16_t columns, int mode) {
-    static lodvarn_screen screen;
-    screen = (lodvarn_screen){columns, 0, 8, (enum lodvarn_mode)mode, 0, 0};
-    return &screen;
-}
-
-static const lodvarn_screen screen = {10, 0, 8, LODVARN_UNICODE, 0, 0};
+static const lodvarn_screen screen = ON(10, 0, 0, 8, 0, U);
 static const lodvarn_position corner = {0, 0};
 
-/* No call takes the movement; none does anything by it. */
-#define NO_CALL_TAKES(wanted, movement)                                                  \
-    LEAVES(wanted, lodvarn_move(s, movement));                                           \
-    LEAVES(wanted, lodvarn_delete_by(s, movement));                                      \
-    LEAVES(wanted, lodvarn_kill(s, movement));                                           \
-    LEAVES(wanted, lodvarn_copy(s, movement, out.text, sizeof out.text, &out.number));   \
-    LEAVES(wanted, lodvarn_indent(s, movement, 1, LODVARN_INDENT));                      \
-    LEAVES(wanted, lodvarn_movement_range(s, 1, movement, &out.range));                          \
+/* No call takes the movement. An indent of a text that is searched for is not asked for its text. */
+#define BY_NO_CALL(wanted, movement)                                                      \
+    LEAVES(wanted, lodvarn_move(s, movement));                                            \
+    LEAVES(wanted, lodvarn_delete_by(s, movement));                                       \
+    LEAVES(wanted, lodvarn_kill(s, movement));                                            \
+    LEAVES(wanted, lodvarn_copy(s, movement, out.text, sizeof out.text, &out.number));    \
+    LEAVES(wanted, lodvarn_movement_range(s, 1, movement, &out.range));                   \
     LEAVES(wanted, lodvarn_movement_target(s, 1, movement, &out.number))
+#define NO_CALL_TAKES(wanted, movement) \
+    BY_NO_CALL(wanted, movement);       \
+    LEAVES(wanted, lodvarn_indent(s, movement, 1, LODVARN_INDENT))
 static void refuse_movement(lodvarn_movement bad) { NO_CALL_TAKES(NO_SUCH_NUMBER, bad); }
 static void leave_movement(lodvarn_movement by) { NO_CALL_TAKES(NOTHING, by); }
 
+/* No call takes the screen. */
+static void refuse_screen(int wanted, lodvarn_screen bad) {
+    size_t column = LODVARN_OWN_COLUMN;
+    RETURNS(wanted, lodvarn_cell(&bad, 0, "a", 1, &out.position));
+    RETURNS(wanted, lodvarn_offset_at(&bad, corner, "a", 1, &out.number));
+    RETURNS(wanted, lodvarn_rows(&bad, "a", 1, &out.number, 1, &out.number));
+    RETURNS(wanted, lodvarn_row_above(s, &bad, 1, &column, &out.number));
+    RETURNS(wanted, lodvarn_row_below(s, &bad, 1, &column, &out.number));
+    SEE(column == LODVARN_OWN_COLUMN);
+}
+
+static lodvarn_screen screen_in(int mode) {
+    lodvarn_screen of = LODVARN_SCREEN(10);
+    of.mode = (enum lodvarn_mode)mode;
+    return of;
+}
+
 static void numbers_outside_of_their_enums(void) {
-    EACH_OUTSIDE(LODVARN_UNICODE, LODVARN_NO_ZWJ) {
+    EACH_NUMBER(W, number != (int)U && number != (int)W && number != (int)Z) {
         LEAVES(NO_SUCH_NUMBER, lodvarn_open(&out.opened, other_options(sizeof options, number), "a", 1));
         LEAVES(NO_SUCH_NUMBER, lodvarn_set_options(s, other_options(sizeof options, number)));
         LEAVES(NO_SUCH_NUMBER, lodvarn_width((enum lodvarn_mode)number, "a", 1, &out.number));
-        LEAVES(NO_SUCH_NUMBER, lodvarn_cell(screen_of(10, number), 0, "a", 1, &out.position));
-        LEAVES(NO_SUCH_NUMBER, lodvarn_offset_at(screen_of(10, number), corner, "a", 1, &out.number));
         LEAVES(NO_SUCH_NUMBER, lodvarn_clusters((enum lodvarn_mode)number, "a", 1, &out.cluster, 1, &out.number));
-        LEAVES(NO_SUCH_NUMBER, lodvarn_rows(screen_of(10, number), "a", 1, &out.number, 1, &out.number));
-        LEAVES(NO_SUCH_NUMBER, lodvarn_row_above(s, screen_of(10, number), 1, &out.number, &out.number));
+        refuse_screen(LODVARN_NO_SUCH_NUMBER, screen_in(number));
     }
-    EACH_OUTSIDE(LODVARN_FORWARD, LODVARN_BACKWARD)
+    EACH_OUTSIDE(LODVARN_FORWARD, LODVARN_BACKWARD) {
         LEAVES(NO_SUCH_NUMBER, lodvarn_kill_range(s, range(0, 1), (enum lodvarn_direction)number));
+        LEAVES(NO_SUCH_NUMBER, lodvarn_find(s, 0, "a", 1, (enum lodvarn_direction)number, &out.range));
+    }
     EACH_OUTSIDE(LODVARN_BEFORE, LODVARN_AFTER)
         LEAVES(NO_SUCH_NUMBER, lodvarn_map_offset(change_of(1, 2, 2), 1, (enum lodvarn_side)number, &out.number));
     EACH_OUTSIDE(LODVARN_CAPITALIZE, LODVARN_UPPERCASE)
@@ -1091,23 +1122,41 @@ static void numbers_outside_of_their_enums(void) {
     EACH_OUTSIDE(LODVARN_INDENT, LODVARN_DEDENT)
         LEAVES(NO_SUCH_NUMBER, lodvarn_indent(s, lodvarn_whole_text(), 1, (enum lodvarn_indentation)number));
     each_bad_movement(refuse_movement);
-    LEAVES(NO_SUCH_NUMBER, lodvarn_cell(screen_of(0, U), 0, "a", 1, &out.position));
-    LEAVES(NO_SUCH_NUMBER, lodvarn_offset_at(screen_of(0, U), corner, "a", 1, &out.number));
-    LEAVES(NO_SUCH_NUMBER, lodvarn_rows(screen_of(0, U), "a", 1, &out.number, 1, &out.number));
-    LEAVES(NO_SUCH_NUMBER, lodvarn_row_below(s, screen_of(0, U), 1, &out.number, &out.number));
-    LEAVES(NO_SUCH_NUMBER, lodvarn_row_below(s, &screen, 65536, &out.number, &out.number));
-    static const size_t sizes[] = {0, 1, sizeof options - 1, sizeof options + 1, 2 * sizeof options, SIZE_MAX};
-    for (size_t i = 0; i < COUNT(sizes); i++) {
-        LEAVES(NO_SUCH_NUMBER, lodvarn_open(&out.opened, other_options(sizes[i], U), "a", 1));
-        LEAVES(NO_SUCH_NUMBER, lodvarn_set_options(s, other_options(sizes[i], U)));
-    }
     const lodvarn_movement not_to_one_side[] = {
-        lodvarn_whole_line(),  lodvarn_whole_text(),     lodvarn_to_first_nonblank(), lodvarn_from_first_word(),
-        lodvarn_chars_back(1), lodvarn_chars_forward(1), lodvarn_lines_up(1),         lodvarn_lines_down(1),
-        lodvarn_whole_lines_up(1), lodvarn_whole_lines_down(1),
+        lodvarn_whole_line(),      lodvarn_whole_text(), lodvarn_to_first_nonblank(), lodvarn_chars_back(1),
+        lodvarn_chars_forward(1),  lodvarn_lines_up(1),  lodvarn_lines_down(1),       lodvarn_whole_lines_up(1),
+        lodvarn_whole_lines_down(1),
     };
     for (size_t i = 0; i < COUNT(not_to_one_side); i++)
         LEAVES(NO_SUCH_NUMBER, lodvarn_delete_by(s, not_to_one_side[i]));
+    LEAVES(NO_SUCH_NUMBER, lodvarn_indent(s, lodvarn_to_match(F, "b", 1), 1, LODVARN_INDENT));
+    LEAVES(NO_SUCH_NUMBER, lodvarn_indent(s, lodvarn_to_match(B, "a", 1), 1, LODVARN_DEDENT));
+}
+
+/* Screens, options and amounts with a number that is too great, or no columns; and the greatest that they may have. */
+static void numbers_that_are_too_great(void) {
+    static const size_t great[] = {65536, 65616, (size_t)1 << 32, SIZE_MAX}, amounts[] = {256, 300, 65536, SIZE_MAX};
+    static const lodvarn_screen widest = ON(65535, 65535, 65535, 65535, 65535, U);
+    static const lodvarn_position below = {1, 0};
+    lodvarn_position cell;
+    refuse_screen(LODVARN_NO_SUCH_NUMBER, (lodvarn_screen)LODVARN_SCREEN(0));
+    for (size_t i = 0; i < COUNT(great); i++) {
+        size_t n = great[i];
+        const lodvarn_screen screens[] = {ON(n, 0, 0, 0, 0, U), ON(80, n, 0, 0, 0, U), ON(80, 0, n, 0, 0, U),
+                                          ON(80, 0, 0, n, 0, U), ON(80, 0, 0, 0, n, U)};
+        for (size_t k = 0; k < COUNT(screens); k++) refuse_screen(LODVARN_NO_SUCH_NUMBER, screens[k]);
+        LEAVES(NO_SUCH_NUMBER, SET(prompt, n));
+        LEAVES(NO_SUCH_NUMBER, lodvarn_row_below(s, &screen, n, &out.number, &out.number));
+        LEAVES(NO_SUCH_NUMBER, lodvarn_indent(s, lodvarn_whole_text(), amounts[i], LODVARN_INDENT));
+        LEAVES(NO_SUCH_NUMBER, lodvarn_indent(s, lodvarn_whole_text(), amounts[i], LODVARN_DEDENT));
+    }
+    SEE(lodvarn_cell(&widest, 1, "\na", 2, &cell) > 0 && cell.line == 2 && cell.column == 0);
+    SEE(lodvarn_offset_at(&widest, below, "\na", 2, &out.number) > 0 && out.number == 0);
+    open_at("|", 255);
+    DOES(DONE, SET(prompt, 65535), "|");
+    DOES(NO_ROOM, (lodvarn_insert(s, 'a', 1), lodvarn_indent(s, lodvarn_whole_text(), 255, LODVARN_INDENT)), "a|");
+    must(lodvarn_indent(s, lodvarn_whole_text(), 254, LODVARN_INDENT) > 0);
+    DOES(DONE, lodvarn_indent(s, lodvarn_whole_text(), 255, LODVARN_DEDENT), "a|");
 }
 
 static void counts_and_characters_that_are_none(void) {
@@ -1132,7 +1181,7 @@ static void counts_and_characters_that_are_none(void) {
     do {                                                                                          \
         char now[sizeof before];                                                                  \
         open_at(marked, 64);                                                                      \
-        must(SET(keeps_undone, true) > 0 && lodvarn_watch(s, 9, 64) > 0);                         \
+        must(SET(keep_undone, true) > 0 && lodvarn_watch(s, 9, 64) > 0);                         \
         lodvarn_insert(s, '-', 1), lodvarn_undo(s, 1), first;                                     \
         must(lodvarn_text(s, &out.view) > 0 && SET(limit, out.view.len) > 0);                     \
         print_state(before, sizeof before);                                                       \
@@ -1154,8 +1203,8 @@ static void texts_that_are_longer_than_the_limit(void) {
     LEAVES(NO_ROOM, lodvarn_restart(s, "1234567890123", 13));
     LEAVES(NO_ROOM, lodvarn_open(&out.opened, other_options(sizeof options, U), "123456", 6));
     LEAVES(NO_ROOM, lodvarn_set_options(s, other_options(sizeof options, U)));
-    FULL("a|b", lodvarn_ring_add(s, "cd", 2), lodvarn_yank(s, 1));
-    FULL("a|b", (lodvarn_ring_add(s, "cd", 2), lodvarn_ring_add(s, "e", 1), lodvarn_yank(s, 1)), lodvarn_yank_pop(s));
+    FULL("a|b", add_to_ring("cd"), lodvarn_yank(s, 1));
+    FULL("a|b", (add_to_ring("cd"), add_to_ring("e"), lodvarn_yank(s, 1)), lodvarn_yank_pop(s));
     FULL("abc |d", lodvarn_set_pos(s, 4), lodvarn_transpose_words(s, 1));
     FULL("|ŉ", lodvarn_set_pos(s, 0), lodvarn_change_case(s, LODVARN_UPPERCASE));
     FULL("a|b", lodvarn_set_pos(s, 1), lodvarn_redo(s));
@@ -1201,44 +1250,52 @@ static void texts_that_are_no_utf8(void) {
         LEAVES(NOT_UTF8, lodvarn_offset_at(&screen, corner, bad, len, &out.number));
         LEAVES(NOT_UTF8, lodvarn_clusters(U, bad, len, &out.cluster, 1, &out.number));
         LEAVES(NOT_UTF8, lodvarn_rows(&screen, bad, len, &out.number, 1, &out.number));
+        LEAVES(NOT_UTF8, lodvarn_find(s, 0, bad, len, F, &out.range));
+        LEAVES(NOT_UTF8, lodvarn_find(s, 6, bad, len, B, &out.range));
+        BY_NO_CALL(NOT_UTF8, lodvarn_to_match(F, bad, len));
+        BY_NO_CALL(NOT_UTF8, lodvarn_to_match(B, bad, len));
     }
     SEE(lodvarn_script("\xff\n", 2, out.text, 8, &out.number) == LODVARN_DONE && out.number == 4);
     SEE(!memcmp(out.text, "bad\n#", 5));
 }
 
-/* Each call that takes a range or a place, on the text of the rows. */
+/* Each call that takes a range or an offset, on the text of the rows. */
 static void refuse_range(size_t from, size_t to) {
-    LEAVES(BAD_PLACE, lodvarn_slice(s, range(from, to), &out.view));
-    LEAVES(BAD_PLACE, lodvarn_kill_range(s, range(from, to), LODVARN_FORWARD));
-    LEAVES(BAD_PLACE, lodvarn_kill_range(s, range(from, to), LODVARN_BACKWARD));
-    PARTS(BAD_PLACE, lodvarn_replace(s, range(from, to), "x", 1));
-    PARTS(BAD_PLACE, lodvarn_delete_range(s, range(from, to)));
+    LEAVES(BAD_OFFSET, lodvarn_slice(s, range(from, to), &out.view));
+    LEAVES(BAD_OFFSET, lodvarn_kill_range(s, range(from, to), LODVARN_FORWARD));
+    LEAVES(BAD_OFFSET, lodvarn_kill_range(s, range(from, to), LODVARN_BACKWARD));
+    PARTS(BAD_OFFSET, lodvarn_replace(s, range(from, to), "x", 1));
+    PARTS(BAD_OFFSET, lodvarn_delete_range(s, range(from, to)));
 }
 
-static void places_that_are_none(void) {
+static void offsets_that_are_none(void) {
     static const size_t table[] = {2, 7, SIZE_MAX};
     for (size_t i = 0; i < COUNT(table); i++) {
         size_t bad = table[i];
-        PARTS(BAD_PLACE, lodvarn_set_pos(s, bad));
-        PARTS(BAD_PLACE, lodvarn_set_text(s, bad, "aé\nb ", 6));
-        PARTS(BAD_PLACE, lodvarn_insert_at(s, bad, "x", 1));
-        LEAVES(BAD_PLACE, lodvarn_cluster_at(s, bad, &out.cluster));
-        LEAVES(BAD_PLACE, lodvarn_cluster_before(s, bad, &out.cluster));
-        LEAVES(BAD_PLACE, lodvarn_line_at(s, bad, &out.number));
-        LEAVES(BAD_PLACE, lodvarn_movement_range(s, bad, lodvarn_whole_text(), &out.range));
-        LEAVES(BAD_PLACE, lodvarn_movement_target(s, bad, lodvarn_to_text_start(), &out.number));
-        LEAVES(BAD_PLACE, lodvarn_cell(&screen, bad, "aé\nb ", 6, &out.position));
+        PARTS(BAD_OFFSET, lodvarn_set_pos(s, bad));
+        PARTS(BAD_OFFSET, lodvarn_set_text(s, bad, "aé\nb ", 6));
+        PARTS(BAD_OFFSET, lodvarn_insert_at(s, bad, "x", 1));
+        LEAVES(BAD_OFFSET, lodvarn_cluster_at(s, bad, &out.cluster));
+        LEAVES(BAD_OFFSET, lodvarn_cluster_before(s, bad, &out.cluster));
+        LEAVES(BAD_OFFSET, lodvarn_line_at(s, bad, &out.number));
+        LEAVES(BAD_OFFSET, lodvarn_movement_range(s, bad, lodvarn_whole_text(), &out.range));
+        LEAVES(BAD_OFFSET, lodvarn_movement_target(s, bad, lodvarn_to_text_start(), &out.number));
+        LEAVES(BAD_OFFSET, lodvarn_find(s, bad, "b", 1, F, &out.range));
+        LEAVES(BAD_OFFSET, lodvarn_find(s, bad, "b", 1, B, &out.range));
+        LEAVES(BAD_OFFSET, lodvarn_movement_range(s, bad, lodvarn_to_match(F, "b", 1), &out.range));
+        LEAVES(BAD_OFFSET, lodvarn_movement_target(s, bad, lodvarn_to_match(B, "a", 1), &out.number));
+        LEAVES(BAD_OFFSET, lodvarn_cell(&screen, bad, "aé\nb ", 6, &out.position));
         refuse_range(0, bad);
         refuse_range(bad, 6);
         refuse_range(bad, bad);
     }
     refuse_range(3, 1);
     refuse_range(6, 0);
-    LEAVES(BAD_PLACE, lodvarn_map_offset(change_of(2, 1, 2), 0, LODVARN_BEFORE, &out.number));
-    LEAVES(BAD_PLACE, lodvarn_map_offset(change_of(2, 2, 1), 0, LODVARN_AFTER, &out.number));
-    LEAVES(BAD_PLACE, lodvarn_map_offset(change_of(1, 1, 2), SIZE_MAX, LODVARN_AFTER, &out.number));
-    LEAVES(BAD_PLACE, lodvarn_map_offset(change_of(0, SIZE_MAX - 1, SIZE_MAX), SIZE_MAX, LODVARN_BEFORE, &out.number));
-    PARTS(BAD_PLACE, lodvarn_insert_at(s, 0, "12345漢", 8));
+    LEAVES(BAD_OFFSET, lodvarn_map_offset(change_of(2, 1, 2), 0, LODVARN_BEFORE, &out.number));
+    LEAVES(BAD_OFFSET, lodvarn_map_offset(change_of(2, 2, 1), 0, LODVARN_AFTER, &out.number));
+    LEAVES(BAD_OFFSET, lodvarn_map_offset(change_of(1, 1, 2), SIZE_MAX, LODVARN_AFTER, &out.number));
+    LEAVES(BAD_OFFSET, lodvarn_map_offset(change_of(0, SIZE_MAX - 1, SIZE_MAX), SIZE_MAX, LODVARN_BEFORE, &out.number));
+    PARTS(BAD_OFFSET, lodvarn_insert_at(s, 0, "12345漢", 8));
     PARTS(NOT_REPLAYING, lodvarn_truncate(s, 0));
     PARTS(NOT_REPLAYING, lodvarn_truncate(s, 1));
     LEAVES(IS_WATCHED, lodvarn_watch(s, 1, 1));
@@ -1247,27 +1304,34 @@ static void places_that_are_none(void) {
 
 /* Makes each read. Whether each is there. */
 static int read_all(void) {
+    char copied[32];
     lodvarn_view view;
     lodvarn_range covered;
     lodvarn_position position;
     lodvarn_cluster cluster;
-    lodvarn_report report;
     lodvarn_options now = chosen();
-    size_t place;
+    size_t offset, column = LODVARN_OWN_COLUMN;
+    lodvarn_row_above(s, &screen, 1, &column, &offset);
     return lodvarn_text(s, &view) > 0 && lodvarn_slice(s, range(0, 1), &view) > 0 && lodvarn_pos(s)
-        && lodvarn_line_count(s) && lodvarn_line_at(s, 1, &place) > 0 && lodvarn_cursor_position(s, &position) > 0
+        && lodvarn_text_copy(s, copied, sizeof copied, &offset) > 0 && lodvarn_find(s, 6, " ", 1, B, &covered) > 0
+        && lodvarn_line_count(s) && lodvarn_line_at(s, 1, &offset) > 0 && lodvarn_cursor_position(s, &position) > 0
         && lodvarn_line_range(s, 0, &covered) > 0 && lodvarn_movement_range(s, 1, lodvarn_whole_line(), &covered) > 0
-        && lodvarn_movement_target(s, 1, lodvarn_chars_back(1), &place) > 0 && lodvarn_cluster_at(s, 0, &cluster) > 0
+        && lodvarn_movement_target(s, 1, lodvarn_chars_back(1), &offset) > 0 && lodvarn_cluster_at(s, 0, &cluster) > 0
         && lodvarn_cluster_before(s, 1, &cluster) > 0
         && lodvarn_record_entries(s) + lodvarn_group_level(s) && lodvarn_can_undo(s) && !lodvarn_can_redo(s)
         && lodvarn_ring_text(s, 0, &view) > 0 && lodvarn_ring_count(s) && lodvarn_report_count(s) && now.limit
-        && lodvarn_next_report(s, &report) > 0 && lodvarn_last_was_yank(s) + 1;
+        && lodvarn_save(s, &view) > 0 && lodvarn_last_was_yank(s) + 1;
 }
 
 static void nothing_is_done(void) {
     LEAVES(DONE, read_all());
     LEAVES(NOTHING, lodvarn_cluster_at(s, 6, &out.cluster));
     LEAVES(NOTHING, lodvarn_cluster_before(s, 0, &out.cluster));
+    LEAVES(NOTHING, lodvarn_find(s, 0, "B", 1, F, &out.range));
+    LEAVES(NOTHING, lodvarn_find(s, 3, NULL, 0, F, &out.range));
+    LEAVES(NOTHING, lodvarn_find(s, 6, "a", 0, B, &out.range));
+    LEAVES(NOTHING, lodvarn_movement_range(s, 0, lodvarn_to_match(F, "a", 1), &out.range));
+    LEAVES(NOTHING, lodvarn_movement_target(s, 1, lodvarn_to_match(F, "a", 1), &out.number));
     LEAVES(NOTHING, lodvarn_line_range(s, 2, &out.range));
     LEAVES(NOTHING, lodvarn_line_range(s, SIZE_MAX, &out.range));
     LEAVES(NOTHING, lodvarn_movement_range(s, 6, lodvarn_to_line_end(), &out.range));
@@ -1277,12 +1341,19 @@ static void nothing_is_done(void) {
     LEAVES(NOTHING, lodvarn_take_change(s, &out.splice));
     LEAVES(NOTHING, lodvarn_first_cluster("", 0, &out.number));
     LEAVES(DONE, SET(limit, 12));
-    LEAVES(NOTHING, lodvarn_keep_undone(s));
     PARTS(DONE, lodvarn_set_pos(s, 6));
     PARTS(NOTHING, lodvarn_move(s, lodvarn_to_line_end()));
     PARTS(NOTHING, lodvarn_move(s, lodvarn_whole_line()));
     PARTS(NOTHING, lodvarn_move(s, lodvarn_whole_text()));
-    PARTS(NOTHING, lodvarn_move(s, lodvarn_from_first_word()));
+    PARTS(NOTHING, lodvarn_move(s, lodvarn_to_match(F, "a", 1)));
+    PARTS(NOTHING, lodvarn_move(s, lodvarn_to_match(B, "c", 1)));
+    PARTS(NOTHING, lodvarn_delete_by(s, lodvarn_to_match(F, "a", 1)));
+    PARTS(NOTHING, lodvarn_copy(s, lodvarn_to_match(F, "a", 1), out.text, sizeof out.text, &out.number));
+    LEAVES(NOTHING, lodvarn_type(s, NULL, 0, &out.number));
+    LEAVES(NOTHING, lodvarn_type(s, "\xe6\x97", 2, &out.number));
+    PARTS(NOTHING, lodvarn_indent(s, lodvarn_whole_text(), 0, LODVARN_INDENT));
+    PARTS(NOTHING, lodvarn_indent(s, lodvarn_whole_text(), 0, LODVARN_DEDENT));
+    PARTS(NOTHING, lodvarn_indent(s, lodvarn_whole_line(), 255, LODVARN_DEDENT));
     PARTS(NOTHING, lodvarn_paste(s, NULL, 0, 1));
     PARTS(NOTHING, lodvarn_delete(s, 1));
     PARTS(NOTHING, lodvarn_delete_by(s, lodvarn_to_text_end()));
@@ -1299,48 +1370,454 @@ static void nothing_is_done(void) {
     DOES(DONE, lodvarn_restart(s, NULL, 0), "|");
 }
 
-static void buffers_that_are_too_small(void) {
-    size_t len = NO;
-    for (size_t cap = 0; cap < 3; cap++) {
-        LEAVES(TOO_SMALL, lodvarn_copy(s, lodvarn_chars_back(3), cap ? out.text : NULL, cap, &len));
-        SEE(len == 3);
-        len = NO;
-    }
-    begin_row(0);
-    DOES(DONE, lodvarn_copy(s, lodvarn_chars_back(4), out.text, 5, &len), "aé\nb |");
-    SEE(len == 5 && !memcmp(out.text, "é\nb #", 6));
-    SEE(lodvarn_script("ins 1 x\n", 8, out.text, 3, &len) > 0 && len == 9 && !memcmp(out.text, "trub #", 6));
-    SEE(lodvarn_script(NULL, 0, NULL, 0, &len) == LODVARN_DONE && len == 0);
+/* What writes to a buffer, on the text of the rows, and what it writes. */
+typedef int filling(void *to, size_t cap, size_t *count);
+static const char cut[] = "e\u0301漢\r\n" FAMILY "x", laid[] = "ab\ncde", script[] = "ins 1 x\n\xff\npaste 2 é\n";
+static int fill_by_copy(void *to, size_t cap, size_t *count) {
+    return lodvarn_copy(s, lodvarn_chars_back(4), to, cap, count);
+}
+static int fill_by_match(void *to, size_t cap, size_t *count) {
+    return lodvarn_copy(s, lodvarn_to_match(B, "\n", 1), to, cap, count);
+}
+static int fill_by_text(void *to, size_t cap, size_t *count) { return lodvarn_text_copy(s, to, cap, count); }
+static int fill_by_clusters(void *to, size_t cap, size_t *count) {
+    return lodvarn_clusters(U, cut, sizeof cut - 1, to, cap, count);
+}
+static int fill_by_rows(void *to, size_t cap, size_t *count) {
+    static const lodvarn_screen narrow = ON(2, 0, 1, 0, 0, U);
+    return lodvarn_rows(&narrow, laid, sizeof laid - 1, to, cap, count);
+}
+static int fill_by_script(void *to, size_t cap, size_t *count) {
+    return lodvarn_script(script, sizeof script - 1, to, cap, count);
 }
 
-/* A view is good over all reads, and is taken anew after a change. */
+static const lodvarn_cluster cut_clusters[] = {{0, 3, 1}, {3, 6, 2}, {6, 8, 1}, {8, 26, 2}, {26, 27, 1}};
+static const size_t laid_starts[] = {0, 2, 4, 6};
+static const struct filled {
+    const char *what;
+    filling *fill;
+    size_t unit, need, count; /* how many of what size, and what is told */
+    const void *wanted;
+} fillings[] = {
+    {"a copy", fill_by_copy, 1, 5, 5, "é\nb "},
+    {"a copy to a text", fill_by_match, 1, 3, 3, "\nb "},
+    {"the text and its NUL", fill_by_text, 1, 7, 6, "aé\nb "},
+    {"clusters", fill_by_clusters, sizeof(lodvarn_cluster), 5, 5, cut_clusters},
+    {"rows", fill_by_rows, sizeof(size_t), 4, 4, laid_starts},
+    {"a script", fill_by_script, 1, 26, 26, "true 1 x\nbad\ntrue 5 xéé\n"},
+};
+
+/* Each capacity up to one too many: the buffer is as it was, or has what it should, and no byte after it changed. */
+static void buffers_are_filled(void) {
+    for (size_t i = 0; i < COUNT(fillings); i++)
+        for (size_t cap = 0; cap <= fillings[i].need + 1; cap++) {
+            const struct filled *row = &fillings[i];
+            char got[256], wanted[sizeof got];
+            size_t count = NO;
+            memset(got, 0xa5, sizeof got), memset(wanted, 0xa5, sizeof wanted);
+            if (cap >= row->need) memcpy(wanted, row->wanted, row->need * row->unit);
+            begin_row(0);
+            int answer = row->fill(cap ? got : NULL, cap, &count), is_done = cap >= row->need;
+            int same = answer == (is_done ? LODVARN_DONE : LODVARN_TOO_SMALL) && count == row->count;
+            if (!see(row->what, same && !memcmp(got, wanted, sizeof got) && has_left_all(0, is_done && i < 2)))
+                printf("  %s, %zu with %zu\n", lodvarn_answer_name(answer), count, cap);
+        }
+    size_t len = NO;
+    SEE(lodvarn_script(NULL, 0, NULL, 0, &len) == LODVARN_DONE && len == 0);
+    open_at("|", 0);
+    SEE(lodvarn_text_copy(s, NULL, 0, &len) == LODVARN_TOO_SMALL && len == 0);
+    SEE(lodvarn_text_copy(s, out.text, 1, &len) == LODVARN_DONE && len == 0 && !*out.text);
+    must(lodvarn_restart(s, NULL, 0) > 0 && SET(limit, 3) > 0 && lodvarn_paste(s, "a\0b", 3, 1) > 0);
+    SEE(lodvarn_text_copy(s, out.text, 4, &len) == LODVARN_DONE && len == 3 && !memcmp(out.text, "a\0b", 4));
+}
+
+/* A structure with a size, and bytes after it. */
+static union {
+    lodvarn_options options;
+    lodvarn_screen screen;
+    lodvarn_report report;
+    size_t size;
+    unsigned char bytes[1024];
+} grown;
+
+/* Its size: so many bytes, or with is_more so many above what this version knows. One byte there may be no 0. */
+static const struct sized { const char *what; int is_more; size_t size, other; int is_known; } sizes[] = {
+    {"of no size", 0, 0, NO, 0},
+    {"of one byte", 0, 1, NO, 0},
+    {"of the size alone", 0, sizeof(size_t), NO, 0},
+    {"of its first two members", 0, 2 * sizeof(size_t), NO, 0},
+    {"a byte short", 1, SIZE_MAX, NO, 0},
+    {"as known", 1, 0, NO, 1},
+    {"a byte longer", 1, 1, NO, 1},
+    {"a member longer", 1, sizeof(size_t), NO, 1},
+    {"far longer", 1, 800, NO, 1},
+    {"a byte longer, which is no 0", 1, 1, 0, -1},
+    {"a member longer, whose last byte is no 0", 1, sizeof(size_t), 7, -1},
+    {"far longer, with a byte that is no 0", 1, 800, 50, -1},
+    {"whose last byte is no 0", 1, 800, 799, -1},
+    {"after which a byte is no 0", 1, 50, 50, 1},
+};
+
+/* Gives the structure of that many bytes the size, and the bytes after it. */
+static void grow(const struct sized *row, size_t known) {
+    grown.size = row->is_more ? known + row->size : row->size;
+    memset(grown.bytes + known, 0, sizeof grown.bytes - known);
+    if (row->other != NO) grown.bytes[known + row->other] = 1;
+}
+
+static const lodvarn_options *grown_options(const struct sized *row) {
+    grown.options = (lodvarn_options){0, 64, 5, 90, 3, 9, 7, Z, false};
+    grow(row, sizeof grown.options);
+    return &grown.options;
+}
+
+static const lodvarn_screen *grown_screen(const struct sized *row) {
+    grown.screen = (lodvarn_screen)ON(10, 2, 3, 4, 5, W);
+    grow(row, sizeof grown.screen);
+    return &grown.screen;
+}
+
+/* The options and the screen of that size, which a call reads. */
+static void take_sizes(const struct sized *row) {
+    static const lodvarn_options plain = {sizeof plain, 64, 5, 90, 3, 9, 7, Z, false};
+    lodvarn_position cell = {NO, NO};
+    size_t starts[2] = {NO, NO}, count = NO, at = NO, column = LODVARN_OWN_COLUMN;
+    open_at("\ta\n|b", 64);
+    see(row->what, lodvarn_set_options(s, grown_options(row)) == LODVARN_DONE && has_chosen(&plain));
+    see(row->what, lodvarn_row_above(s, grown_screen(row), 1, &column, &at) == LODVARN_DONE && at == 0 && column == 3);
+    at = NO, column = LODVARN_OWN_COLUMN;
+    must(lodvarn_set_pos(s, 1) > 0);
+    see(row->what, lodvarn_row_below(s, grown_screen(row), 1, &column, &at) == LODVARN_DONE && at == 4 && column == 4);
+    lodvarn_close(&s);
+    see(row->what, lodvarn_open(&s, grown_options(row), "ab", 2) == LODVARN_DONE && has_chosen(&plain));
+    see(row->what, lodvarn_cell(grown_screen(row), 4, "\ta\nb", 4, &cell) == LODVARN_DONE && cell.line == 1
+        && cell.column == 4);
+    see(row->what, lodvarn_offset_at(grown_screen(row), cell, "\ta\nb", 4, &at) == LODVARN_DONE && at == 4);
+    see(row->what, lodvarn_rows(grown_screen(row), "\ta\nb", 4, starts, 2, &count) == LODVARN_DONE && count == 2
+        && starts[0] == 0 && starts[1] == 3);
+}
+
+static void refuse_sizes(const struct sized *row) {
+    LEAVES(BAD_SIZE, lodvarn_open(&out.opened, grown_options(row), "a", 1));
+    LEAVES(BAD_SIZE, lodvarn_set_options(s, grown_options(row)));
+    grown_screen(row);
+    LEAVES(BAD_SIZE, lodvarn_cell(&grown.screen, 0, "a", 1, &out.position));
+    LEAVES(BAD_SIZE, lodvarn_offset_at(&grown.screen, corner, "a", 1, &out.number));
+    LEAVES(BAD_SIZE, lodvarn_rows(&grown.screen, "a", 1, &out.number, 1, &out.number));
+    LEAVES(BAD_SIZE, lodvarn_row_above(s, &grown.screen, 1, &out.number, &out.number));
+    LEAVES(BAD_SIZE, lodvarn_row_below(s, &grown.screen, 1, &out.number, &out.number));
+}
+
+/* Whether the bytes after the structure are 0 up to its size, and those after that as they were. */
+static int is_zeroed(const struct sized *row, size_t known) {
+    int same = grown.size == known + row->size;
+    for (size_t i = known; i < sizeof grown.bytes; i++) same = same && grown.bytes[i] == (i < grown.size ? 0 : 0xa5);
+    return same;
+}
+
+/* Options and a report that a call writes: the bytes that it does not know are not read. */
+static void write_sizes(const struct sized *row, int is_report) {
+    size_t known = is_report ? sizeof(lodvarn_report) : sizeof(lodvarn_options);
+    unsigned char before[sizeof grown.bytes];
+    memset(grown.bytes, 0xa5, sizeof grown.bytes);
+    grown.size = row->is_more ? known + row->size : row->size;
+    memcpy(before, grown.bytes, sizeof before);
+    begin_row(0);
+    int answer = is_report ? lodvarn_take_report(s, &grown.report) : lodvarn_get_options(s, &grown.options);
+    if (!row->is_more || row->size > sizeof grown)
+        see(row->what, answer == LODVARN_BAD_SIZE && !memcmp(before, grown.bytes, sizeof before) && has_left_all(0, 0));
+    else see(row->what, answer == LODVARN_DONE && is_zeroed(row, known)
+             && (is_report ? grown.report.kind == LODVARN_DELETED_BACKWARD && is(grown.report.old_text, "cd")
+                 : grown.options.limit == 12 && grown.options.ring_size == 60 && !grown.options.keep_undone));
+}
+
+static void structures_have_sizes(void) {
+    const lodvarn_screen bare = {.columns = 80};
+    const lodvarn_options empty = {.size = 0};
+    lodvarn_report report = {.size = 0};
+    for (size_t i = 0; i < COUNT(sizes); i++) {
+        if (sizes[i].is_known > 0) take_sizes(&sizes[i]);
+        else refuse_sizes(&sizes[i]);
+        write_sizes(&sizes[i], 0), write_sizes(&sizes[i], 1);
+    }
+    refuse_screen(LODVARN_BAD_SIZE, bare);
+    LEAVES(BAD_SIZE, lodvarn_open(&out.opened, &empty, "a", 1));
+    LEAVES(BAD_SIZE, lodvarn_set_options(s, &empty));
+    LEAVES(BAD_SIZE, lodvarn_take_report(s, &report));
+    SEE(report.size == 0 && report.kind == 0);
+    open_at("|", 64);
+    report = (lodvarn_report)LODVARN_REPORT;
+    report.at = NO;
+    SEE(report.size == sizeof report && lodvarn_take_report(s, &report) == LODVARN_NOTHING && report.at == NO);
+}
+
+/* The oldest reports, up to so many, are these: a line of each has its numbers and texts. They are taken. */
+static void reports_are(const char *what, size_t count, const char *wanted) {
+    static const char *const names[] = {
+        "?", "CHAR_INSERTED", "TEXT_INSERTED", "DELETED_FORWARD", "DELETED_BACKWARD", "REPLACED", "KILL_STARTED",
+        "KILL_STOPPED", "FOLDED",
+    };
+    char got[256];
+    FILE *to = tmpfile();
+    lodvarn_report r = LODVARN_REPORT;
+    must(to != NULL);
+    while (count-- && lodvarn_take_report(s, &r) == LODVARN_DONE) {
+        fprintf(to, "%s %zu %zu %zu %zu %zu ", names[r.kind <= LODVARN_FOLDED ? r.kind : 0], r.at, r.old_len, r.new_len,
+                r.pos_before, r.pos_after);
+        fprintf(to, "%.*s%.*s\n", (int)r.old_text.len, r.old_text.at, (int)r.new_text.len, r.new_text.at);
+    }
+    printed_in(to, got, sizeof got);
+    if (!see(what, !strcmp(got, wanted))) printf("  wanted\n%s  but got\n%s", wanted, got);
+}
+
+#define REPORTS(count, wanted) reports_are("reports: " wanted, count, wanted)
+
+/* Where a text is found: from an offset in a direction, at that offset, or NO. */
+static const struct { const char *in, *text; size_t from; enum lodvarn_direction direction; size_t at; } found[] = {
+    {"abab aéa\nabé", "ab", 0, F, 0},    {"abab aéa\nabé", "ab", 1, F, 2},    {"abab aéa\nabé", "ab", 2, F, 2},
+    {"abab aéa\nabé", "ab", 3, F, 10},   {"abab aéa\nabé", "ab", 11, F, NO},  {"abab aéa\nabé", "ab", 14, F, NO},
+    {"abab aéa\nabé", "ab", 14, B, 10},  {"abab aéa\nabé", "ab", 12, B, 10},  {"abab aéa\nabé", "ab", 11, B, 2},
+    {"abab aéa\nabé", "ab", 4, B, 2},    {"abab aéa\nabé", "ab", 3, B, 0},    {"abab aéa\nabé", "ab", 2, B, 0},
+    {"abab aéa\nabé", "ab", 1, B, NO},   {"abab aéa\nabé", "ab", 0, B, NO},   {"abab aéa\nabé", "é", 6, F, 6},
+    {"abab aéa\nabé", "é", 8, F, 12},    {"abab aéa\nabé", "é", 8, B, 6},     {"abab aéa\nabé", "é", 6, B, NO},
+    {"abab aéa\nabé", "a\na", 0, F, 8},  {"abab aéa\nabé", "a\na", 11, B, 8}, {"abab aéa\nabé", "AB", 0, F, NO},
+    {"aaaa", "aa", 1, F, 1},             {"aaaa", "aa", 3, F, NO},            {"aaaa", "aa", 3, B, 1},
+    {"aaaa", "aa", 4, B, 2},             {"aaaa", "aa", 1, B, NO},            {"aaaa", "aaaa", 0, F, 0},
+    {"aaaa", "aaaa", 4, B, 0},           {"aaaa", "aaaaa", 0, F, NO},         {"aaaa", "aaaaa", 4, B, NO},
+    {"aab", "ab", 0, F, 1},              {"abaabab", "abab", 0, F, 3},        {"e\u0301", "e", 0, F, 0},
+    {"e\u0301", "\u0301", 1, F, 1},      {"ê", "é", 0, F, NO},                {"ĩé", "é", 0, F, 2},
+    {"", "a", 0, F, NO},                 {"", "a", 0, B, NO},                 {"ab", "", 1, F, NO},
+    {"ab", "", 1, B, NO},                {"", "", 0, F, NO},
+};
+
+static void texts_are_found(void) {
+    for (size_t i = 0; i < COUNT(found); i++) {
+        lodvarn_range got = {NO, NO};
+        size_t len = strlen(found[i].text);
+        open_at("|", 64);
+        must(lodvarn_restart(s, found[i].in, strlen(found[i].in)) > 0);
+        int answer = lodvarn_find(s, found[i].from, found[i].text, len, found[i].direction, &got);
+        int is = found[i].at != NO;
+        if (!SEE(answer == is && got.from == found[i].at && got.to == (is ? found[i].at + len : NO)))
+            printf("  in row %zu: %s, %zu to %zu\n", i, lodvarn_answer_name(answer), got.from, got.to);
+    }
+}
+
+/* A movement to a text: what a motion leaves, or NULL if there is no such text, and what a kill does. Nothing lies
+ * between the cursor and a text that begins at it. */
+static const struct matched {
+    const char *marked, *text, *moved, *killed;
+    enum lodvarn_direction direction;
+} matched[] = {
+    {"|one two one", "two", "one |two one", "|two one#one ", F},
+    {"one |two one", "one", "one two |one", "one |one#two ", F},
+    {"one two one|", "two", "one |two one", "one |#two one", B},
+    {"one two| one", "two", "one |two one", "one | one#two", B},
+    {"|aab", "ab", "a|ab", "|ab#a", F},
+    {"aaa|", "aa", "a|aa", "a|#aa", B},
+    {"|one\ntwo", "two", "one\n|two", "|two#one\n", F},
+    {"one\r\ntwo|", "\n", "one\r|\ntwo", "one\r|#\ntwo", B},
+    {"日本|語", "日", "|日本語", "|語#日本", B},
+    {"|e\u0301x", "\u0301", "e|\u0301x", "|\u0301x#e", F},
+    {"|one", "one", "|one", "|one", F},
+    {"one two o|ne", "one", "|one two one", "|ne#one two o", B},
+    {"on|e", "one", NULL, "on|e", B},
+    {"on|e", "one", NULL, "on|e", F},
+    {"|one", "x", NULL, "|one", F},
+    {"|", "x", NULL, "|", B},
+};
+
+static void texts_are_moved_to(void) {
+    for (size_t i = 0; i < COUNT(matched); i++) {
+        const struct matched *row = &matched[i];
+        lodvarn_movement by = lodvarn_to_match(row->direction, row->text, strlen(row->text));
+        const char *moved = row->moved ? row->moved : row->marked;
+        size_t pos = strcspn(row->marked, "|"), to = strcspn(moved, "|"), offset = NO, len = NO;
+        int is_there = row->moved != NULL, wanted = pos != to;
+        lodvarn_range covered = {NO, NO}, between = pos < to ? range(pos, to) : range(to, pos);
+        lodvarn_view slice;
+        char deleted[64];
+        snprintf(deleted, sizeof deleted, "%.*s", (int)strcspn(row->killed, "#"), row->killed);
+        open_at(row->marked, 64);
+        SEE(lodvarn_movement_target(s, pos, by, &offset) == is_there && offset == (is_there ? to : NO));
+        SEE(lodvarn_movement_range(s, pos, by, &covered) == wanted && covered.from == (wanted ? between.from : NO)
+            && covered.to == (wanted ? between.to : NO));
+        SEE(lodvarn_copy(s, by, out.text, 0, &len) == (wanted ? LODVARN_TOO_SMALL : LODVARN_NOTHING));
+        must(lodvarn_slice(s, between, &slice) > 0);
+        SEE(len == (wanted ? slice.len : NO));
+        does(row->text, lodvarn_move(s, by), is_there, moved);
+        open_at(row->marked, 64);
+        does(row->text, lodvarn_kill(s, by), wanted, row->killed);
+        if (wanted) does(row->text, lodvarn_undo(s, 1), LODVARN_DONE, row->marked);
+        open_at(row->marked, 64);
+        does(row->text, lodvarn_delete_by(s, by), wanted, deleted);
+        SEE(!lodvarn_ring_count(s));
+    }
+    open_at("one two three two|", 64);
+    DOES(DONE, lodvarn_kill(s, lodvarn_to_match(B, "two", 3)), "one two three |#two");
+    DOES(DONE, lodvarn_kill(s, lodvarn_to_match(B, "two", 3)), "one |#two three two");
+    lodvarn_yank(s, 1), lodvarn_set_pos(s, 0);
+    DOES(DONE, lodvarn_kill(s, lodvarn_to_match(F, " t", 2)), "| two three two#one#two three two");
+    DOES(NOTHING, lodvarn_kill(s, lodvarn_to_match(F, " t", 2)), "| two three two#one#two three two");
+    DOES(DONE, lodvarn_kill(s, lodvarn_to_match(F, "three", 5)), "|three two#one two #two three two");
+}
+
+/* What is typed: the answer, how many bytes are used, or NO, and the text. */
+static const struct typing {
+    const char *what, *marked, *bytes;
+    size_t limit;
+    int answer;
+    size_t used;
+    const char *left;
+} typings[] = {
+    {"a letter", "|", "a", 64, LODVARN_DONE_AT_END, 1, "a|"},
+    {"a letter before another", "|b", "a", 64, LODVARN_DONE, 1, "a|b"},
+    {"characters of all lengths", "|", "aé漢\U0001f680", 64, LODVARN_DONE_AT_END, 10, "aé漢\U0001f680|"},
+    {"the last character and the first of four bytes", "|", "\U0010ffff\U00010000", 64, LODVARN_DONE_AT_END, 8,
+     "\U0010ffff\U00010000|"},
+    {"around the surrogates", "|x", "\ud7ff\ue000", 64, LODVARN_DONE, 6, "\ud7ff\ue000|x"},
+    {"a mark alone", "e|", "\u0301", 64, LODVARN_DONE_AT_END, 2, "e\u0301|"},
+    {"control characters", "|", "\t\r\n\1\177", 64, LODVARN_DONE_AT_END, 5, "\t\r\n\1\177|"},
+    {"letters and half a character", "|", "ab\xc3", 64, LODVARN_DONE_AT_END, 2, "ab|"},
+    {"half a character", "|a", "\xe6\x97", 64, LODVARN_NOTHING, NO, "|a"},
+    {"three quarters", "a|", "\xf0\x9f\x9a", 64, LODVARN_NOTHING, NO, "a|"},
+    {"nothing", "a|", "", 64, LODVARN_NOTHING, NO, "a|"},
+    {"no UTF-8 first", "a|", "\xff" "ab", 64, LODVARN_NOT_UTF8, NO, "a|"},
+    {"a continuation first", "a|", "\x80", 64, LODVARN_NOT_UTF8, NO, "a|"},
+    {"no UTF-8 after letters", "|", "ab\xff" "c", 64, LODVARN_DONE_AT_END, 2, "ab|"},
+    {"a continuation after a character", "|", "é\xa9" "c", 64, LODVARN_DONE_AT_END, 2, "é|"},
+    {"two bytes for one", "|", "\xc0\x80", 64, LODVARN_NOT_UTF8, NO, "|"},
+    {"the first of these", "|", "\xc1", 64, LODVARN_NOT_UTF8, NO, "|"},
+    {"three bytes for two", "|", "\xe0\x9f", 64, LODVARN_NOT_UTF8, NO, "|"},
+    {"four bytes for three", "|", "\xf0\x8f", 64, LODVARN_NOT_UTF8, NO, "|"},
+    {"a surrogate", "|", "\xed\xa0\x80", 64, LODVARN_NOT_UTF8, NO, "|"},
+    {"two bytes of one", "|", "\xed\xa0", 64, LODVARN_NOT_UTF8, NO, "|"},
+    {"the first byte of one, and of others", "|", "\xed", 64, LODVARN_NOTHING, NO, "|"},
+    {"above the last character", "|", "\xf4\x90\x80\x80", 64, LODVARN_NOT_UTF8, NO, "|"},
+    {"the first two bytes of that", "|", "\xf4\x90", 64, LODVARN_NOT_UTF8, NO, "|"},
+    {"the first byte of five", "|", "\xf8", 64, LODVARN_NOT_UTF8, NO, "|"},
+    {"half a character and a letter", "|", "\xe6\x97" "a", 64, LODVARN_NOT_UTF8, NO, "|"},
+    {"a letter and room for none", "ab|", "c", 2, LODVARN_NO_ROOM, NO, "ab|"},
+    {"letters and room for some", "ab|", "cde", 4, LODVARN_DONE_AT_END, 2, "abcd|"},
+    {"room for the narrow one alone", "|ab", "cé", 4, LODVARN_DONE, 1, "c|ab"},
+    {"no room for the wide one before it", "ab|", "éc", 3, LODVARN_NO_ROOM, NO, "ab|"},
+    {"no UTF-8 and no room", "ab|", "\xff", 2, LODVARN_NOT_UTF8, NO, "ab|"},
+    {"half a character and no room", "ab|", "\xc3", 2, LODVARN_NOTHING, NO, "ab|"},
+    {"a line", "|", "Zwölf Bögen, 12 µm: né_e\u0301 日本\n\U0001f469\u200d\U0001f680.", 64, LODVARN_DONE_AT_END, 50,
+     "Zwölf Bögen, 12 µm: né_e\u0301 日本\n\U0001f469\u200d\U0001f680.|"},
+};
+
+/* What comes before the typing. */
+static void after_nothing(void) {}
+static void after_a_letter(void) { lodvarn_insert(s, 'q', 1); }
+static void after_a_deletion(void) { lodvarn_insert(s, 'q', 1), lodvarn_backspace(s, 1); }
+static void after_an_undo(void) { lodvarn_insert(s, 'q', 1), lodvarn_undo(s, 1); }
+static void after_an_undo_that_is_kept(void) { must(SET(keep_undone, true) > 0), after_an_undo(); }
+static void after_a_begin(void) { lodvarn_insert(s, 'q', 1), lodvarn_begin_group(s); }
+static void after_a_boundary(void) { lodvarn_insert(s, 'q', 1), lodvarn_undo_boundary(s); }
+static void after_a_save(void) { lodvarn_insert(s, 'q', 1), lodvarn_mark_saved(s); }
+static void after_a_yank(void) { must(add_to_ring("q") > 0), lodvarn_yank(s, 1); }
+static void after_a_kill(void) { lodvarn_kill(s, lodvarn_to_line_start()); }
+static void with_a_bound(void) { must(SET(max_entries, 2) > 0 && SET(max_bytes, 5) > 0); }
+static void (*const befores[])(void) = {
+    after_nothing,    after_a_letter, after_a_deletion, after_an_undo, after_an_undo_that_is_kept, after_a_begin,
+    after_a_boundary, after_a_save,   after_a_yank,     after_a_kill,  with_a_bound,
+};
+
+static void what_a_terminal_sends_is_typed(void) {
+    for (size_t i = 0; i < COUNT(typings); i++) {
+        const struct typing *row = &typings[i];
+        size_t used = NO;
+        open_at(row->marked, row->limit);
+        does(row->what, lodvarn_type(s, row->bytes, strlen(row->bytes), &used), row->answer, row->left);
+        see(row->what, used == row->used);
+        for (size_t k = 0; row->answer > 0 && row->limit == 64 && k < COUNT(befores); k++) {
+            open_at(row->marked, 64);
+            befores[k]();
+            lodvarn *twin = twin_of(s);
+            int answer = lodvarn_type(s, row->bytes, strlen(row->bytes), &used);
+            int same = answer == insert_each(twin, row->bytes, row->used);
+            if (!see(row->what, same && used == row->used && are_same(s, twin))) printf("  after %zu\n", k);
+            lodvarn_insert(s, 'z', 1), lodvarn_insert(twin, 'z', 1);
+            see(row->what, are_same(s, twin));
+            lodvarn_close(&twin);
+        }
+    }
+    size_t used = NO;
+    open_at("|", 64);
+    SEE(lodvarn_type(s, "a\0b", 3, &used) == LODVARN_DONE_AT_END && used == 3 && lodvarn_pos(s) == 3);
+    open_at("|", 64);
+    must(lodvarn_watch(s, 8, 64) == LODVARN_DONE);
+    DOES(DONE_AT_END, lodvarn_type(s, "aé\xe6", 4, &used), "aé|");
+    REPORTS(9, "CHAR_INSERTED 0 0 1 0 1 a\nCHAR_INSERTED 1 0 2 1 3 é\n");
+}
+
+/* A line that comes in pieces is typed as at once: the bytes that were not used are passed again with the next. */
+static void pieces_are_typed(void) {
+    const char *line = typings[COUNT(typings) - 1].bytes;
+    size_t len = strlen(line);
+    open_at("|", 64);
+    lodvarn *whole = twin_of(s);
+    must(insert_each(whole, line, len) == LODVARN_DONE_AT_END);
+    for (size_t piece = 1; piece <= len; piece++) {
+        open_at("|", 64);
+        for (size_t from = 0, to = 0, used; to < len;) {
+            to = to + piece < len ? to + piece : len;
+            used = 0;
+            SEE(lodvarn_type(s, line + from, to - from, &used) >= 0);
+            from += used;
+        }
+        if (!SEE(are_same(s, whole))) printf("  in pieces of %zu\n", piece);
+    }
+    lodvarn_close(&whole);
+}
+
+/* A view is valid over all reads, and is taken anew after a change. */
 static void texts_are_lent(void) {
     lodvarn_view text, slice, none, ring;
-    lodvarn_report report;
+    lodvarn_report report = LODVARN_REPORT;
     lodvarn_range goes;
     open_at("one two three|", 64);
     must(lodvarn_watch(s, 9, 64) == LODVARN_DONE && lodvarn_kill(s, WORD_BACK) == LODVARN_DONE);
-    must(lodvarn_forget_report(s) == LODVARN_DONE);
+    must(lodvarn_take_report(s, &report) == LODVARN_DONE);
+    SEE(lodvarn_take_report(s, &report) == LODVARN_DONE && report.kind == LODVARN_DELETED_BACKWARD);
     SEE(lodvarn_text(s, &text) == LODVARN_DONE && lodvarn_slice(s, range(4, 7), &slice) == LODVARN_DONE);
     SEE(lodvarn_slice(s, range(8, 8), &none) == LODVARN_DONE && lodvarn_ring_text(s, 0, &ring) == LODVARN_DONE);
-    SEE(lodvarn_next_report(s, &report) == LODVARN_DONE && report.kind == LODVARN_DELETED_BACKWARD);
     SEE(read_all() && is(text, "one two ") && is(slice, "two") && is(none, "") && is(ring, "three"));
     SEE(report.old_len == 5 && is(report.old_text, "three") && report.new_len == 0 && is(report.new_text, ""));
-    SEE(lodvarn_replace(s, range(0, 7), "1", 1) == LODVARN_DONE && lodvarn_ring_add(s, "kept", 4) == LODVARN_DONE);
+    SEE(lodvarn_replace(s, range(0, 7), "1", 1) == LODVARN_DONE && add_to_ring("kept") == LODVARN_DONE);
     SEE(lodvarn_text(s, &text) == LODVARN_DONE && is(text, "1 "));
     SEE(lodvarn_slice(s, range(1, 2), &slice) == LODVARN_DONE && is(slice, " "));
     SEE(lodvarn_ring_text(s, 0, &ring) == LODVARN_DONE && is(ring, "kept"));
-    lodvarn_forget_report(s), lodvarn_forget_report(s);
-    SEE(lodvarn_next_report(s, &report) == LODVARN_DONE && is(report.old_text, "one two") && is(report.new_text, "1"));
+    SEE(lodvarn_take_report(s, &report) == LODVARN_DONE && report.kind == LODVARN_KILL_STOPPED);
+    SEE(lodvarn_take_report(s, &report) == LODVARN_DONE && is(report.old_text, "one two") && is(report.new_text, "1"));
     open_at("a|é\nb", 64);
-    SEE(lodvarn_movement_range(s, 1, lodvarn_chars_forward(2), &goes) == LODVARN_DONE && lodvarn_slice(s, goes, &slice) > 0);
-    SEE(is(slice, "é\n"));
+    SEE(lodvarn_movement_range(s, 1, lodvarn_chars_forward(2), &goes) == LODVARN_DONE);
+    SEE(lodvarn_slice(s, goes, &slice) > 0 && is(slice, "é\n"));
     DOES(DONE, lodvarn_delete(s, 2), "a|b");
     DOES(DONE, lodvarn_delete(s, 9), "a|");
     DOES(DONE, lodvarn_undo(s, 1), "a|é\nb");
 }
 
-/* With ample memory no call says that it is out, however large the ring, the texts, what is copied or a script is. */
+/* Saved bytes are valid over all that is no lodvarn_save. */
+static void saved_bytes_are_lent(void) {
+    lodvarn_view bytes, again, text;
+    lodvarn *loaded = NULL;
+    open_at("one| two", 64);
+    must(lodvarn_save(s, &bytes) == LODVARN_DONE && lodvarn_paste(s, " more of it", 11, 3) > 0);
+    must(lodvarn_undo(s, 1) > 0 && lodvarn_restart(s, "x", 1) > 0 && lodvarn_kill(s, lodvarn_whole_text()) > 0);
+    SEE(lodvarn_load(&loaded, bytes.at, bytes.len) == LODVARN_DONE && lodvarn_pos(loaded) == 3);
+    SEE(lodvarn_text(loaded, &text) == LODVARN_DONE && is(text, "one two"));
+    SEE(lodvarn_save(loaded, &again) == LODVARN_DONE && again.len == bytes.len && again.at != bytes.at
+        && !memcmp(again.at, bytes.at, bytes.len));
+    SEE(lodvarn_save(s, &bytes) == LODVARN_DONE && lodvarn_save(s, &bytes) == LODVARN_DONE);
+    lodvarn_close(&s);
+    must(lodvarn_load(&s, again.at, again.len) == LODVARN_DONE);
+    lodvarn_close(&loaded);
+    DOES(DONE, lodvarn_set_pos(s, 0), "|one two");
+}
+
+/* With ample memory no call returns NO_MEMORY, however large the ring, the texts, what is copied or a script is. */
 static void great_input_is_met(void) {
     enum { GREAT = 100001, PAIRS = 15000, PAIR = 15, ANSWERS = 17 };
     static char great[GREAT], got[PAIRS * ANSWERS], script[PAIRS * PAIR];
@@ -1372,22 +1849,22 @@ static int changed_is(size_t from, size_t old_to, size_t new_to) {
         && splice.new_to == new_to;
 }
 
-/* Where a change moves a place, on each side. */
-static int moves_to(const lodvarn_splice *change, size_t place, size_t before, size_t after) {
+/* Where a change moves an offset, on each side. */
+static int moves_to(const lodvarn_splice *change, size_t offset, size_t before, size_t after) {
     size_t to_before = NO, to_after = NO;
-    return lodvarn_map_offset(change, place, LODVARN_BEFORE, &to_before) == LODVARN_DONE && to_before == before
-        && lodvarn_map_offset(change, place, LODVARN_AFTER, &to_after) == LODVARN_DONE && to_after == after;
+    return lodvarn_map_offset(change, offset, LODVARN_BEFORE, &to_before) == LODVARN_DONE && to_before == before
+        && lodvarn_map_offset(change, offset, LODVARN_AFTER, &to_after) == LODVARN_DONE && to_after == after;
 }
 
-static void places_move(void) {
-    static const struct { lodvarn_splice change; size_t place, before, after; } table[] = {
+static void offsets_move(void) {
+    static const struct { lodvarn_splice change; size_t offset, before, after; } table[] = {
         {{3, 3, 5}, 2, 2, 2}, {{3, 3, 5}, 3, 3, 5}, {{3, 3, 5}, 4, 6, 6}, {{2, 6, 2}, 2, 2, 2}, {{2, 6, 2}, 4, 2, 2},
         {{2, 6, 2}, 6, 2, 2}, {{2, 6, 2}, 7, 3, 3}, {{2, 6, 5}, 2, 2, 2}, {{2, 6, 5}, 3, 2, 5}, {{2, 6, 5}, 6, 5, 5},
         {{2, 5, 6}, 7, 8, 8}, {{0, 0, 0}, 9, 9, 9}, {{0, SIZE_MAX, 1}, SIZE_MAX, 1, 1},
         {{0, 0, 1}, SIZE_MAX - 1, SIZE_MAX, SIZE_MAX}, {{0, 0, 0}, SIZE_MAX, SIZE_MAX, SIZE_MAX},
     };
     for (size_t i = 0; i < COUNT(table); i++)
-        if (!SEE(moves_to(&table[i].change, table[i].place, table[i].before, table[i].after)))
+        if (!SEE(moves_to(&table[i].change, table[i].offset, table[i].before, table[i].after)))
             printf("  in row %zu\n", i);
 }
 
@@ -1400,7 +1877,7 @@ static void marks_follow(void) {
         {"undo 1", 3, 6, 0},    {"redo", 4, 7, 0},
     };
     size_t before = 4, after = 4, at_once = 4;
-    lodvarn_report r;
+    lodvarn_report r = LODVARN_REPORT;
     lodvarn_splice change;
     begin_script();
     run("limit 64");
@@ -1409,7 +1886,7 @@ static void marks_follow(void) {
     lodvarn_take_change(s, &change);
     for (size_t i = 0; i < COUNT(table); i++) {
         run(table[i].line);
-        for (; lodvarn_next_report(s, &r) > 0; lodvarn_forget_report(s)) {
+        while (lodvarn_take_report(s, &r) > 0) {
             change = (lodvarn_splice){r.at, r.at + r.old_len, r.at + r.new_len};
             must(lodvarn_map_offset(&change, before, LODVARN_BEFORE, &before) == LODVARN_DONE);
             must(lodvarn_map_offset(&change, after, LODVARN_AFTER, &after) == LODVARN_DONE);
@@ -1454,27 +1931,6 @@ static void what_changed_is_told(void) {
     }
 }
 
-/* Tells the oldest reports, up to so many, each as a line with its numbers and texts, and forgets them. */
-static void tells(const char *what, size_t count, const char *wanted) {
-    static const char *const names[] = {
-        "?", "CHAR_INSERTED", "TEXT_INSERTED", "DELETED_FORWARD", "DELETED_BACKWARD", "REPLACED", "KILL_STARTED",
-        "KILL_STOPPED", "FOLDED",
-    };
-    char told[256];
-    FILE *to = tmpfile();
-    lodvarn_report r;
-    must(to != NULL);
-    while (count-- && lodvarn_next_report(s, &r) == LODVARN_DONE) {
-        fprintf(to, "%s %zu %zu %zu %zu %zu ", names[r.kind <= LODVARN_FOLDED ? r.kind : 0], r.at, r.old_len, r.new_len,
-                r.pos_before, r.pos_after);
-        fprintf(to, "%.*s%.*s\n", (int)r.old_text.len, r.old_text.at, (int)r.new_text.len, r.new_text.at);
-        must(lodvarn_forget_report(s) == LODVARN_DONE);
-    }
-    printed_in(to, told, sizeof told);
-    if (!see(what, !strcmp(told, wanted))) printf("  wanted\n%s  but got\n%s", wanted, told);
-}
-
-#define TELLS(count, wanted) tells("reports: " wanted, count, wanted)
 #define KILL(reports) "KILL_STARTED 0 0 0 0 0 \n" reports "KILL_STOPPED 0 0 0 0 0 \n"
 
 /* The reports of a line, or of several with a ; between them. Those before it come before the queue, which has room for
@@ -1500,7 +1956,6 @@ static const struct reported {
     {{"back 1", "pos 2"}, "undo 1", 8, 64, "REPLACED 6 0 1 2 7 o\n"},
     {{"pos 3", "ins 1 x", "rep 0 1 O"}, "undo 2", 8, 64, "REPLACED 0 1 1 1 4 Oo\nREPLACED 3 1 0 4 3 x\n"},
     {{"begin", "ins 1 x", "rep 0 1 O"}, "abandon", 8, 64, "REPLACED 0 1 1 1 8 Oo\nREPLACED 7 1 0 8 7 x\n"},
-    {{"ins 1 x", "undo 1"}, "keepundone;undo 1", 8, 64, "REPLACED 7 0 1 7 8 x\n"},
     {{0}, "move home", 8, 64, ""},
     {{0}, "kill eol", 8, 1, KILL("")},
     {{0}, "kill eol", 8, 0, "FOLDED 0 0 0 0 0 \n"},
@@ -1525,16 +1980,15 @@ static void changes_are_reported(void) {
         for (size_t k = 0; k < 3 && row->before[k]; k++) run(row->before[k]);
         must(lodvarn_watch(s, row->reports, row->text_bytes) == LODVARN_DONE);
         for (; line; line = strtok(NULL, ";")) run(line);
-        tells(row->line, SIZE_MAX, row->wanted);
+        reports_are(row->line, SIZE_MAX, row->wanted);
     }
 }
 
 static void reports_wait(void) {
     static const size_t great[][2] = {{SIZE_MAX, 1}, {1, SIZE_MAX}, {SIZE_MAX, SIZE_MAX}, {SIZE_MAX / 2, 1}};
-    lodvarn_report report;
+    lodvarn_report report = LODVARN_REPORT;
     open_at("ab|", 64);
-    SEE(lodvarn_next_report(s, &report) == LODVARN_NOTHING && lodvarn_forget_report(s) == LODVARN_NOTHING);
-    SEE(lodvarn_unwatch(s) == LODVARN_DONE);
+    SEE(lodvarn_take_report(s, &report) == LODVARN_NOTHING && lodvarn_unwatch(s) == LODVARN_DONE);
     SEE(lodvarn_watch(s, 0, 0) == LODVARN_NO_SUCH_NUMBER && lodvarn_watch(s, 0, 64) == LODVARN_NO_SUCH_NUMBER);
     for (size_t i = 0; i < COUNT(great); i++)
         SEE(lodvarn_watch(s, great[i][0], great[i][1]) == LODVARN_NO_MEMORY);
@@ -1542,30 +1996,28 @@ static void reports_wait(void) {
     SEE(lodvarn_watch(s, 3, 64) == LODVARN_DONE && lodvarn_report_count(s) == 0);
     lodvarn_insert(s, 'd', 1);
     lodvarn_replace(s, range(0, 1), "x", 1);
-    for (int i = 0; i < 3; i++)
-        SEE(lodvarn_next_report(s, &report) == LODVARN_DONE && report.at == 3 && is(report.new_text, "d"));
     SEE(lodvarn_report_count(s) == 2);
-    TELLS(1, "CHAR_INSERTED 3 0 1 3 4 d\n");
-    SEE(lodvarn_report_count(s) == 1 && lodvarn_next_report(s, &report) == LODVARN_DONE && report.at == 0);
+    REPORTS(1, "CHAR_INSERTED 3 0 1 3 4 d\n");
+    SEE(lodvarn_report_count(s) == 1);
     SEE(lodvarn_unwatch(s) == LODVARN_DONE && lodvarn_report_count(s) == 0 && lodvarn_unwatch(s) == LODVARN_DONE);
-    SEE(lodvarn_next_report(s, &report) == LODVARN_NOTHING && lodvarn_forget_report(s) == LODVARN_NOTHING);
+    SEE(lodvarn_take_report(s, &report) == LODVARN_NOTHING);
     lodvarn_insert(s, 'e', 1);
-    SEE(lodvarn_watch(s, 1, 1) == LODVARN_DONE && lodvarn_next_report(s, &report) == LODVARN_NOTHING);
+    SEE(lodvarn_watch(s, 1, 1) == LODVARN_DONE && lodvarn_take_report(s, &report) == LODVARN_NOTHING);
     lodvarn_insert(s, 'f', 1);
-    TELLS(9, "CHAR_INSERTED 2 0 1 2 3 f\n");
+    REPORTS(9, "CHAR_INSERTED 2 0 1 2 3 f\n");
     lodvarn_insert(s, 'g', 1), lodvarn_insert(s, 'h', 1);
-    TELLS(1, "FOLDED 3 0 2 3 5 \n");
+    REPORTS(1, "FOLDED 3 0 2 3 5 \n");
     lodvarn_insert(s, 'i', 1);
-    TELLS(9, "CHAR_INSERTED 5 0 1 5 6 i\n");
+    REPORTS(9, "CHAR_INSERTED 5 0 1 5 6 i\n");
 }
 
 static void asking_what_changed_parts_nothing(void) {
-    lodvarn_report report;
+    lodvarn_report report = LODVARN_REPORT;
     open_at("one two three four|", 64);
     DOES(DONE, lodvarn_kill(s, WORD_BACK), "one two three |#four");
     SEE(changed_is(14, 18, 14) && lodvarn_watch(s, 8, 64) == LODVARN_DONE);
     DOES(DONE, lodvarn_kill(s, WORD_BACK), "one two |#three four");
-    while (lodvarn_next_report(s, &report) > 0) lodvarn_forget_report(s);
+    while (lodvarn_take_report(s, &report) > 0) {}
     SEE(changed_is(8, 14, 8));
     DOES(DONE, lodvarn_kill(s, WORD_BACK), "one |#two three four");
     SEE(lodvarn_report_count(s) == 3 && lodvarn_unwatch(s) == LODVARN_DONE);
@@ -1574,19 +2026,19 @@ static void asking_what_changed_parts_nothing(void) {
     SEE(changed_is(0, 8, 18) && lodvarn_last_was_yank(s));
 }
 
-/* 64,000 reports of 100 bytes are told and forgotten in a time that grows with their number, not with its square. */
+/* 64,000 reports of 100 bytes are taken in a time that grows with their number, not with its square. */
 static void reports_are_drained_quickly(void) {
     static char text[101];
     int count = 64000;
-    lodvarn_report report;
+    lodvarn_report report = LODVARN_REPORT;
     clock_t end = clock() + 5 * CLOCKS_PER_SEC;
     memset(text, 'a', 100);
     open_at("|", LODVARN_NO_LIMIT);
     must(SET(max_entries, 0) > 0 && lodvarn_watch(s, 64000, 6400000) > 0);
     for (int i = 0; i < count / 2; i++)
         must(lodvarn_paste(s, text, 100, 1) > 0 && lodvarn_delete_range(s, range(0, 100)) > 0);
-    while (clock() < end && lodvarn_next_report(s, &report) > 0 && report.kind != LODVARN_FOLDED
-           && (is(report.old_text, text) || is(report.new_text, text)) && lodvarn_forget_report(s) > 0)
+    while (clock() < end && lodvarn_take_report(s, &report) > 0 && report.kind != LODVARN_FOLDED
+           && (is(report.old_text, text) || is(report.new_text, text)))
         count--;
     SEE(count == 0 && lodvarn_report_count(s) == 0);
 }
@@ -1613,24 +2065,23 @@ static void a_session_begins_anew(void) {
     SEE(lodvarn_restart(s, "", 0) == LODVARN_DONE && chosen().limit == 8);
 }
 
-/* The bytes of a session, by a call that tells how many they are, one with too little room, and one that writes them.
- * To be freed. */
+/* A copy of the bytes of a session, to be freed. */
 static char *saved(size_t *len) {
-    char *bytes;
-    SEE(lodvarn_save(s, NULL, 0, len) == LODVARN_TOO_SMALL);
-    must((bytes = calloc(1, *len)) != NULL);
-    SEE(lodvarn_save(s, bytes, *len - 1, len) == LODVARN_TOO_SMALL && *bytes == 0);
-    SEE(lodvarn_save(s, bytes, *len, len) == LODVARN_DONE);
-    return bytes;
+    lodvarn_view bytes = {NULL, 0};
+    SEE(lodvarn_save(s, &bytes) == LODVARN_DONE);
+    char *copied = malloc(*len = bytes.len);
+    must(copied != NULL);
+    return memcpy(copied, bytes.at, bytes.len);
 }
 
 /* Prints all that the reads tell of a session. */
 static void print_all(FILE *to) {
     options = chosen();
-    fprintf(to, "%zu %zu %d %d ", lodvarn_record_entries(s), lodvarn_group_level(s), lodvarn_can_undo(s), lodvarn_can_redo(s));
+    fprintf(to, "%zu %zu ", lodvarn_record_entries(s), lodvarn_group_level(s));
+    fprintf(to, "%d %d ", lodvarn_can_undo(s), lodvarn_can_redo(s));
     fprintf(to, "%d %d ", lodvarn_is_saved(s), lodvarn_last_was_yank(s));
-    fprintf(to, "%d %zu %zu ", options.keeps_undone, options.limit, options.ring_size);
-    fprintf(to, "%d %d ", options.mode, options.prompt);
+    fprintf(to, "%d %zu %zu ", options.keep_undone, options.limit, options.ring_size);
+    fprintf(to, "%d %zu ", options.mode, options.prompt);
     fprintf(to, "%zu %zu %zu ", options.max_entries, options.max_bytes, options.max_ring_bytes);
     print_ring(to);
     fputc('\n', to);
@@ -1675,7 +2126,7 @@ static void a_session_is_saved_and_loaded(void) {
         begin_script();
         run("text one two");
         must(SET(mode, Z) > 0 && SET(prompt, 7) > 0 && SET(max_entries, 90 + i) > 0 && SET(max_ring_bytes, 80 + i) > 0);
-        must(SET(limit, 500 + i) > 0 && SET(keeps_undone, i % 4 == 1) > 0);
+        must(SET(limit, 500 + i) > 0 && SET(keep_undone, i % 4 == 1) > 0);
         must(i % 3 || lodvarn_watch(s, 1, 0) > 0);
         for (char *line = strtok(strcpy(lines, kept[i][0]), ";"); line; line = strtok(NULL, ";")) {
             run(line);
@@ -1695,11 +2146,12 @@ static void a_session_is_saved_and_loaded(void) {
     }
 }
 
-/* A ring that gets smaller drops its oldest texts, and one that gets larger has room for more; also once it is loaded. */
+/* A ring that gets smaller drops its oldest texts, and one that gets larger has room for more, also once it is loaded.
+ */
 static void the_ring_is_resized(void) {
     for (int is_loaded = 0; is_loaded < 2; is_loaded++) {
         open_at("|", 64);
-        for (const char *c = "abcd"; *c; c++) lodvarn_ring_add(s, c, 1);
+        add_each("abcd");
         if (is_loaded) {
             size_t len;
             char *bytes = saved(&len);
@@ -1709,7 +2161,7 @@ static void the_ring_is_resized(void) {
         }
         DOES(DONE, SET(ring_size, 3), "|#d#c#b");
         DOES(DONE, SET(ring_size, 4), "|#d#c#b");
-        DOES(DONE, (lodvarn_ring_add(s, "e", 1), lodvarn_ring_add(s, "f", 1)), "|#f#e#d#c");
+        DOES(DONE, (add_to_ring("e"), add_to_ring("f")), "|#f#e#d#c");
         DOES(DONE_AT_END, (lodvarn_yank(s, 1), lodvarn_yank_pop(s)), "e|#e#d#c#f");
         DOES(DONE, SET(ring_size, 2), "e|#e#f");
         DOES(DONE_AT_END, lodvarn_yank_pop(s), "f|#f#e");
@@ -1719,7 +2171,7 @@ static void the_ring_is_resized(void) {
         DOES(DONE, SET(ring_size, 0), "e|");
         DOES(DONE, lodvarn_kill(s, WORD_BACK), "|");
         DOES(DONE, SET(ring_size, LODVARN_NO_BOUND), "|");
-        DOES(DONE, lodvarn_ring_add(s, "g", 1), "|#g");
+        DOES(DONE, add_to_ring("g"), "|#g");
     }
 }
 
@@ -1776,24 +2228,30 @@ int main(void) {
     options_take_effect();
     widths_are_measured();
     clusters_are_found();
-    cells_and_places_are_found();
-    clusters_are_cut();
+    cells_and_offsets_are_found();
     rows_are_found();
     motions_by_rows_keep_the_column();
     movements_mean_what_they_say();
     numbers_mean_what_they_say();
     numbers_outside_of_their_enums();
+    numbers_that_are_too_great();
     counts_and_characters_that_are_none();
     texts_that_are_longer_than_the_limit();
     counts_of_0_do_nothing();
     texts_that_are_no_utf8();
-    places_that_are_none();
+    offsets_that_are_none();
     nothing_is_done();
-    buffers_that_are_too_small();
+    buffers_are_filled();
+    structures_have_sizes();
+    texts_are_found();
+    texts_are_moved_to();
+    what_a_terminal_sends_is_typed();
+    pieces_are_typed();
     texts_are_lent();
+    saved_bytes_are_lent();
     great_input_is_met();
     what_changed_is_told();
-    places_move();
+    offsets_move();
     marks_follow();
     changes_are_reported();
     reports_wait();

@@ -26,7 +26,7 @@ static char *word(char **rest) {
 
 static size_t number(char **rest) { return strtoull(word(rest), NULL, 10); }
 
-/* The place of the next word in a list. */
+/* The index of the next word in a list. */
 static unsigned named(char **rest, const char *const *names) {
     const char *name = word(rest);
     for (unsigned i = 0; names[i]; i++)
@@ -44,14 +44,6 @@ static size_t encode(uint32_t c, char *to) {
     to[0] = (char)(leads[more] | c >> 6 * more);
     for (int i = 1; i <= more; i++) to[i] = (char)(0x80 | (c >> 6 * (more - i) & 0x3f));
     return (size_t)more + 1;
-}
-
-static uint32_t decode(const char *from) {
-    unsigned char lead = (unsigned char)from[0];
-    int more = lead < 0xc0 ? 0 : lead < 0xe0 ? 1 : lead < 0xf0 ? 2 : 3;
-    uint32_t c = more ? lead & (0x3fu >> more) : lead;
-    for (int i = 1; i <= more; i++) c = c << 6 | ((unsigned char)from[i] & 0x3f);
-    return c;
 }
 
 /* Decodes the text that the rest of a line spells, in place. */
@@ -88,7 +80,7 @@ struct given {
     enum lodvarn_direction direction;
     enum lodvarn_case to;
     uint32_t c;
-    uint8_t amount;
+    size_t amount;
     const char *text;
 };
 
@@ -99,8 +91,7 @@ struct given {
     ROW(eol, "", lodvarn_to_line_end())                                       \
     ROW(bword, "NS", lodvarn_words_back(g->sense, g->n))                      \
     ROW(fword, "NPS", lodvarn_words_forward(g->sense, g->stop, g->n))         \
-    ROW(find, "NXC", lodvarn_to_char(g->search, g->c, g->n))               \
-    ROW(first, "", lodvarn_from_first_word())                                 \
+    ROW(find, "NXC", lodvarn_to_char(g->search, g->c, g->n))                  \
     ROW(bchar, "N", lodvarn_chars_back(g->n))                                 \
     ROW(fchar, "N", lodvarn_chars_forward(g->n))                              \
     ROW(up, "N", lodvarn_lines_up(g->n))                                      \
@@ -114,19 +105,19 @@ struct given {
 
 static void take_movement(char *rest, struct given *g);
 
-/* Takes the arguments that the letters say: those of the tables in docs/RULES.md, but R for two places. */
+/* Takes the arguments that the letters say: those of the tables in docs/RULES.md, but R for two offsets. */
 static void take(const char *letters, char *rest, struct given *g) {
     for (; *letters; letters++)
         switch (*letters) {
         case 'N': g->n = number(&rest); break;
-        case 'K': g->amount = (uint8_t)number(&rest); break;
+        case 'K': g->amount = number(&rest); break;
         case 'R': g->range.from = number(&rest), g->range.to = number(&rest); break;
         case 'S': g->sense = LODVARN_BIG + NAMED(&rest, "big", "emacs", "vi"); break;
         case 'P': g->stop = LODVARN_AT_START + NAMED(&rest, "start", "before", "after"); break;
         case 'X': g->search = LODVARN_TO + NAMED(&rest, "f", "t", "F", "T"); break;
         case 'D': g->direction = LODVARN_FORWARD + NAMED(&rest, "f", "b"); break;
         case 'W': g->to = LODVARN_CAPITALIZE + NAMED(&rest, "cap", "low", "up"); break;
-        case 'C': g->c = decode(text(rest, &g->len)); break;
+        case 'C': g->c = utf8_character(text(rest, &g->len)); break;
         case 'T': g->text = text(rest, &g->len); break;
         default: take_movement(rest, g);
         }
@@ -239,14 +230,6 @@ static int redo(lodvarn *s) {
     return answer;
 }
 
-/* It finds what a redo would find, and leaves nothing to redo. */
-static int keep_undone(lodvarn *s) {
-    size_t level = lodvarn_group_level(s);
-    int asked = lodvarn_can_redo(s), answer = lodvarn_keep_undone(s);
-    see("keepundone", answer < 0 || (answer == asked && !lodvarn_can_redo(s) && lodvarn_group_level(s) == level));
-    return answer;
-}
-
 static int where(lodvarn *s) {
     int answer = lodvarn_set_pos(s, lodvarn_pos(s));
     see("where", lodvarn_cursor_position(s, &cursor) == LODVARN_DONE);
@@ -271,7 +254,7 @@ enum reply { OK, TRUTH, AT_END, TEXT, MARK, AT };
     ROW(rep, OK, "RT", lodvarn_replace(s, g->range, g->text, g->len))                                  \
     ROW(range, OK, "R", lodvarn_delete_range(s, g->range))                                             \
     ROW(killrange, TRUTH, "RD", lodvarn_kill_range(s, g->range, g->direction))                         \
-    ROW(keep, OK, "T", lodvarn_ring_add(s, g->text, g->len))                                               \
+    ROW(keep, OK, "T", lodvarn_ring_add(s, g->text, g->len))                                           \
     ROW(del, TEXT, "N", delete(s, g->n))                                                               \
     ROW(back, TRUTH, "N", lodvarn_backspace(s, g->n))                                                  \
     ROW(killline, TRUTH, "", lodvarn_delete_by(s, lodvarn_to_line_end()))                              \
@@ -280,13 +263,13 @@ enum reply { OK, TRUTH, AT_END, TEXT, MARK, AT };
     ROW(discbuf, TRUTH, "", lodvarn_delete_by(s, lodvarn_to_text_start()))                             \
     ROW(prevword, TRUTH, "NS", lodvarn_delete_by(s, lodvarn_words_back(g->sense, g->n)))               \
     ROW(nextword, TRUTH, "NPS", lodvarn_delete_by(s, lodvarn_words_forward(g->sense, g->stop, g->n)))  \
-    ROW(to, TRUTH, "NXC", lodvarn_delete_by(s, lodvarn_to_char(g->search, g->c, g->n)))             \
+    ROW(to, TRUTH, "NXC", lodvarn_delete_by(s, lodvarn_to_char(g->search, g->c, g->n)))                \
     ROW(case, TRUTH, "W", lodvarn_change_case(s, g->to))                                               \
     ROW(tchars, TRUTH, "", lodvarn_transpose_chars(s))                                                 \
     ROW(twords, TRUTH, "N", lodvarn_transpose_words(s, g->n))                                          \
     ROW(yank, AT_END, "N", lodvarn_yank(s, g->n))                                                      \
     ROW(yankpop, AT_END, "", yank_pop(s))                                                              \
-    ROW(part, OK, "", lodvarn_undo_boundary(s))                                                                  \
+    ROW(part, OK, "", lodvarn_undo_boundary(s))                                                        \
     ROW(begin, MARK, "", begin(s))                                                                     \
     ROW(end, TRUTH, "", end(s))                                                                        \
     ROW(endone, TRUTH, "", end_one(s))                                                                 \
@@ -294,7 +277,6 @@ enum reply { OK, TRUTH, AT_END, TEXT, MARK, AT };
     ROW(abandon, TRUTH, "", abandon(s))                                                                \
     ROW(undo, TRUTH, "N", undo(s, g->n))                                                               \
     ROW(redo, TRUTH, "", redo(s))                                                                      \
-    ROW(keepundone, TRUTH, "", keep_undone(s))                                                         \
     ROW(trunc, OK, "N", lodvarn_truncate(s, g->n))                                                     \
     ROW(pos, OK, "N", lodvarn_set_pos(s, g->n))                                                        \
     ROW(where, AT, "", where(s))
@@ -355,6 +337,7 @@ static int call_as_script(lodvarn *s, const char *name, struct given *g) {
 
 /* Runs a line that sets something or begins a text, or else a command. */
 static int run(struct typed *t, const char *name, char *rest, enum reply *reply) {
+    static const enum lodvarn_mode modes[] = {LODVARN_UNICODE, LODVARN_WC_WIDTH, LODVARN_NO_ZWJ};
     struct given given, *g = &given;
     *reply = OK;
     if (!strcmp(name, "text")) return begin_text(t, rest);
@@ -368,7 +351,7 @@ static int run(struct typed *t, const char *name, char *rest, enum reply *reply)
 #undef ROW
     if (!strcmp(name, "limit")) t->limit = number(&rest);
     else if (!strcmp(name, "ring")) t->ring = number(&rest);
-    else if (!strcmp(name, "mode")) t->mode = LODVARN_UNICODE + NAMED(&rest, "unicode", "wcwidth", "nozwj");
+    else if (!strcmp(name, "mode")) t->mode = modes[NAMED(&rest, "unicode", "wcwidth", "nozwj")];
     else fail("no such word", name);
     return LODVARN_DONE;
 }
@@ -440,9 +423,29 @@ void typed_script(struct typed *t, const char *script, FILE *out) {
     free(own);
 }
 
-static lodvarn_position cell_of(const lodvarn_screen *screen, lodvarn_view text, size_t place) {
+lodvarn *twin_of(lodvarn *one) {
+    lodvarn_view bytes;
+    lodvarn *twin;
+    if (lodvarn_save(one, &bytes) < 0 || lodvarn_load(&twin, bytes.at, bytes.len) < 0) fail("no twin", "");
+    return twin;
+}
+
+int are_same(lodvarn *one, lodvarn *two) {
+    lodvarn_view a, b;
+    if (lodvarn_save(one, &a) < 0 || lodvarn_save(two, &b) < 0) fail("not saved", "");
+    return a.len == b.len && !memcmp(a.at, b.at, a.len);
+}
+
+int insert_each(lodvarn *s, const char *bytes, size_t len) {
+    int answer = LODVARN_NOTHING;
+    for (size_t i = 0; i < len && answer >= 0; i += utf8_length(bytes + i))
+        answer = lodvarn_insert(s, utf8_character(bytes + i), 1);
+    return answer;
+}
+
+static lodvarn_position cell_of(const lodvarn_screen *screen, lodvarn_view text, size_t offset) {
     lodvarn_position cell;
-    if (lodvarn_cell(screen, place, text.at, text.len, &cell) != LODVARN_DONE) fail("no cell", text.at);
+    if (lodvarn_cell(screen, offset, text.at, text.len, &cell) != LODVARN_DONE) fail("no cell", text.at);
     return cell;
 }
 
@@ -450,18 +453,19 @@ static int is_after(lodvarn_position a, lodvarn_position b) {
     return a.line > b.line || (a.line == b.line && a.column > b.column);
 }
 
-/* Whether the place that is found at the cell of another one is the last whose cell is not after that. */
-static int place_agrees(struct typed *t, lodvarn_view text, size_t pos) {
-    lodvarn_screen screen = {20, 2, 8, t->own_mode, 0, 0};
+/* Whether the offset that is found at the cell of another one is the last whose cell is not after that. */
+static int offset_agrees(struct typed *t, lodvarn_view text, size_t pos) {
+    lodvarn_screen screen = LODVARN_SCREEN(20);
+    screen.prompt = 2, screen.tab = 8, screen.mode = t->own_mode;
     lodvarn_position at = cell_of(&screen, text, pos);
-    size_t place, k = 0;
-    if (lodvarn_offset_at(&screen, at, text.at, text.len, &place) != LODVARN_DONE || place > text.len) return 0;
-    int more = lodvarn_first_cluster(text.at + place, text.len - place, &k);
-    return more == (place < text.len) && !is_after(cell_of(&screen, text, place), at)
-        && (!more || is_after(cell_of(&screen, text, place + k), at));
+    size_t offset, k = 0;
+    if (lodvarn_offset_at(&screen, at, text.at, text.len, &offset) != LODVARN_DONE || offset > text.len) return 0;
+    int more = lodvarn_first_cluster(text.at + offset, text.len - offset, &k);
+    return more == (offset < text.len) && !is_after(cell_of(&screen, text, offset), at)
+        && (!more || is_after(cell_of(&screen, text, offset + k), at));
 }
 
-/* Whether line, column and clusters at the cursor are those that the calls tell that get the text. */
+/* Whether line, column and clusters at the cursor are those that the calls return that get the text. */
 static int cursor_agrees(struct typed *t, lodvarn_view text, size_t own, size_t first) {
     size_t pos = lodvarn_pos(t->s), line = 0, k = 0, width = 0;
     lodvarn_cluster found = {pos, pos, 0}, last = {pos, pos, 0};
@@ -504,5 +508,5 @@ int typed_reads_agree(struct typed *t) {
     return lodvarn_line_count(t->s) == lines
         && lodvarn_line_range(t->s, own, &line) == LODVARN_DONE && line.from == first && line.to == end
         && lodvarn_line_range(t->s, lines, &none) == LODVARN_NOTHING && none.from == 1 && none.to == 0
-        && cursor_agrees(t, text, own, first) && place_agrees(t, text, pos) && ring_agrees(t);
+        && cursor_agrees(t, text, own, first) && offset_agrees(t, text, pos) && ring_agrees(t);
 }

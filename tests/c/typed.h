@@ -5,6 +5,18 @@
 #include "lodvarn.h"
 #include <stdio.h>
 
+/* How many bytes the first character of UTF-8 has, and the character. */
+static inline size_t utf8_length(const char *from) {
+    unsigned char lead = (unsigned char)*from;
+    return lead < 0x80 ? 1 : lead < 0xe0 ? 2 : lead < 0xf0 ? 3 : 4;
+}
+static inline uint32_t utf8_character(const char *from) {
+    size_t len = utf8_length(from);
+    uint32_t c = (unsigned char)*from & (len == 1 ? 0x7f : 0x7f >> len);
+    for (size_t i = 1; i < len; i++) c = c << 6 | ((unsigned char)from[i] & 0x3f);
+    return c;
+}
+
 /* A session, the settings for the next one, and the mode of this one. */
 struct typed {
     lodvarn *s;
@@ -24,7 +36,16 @@ void typed_state(struct typed *t, FILE *out);
 /* Runs all lines. */
 void typed_script(struct typed *t, const char *script, FILE *out);
 
-/* Whether what the reads tell agrees with the newlines of the text. */
+/* Another session that is as this one, since it was saved and loaded. */
+lodvarn *twin_of(lodvarn *one);
+
+/* Whether both are saved as the same bytes: the text, the cursor, the record, the ring and the options. */
+int are_same(lodvarn *one, lodvarn *two);
+
+/* Types the characters of UTF-8 one by one, by lodvarn_insert. Returns what the last one returned. */
+int insert_each(lodvarn *s, const char *bytes, size_t len);
+
+/* Whether what the reads return agrees with the newlines of the text. */
 int typed_reads_agree(struct typed *t);
 
 #endif

@@ -41,10 +41,10 @@ pub record IsShapeOf (r : Report) (texts : List ℕ) (c : CReport) : Type 0 wher
   pub old_text : c.old_text.len ≡ min r.old_len (length texts)
   pub new_text : c.new_text.len ≡ length texts - min r.old_len (length texts)
 
--- a report is told, if there is one
+-- a report is told, if there is one; its size is the caller's
 abbrev pub TellsReport : Option Report → List ℕ → Answer → CReport → CReport → Type 0
 TellsReport None texts n out out' = (n ≡ Nothing) × (out' ≡ out)
-TellsReport (Some r) texts n out out' = (n ≡ Done) × IsShapeOf r texts out'
+TellsReport (Some r) texts n out out' = (n ≡ Done) × (out'.size ≡ out.size) × IsShapeOf r texts out'
 
 -- the oldest report is taken and told, if one waits
 abbrev pub TakesReport : EffectOut CReport

@@ -63,6 +63,7 @@ fn write_report(found: Option<Report>, texts: &str, report: &mut CReport) -> Ans
     let bytes = texts.as_bytes();
     let went = found.old_len.min(bytes.len());
     *report = CReport {
+        size: report.size,
         kind: kind_number(found.kind),
         at: found.at,
         old_len: found.old_len,
@@ -75,7 +76,8 @@ fn write_report(found: Option<Report>, texts: &str, report: &mut CReport) -> Ans
     Answer::Done
 }
 
-pub fn lodvarn_take_report(s: &mut Handle, report: &mut CReport) -> i32
+/// Removes the oldest report and writes it, as `lodvarn_take_report` says.
+pub fn rl_take_report(s: &mut Handle, report: &mut CReport) -> i32
     ensures { ThroughOut TakesReport s.old result s.new report.old report.new }
 {
     of!(s, session => {
