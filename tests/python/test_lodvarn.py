@@ -81,34 +81,34 @@ class Places(Scripts):
             given, session = text.encode(), Session(text)
             for index in range(length + 1):
                 place = len(text[:index].encode())
-                self.assertEqual(lib.place_in(given, len(given), index), place)
+                self.assertEqual(lib.offset_in(given, len(given), index), place)
                 self.assertEqual(lib.chars_in(given, place), index)
                 session.pos = index
                 self.assertEqual((session.pos, session.before), (index, text[:index]))
             for none in (-1, length + 1, 2**63 - 1, 2**64):
-                self.assertRaises(lodvarn.BadPlaceError, setattr, session, "pos", none)
+                self.assertRaises(lodvarn.BadIndexError, setattr, session, "pos", none)
 
     def test_what_is_told_are_indexes(self):
         text = "é日 cd\n  é漢x\n" + FAMILY
         session = opened(text, 10)
         for told, wanted in [
-            (session.covers(LINE), "  é漢x"),
-            (session.covers(BACK), "é漢"),
-            (session.find_line(0), "é日 cd"),
-            (session.find_line(2), FAMILY),
-            (session.find_line(3), None),
-            (session.covers(Movement.search_for(Search.TO, "z")), None),
-            (session.covers(LINE, 1), "é日 cd"),
-            (session.covers(BACK, 2), "é日"),
-            (session.covers(BACK, 0), None),
+            (session.movement_range(LINE), "  é漢x"),
+            (session.movement_range(BACK), "é漢"),
+            (session.line_range(0), "é日 cd"),
+            (session.line_range(2), FAMILY),
+            (session.line_range(3), None),
+            (session.movement_range(Movement.to_char(Search.TO, "z")), None),
+            (session.movement_range(LINE, 1), "é日 cd"),
+            (session.movement_range(BACK, 2), "é日"),
+            (session.movement_range(BACK, 0), None),
         ]:
             self.assertEqual(told and text[slice(*told)], wanted)
-        self.assertEqual([session.destination(BACK, it) for it in (None, 2, 0, 6)], [8, 0, None, 3])
-        self.assertIsNone(session.destination(LINE))
+        self.assertEqual([session.movement_target(BACK, it) for it in (None, 2, 0, 6)], [8, 0, None, 3])
+        self.assertIsNone(session.movement_target(LINE))
         self.assertEqual([session.cluster_at(it) for it in (1, 12, 17)], [(1, 2, 2), (12, 17, 2), None])
         self.assertEqual([session.cluster_before(it) for it in (2, 17, 0)], [(1, 2, 2), (12, 17, 2), None])
         self.assertEqual([session.line_at(it) for it in (0, 5, 6, 11, 12, 17)], [0, 0, 1, 1, 2, 2])
-        self.assertEqual((session.find_cursor(), session.count_lines(), session.pos), ((1, 5), 3, 10))
+        self.assertEqual((session.cursor_position, session.line_count, session.pos), ((1, 5), 3, 10))
 
     def test_what_is_given_are_indexes(self):
         session = opened("é日c", 1)
@@ -134,8 +134,8 @@ class Places(Scripts):
         ]:
             with self.subTest(text=text, screen=screen):
                 self.assertEqual(lodvarn.cell(screen, place, text), wanted)
-                self.assertEqual(lodvarn.place_at(screen, wanted, text), place)
-        self.assertEqual(lodvarn.place_at(Screen(10), (2**64 - 1, 0), "漢字"), 2)
+                self.assertEqual(lodvarn.index_at(screen, wanted, text), place)
+        self.assertEqual(lodvarn.index_at(Screen(10), (2**64 - 1, 0), "漢字"), 2)
 
     def test_motions_by_rows_keep_the_column(self):
         with Session("漢字é\n\na") as session:
@@ -171,11 +171,11 @@ class Places(Scripts):
 class Values(Scripts):
     def test_options_are_read_and_set(self):
         given = {"limit_bytes": None, "ring_size": 60, "mode": Mode.UNICODE, "prompt": 0}
-        given.update(max_entries=None, max_bytes=None, max_ring_bytes=None, keeps_undone=False)
+        given.update(max_entries=None, max_bytes=None, max_ring_bytes=None, keep_undone=False)
         session = Session()
         self.assertEqual({name: getattr(session, name) for name in given}, given)
         chosen = [("limit_bytes", 0), ("ring_size", 1), ("mode", Mode.NO_ZWJ), ("prompt", 3), ("max_entries", 0)]
-        chosen += [("max_bytes", 1), ("max_ring_bytes", 2), ("keeps_undone", True)]
+        chosen += [("max_bytes", 1), ("max_ring_bytes", 2), ("keep_undone", True)]
         for name, value in chosen:
             given[name] = value
             setattr(session, name, value)
@@ -186,39 +186,39 @@ class Values(Scripts):
 
     def test_a_movement_is_a_value(self):
         self.assertEqual({BACK, Movement.words_back(Word.EMACS, 1)}, {BACK})
-        self.assertNotEqual(Movement.search_for(Search.TO, "a"), Movement.search_for(Search.TO, "b"))
+        self.assertNotEqual(Movement.to_char(Search.TO, "a"), Movement.to_char(Search.TO, "b"))
         self.assertNotEqual(BACK, Movement.words_back(Word.VI))
         self.assertRaises(AttributeError, setattr, LINE, "name", "")
         self.assertIn("'words_back'", repr(BACK))
         session = opened("xé é", 2)
-        for movement in (LINE, BACK, Movement.search_for(Search.TO, "é")):
+        for movement in (LINE, BACK, Movement.to_char(Search.TO, "é")):
             for other in (copy.copy(movement), copy.deepcopy(movement), pickle.loads(pickle.dumps(movement))):
-                self.assertEqual((other, session.covers(other)), (movement, session.covers(movement)))
+                self.assertEqual((other, session.movement_range(other)), (movement, session.movement_range(movement)))
 
     def test_the_ring_and_the_record_are_read(self):
         session = Session("x")
         self.assertEqual((session.ring, session.ring_count, session.ring_text()), ([], 0, None))
         for text in ["a", "", "é"]:
-            session.keep(text)
+            session.ring_add(text)
         self.assertEqual((session.ring, session.ring_count), (["é", "", "a"], 3))
         self.assertEqual([session.ring_text(it) for it in (0, 1, 2, 3, 2**64 - 1)], ["é", "", "a", None, None])
         self.assertTrue(session.yank() and session.last_was_yank and session.can_undo and not session.can_redo)
         session.undo()
         self.assertEqual((session.last_was_yank, session.can_undo, session.can_redo), (False, False, True))
         session.begin_group()
-        self.assertEqual((session.entries, session.level), (1, 1))
+        self.assertEqual((session.record_entries, session.group_level), (1, 1))
 
     def test_a_kill_goes_after_the_newest(self):
         session = Session()
         for text in "abcd":
-            session.keep(text)
+            session.ring_add(text)
         self.assertTrue(session.yank() and session.yank_pop() and session.yank_pop())
-        session.keep("e")
+        session.ring_add("e")
         self.assertEqual(session.ring, list("edcba"))
         for it in (Session.load(session.save()), session):
             it.ring_size = 2
             self.assertEqual(it.ring, list("ed"))
-        session.clear_ring()
+        session.ring_clear()
         self.assertEqual((session.ring, session.yank(), session.text), ([], False, "b"))
 
     def test_scripts(self):
@@ -233,7 +233,7 @@ class Groups(Scripts):
         session = Session()
         self.assertFalse(session.is_saved)
         session.insert("é")
-        session.set_saved()
+        session.mark_saved()
         self.assertTrue(session.is_saved)
         session.insert("b")
         self.assertFalse(session.is_saved)
@@ -250,10 +250,10 @@ class Groups(Scripts):
                 session.insert("a")
                 with session.group():
                     session.paste("b c")
-                    self.assertEqual(session.level, 2)
+                    self.assertEqual(session.group_level, 2)
                     if fault:
                         raise fault
-            self.assertEqual((session.text, session.level, session.undo(), session.text), ("ab c", 0, True, ""))
+            self.assertEqual((session.text, session.group_level, session.undo(), session.text), ("ab c", 0, True, ""))
 
     def test_an_edit_is_one_undo(self):
         def yank_and_pop(session):
@@ -270,13 +270,13 @@ class Groups(Scripts):
         ]:
             session = Session("né two")
             for text in ("日", "x", "yz"):
-                session.keep(text)
+                session.ring_add(text)
             session.pos = 3
             edit(session)
             with self.subTest(left=left):
                 self.assertEqual((session.text, session.undo()), (left, True))
                 self.stands(session, "né two", 3)
-                self.assertEqual((session.entries, session.redo(), session.text), (0, True, left))
+                self.assertEqual((session.record_entries, session.redo(), session.text), (0, True, left))
 
     def test_an_undo_stays_in_its_group(self):
         session = Session("")
@@ -284,7 +284,7 @@ class Groups(Scripts):
         with session.group():
             session.paste("日")
             session.transpose_chars()
-            self.assertEqual((session.undo(9), session.text, session.undo(9), session.level), (True, "é", False, 1))
+            self.assertEqual((session.undo(9), session.text, session.undo(9), session.group_level), (True, "é", False, 1))
             session.redo()
         self.assertEqual((session.text, session.undo(), session.text), ("é日", True, "é"))
 
@@ -295,7 +295,7 @@ class Groups(Scripts):
             session.undo()
             session.begin_group()
             end(session)
-            self.assertEqual((session.level, session.entries, session.redo(), session.text), (0, 0, True, "é"))
+            self.assertEqual((session.group_level, session.record_entries, session.redo(), session.text), (0, 0, True, "é"))
 
     def test_a_group_goes_on(self):
         session = Session("one")
@@ -306,7 +306,7 @@ class Groups(Scripts):
         session.insert("-")
         with session.group(reopen=True):
             session.insert("c")
-        self.assertEqual((session.text, session.undo(), session.text, session.level), ("one-c", True, "one-", 0))
+        self.assertEqual((session.text, session.undo(), session.text, session.group_level), ("one-c", True, "one-", 0))
 
     def test_a_group_is_abandoned(self):
         session = Session("né two")
@@ -316,7 +316,7 @@ class Groups(Scripts):
                 session.paste("日本")
             self.assertTrue(session.abandon_group())
         self.stands(session, "né two", 6)
-        self.assertEqual((session.level, session.entries, session.can_redo, session.ring), (0, 0, False, ["two"]))
+        self.assertEqual((session.group_level, session.record_entries, session.can_redo, session.ring), (0, 0, False, ["two"]))
         self.assertFalse(session.abandon_group())
 
     def test_what_was_undone_is_kept(self):
@@ -327,13 +327,13 @@ class Groups(Scripts):
         session.undo()
         self.assertTrue(session.keep_undone())
         self.stands(session, "né", 2)
-        self.assertEqual((session.level, session.entries, session.can_redo), (0, 6, False))
+        self.assertEqual((session.group_level, session.record_entries, session.can_redo), (0, 6, False))
         session.insert("!")
         session.undo(2)
         self.stands(session, "né日本", 4)
         session.undo()
         self.stands(session, "né", 2)
-        self.assertEqual((session.entries, session.undo()), (0, False))
+        self.assertEqual((session.record_entries, session.undo()), (0, False))
 
     def test_edits_keep_what_was_undone(self):
         def type_in_group(session):
@@ -347,14 +347,14 @@ class Groups(Scripts):
             (lambda it: it.undo(), [], []),
         ]:
             for keeps, wanted in [(True, kept), (False, forgotten)]:
-                session, seen = Session(keeps_undone=keeps), []
+                session, seen = Session(keep_undone=keeps), []
                 session.paste("é-")
                 session.undo()
                 session = copy.copy(session)
                 edit(session)
                 while session.undo():
                     seen.append(session.text)
-                self.assertEqual((seen, session.keeps_undone), (wanted, keeps))
+                self.assertEqual((seen, session.keep_undone), (wanted, keeps))
 
     def test_it_hides_no_exception(self):
         session = Session("")
@@ -381,7 +381,7 @@ class Groups(Scripts):
             with self.subTest(what=what):
                 with session.group():
                     inside(session)
-                self.assertEqual(session.level, level)
+                self.assertEqual(session.group_level, level)
 
     def test_a_session_may_be_closed_in_it(self):
         session = Session("")
@@ -400,10 +400,10 @@ class Noted(Session):
 def edited(kind=Session):
     """A session with a ring of two texts, an open group, and a change that was undone."""
     options = {"limit_bytes": 100, "ring_size": 3, "mode": Mode.NO_ZWJ, "prompt": 2, "max_entries": 50}
-    session = kind("né two", **options, max_bytes=99, max_ring_bytes=98, keeps_undone=True)
+    session = kind("né two", **options, max_bytes=99, max_ring_bytes=98, keep_undone=True)
     session.kill(BACK)
-    session.keep("日本")
-    session.set_saved()
+    session.ring_add("日本")
+    session.mark_saved()
     session.yank()
     session.begin_group()
     session.insert("é")
@@ -434,7 +434,7 @@ class Saved(Scripts):
         self.assertEqual(one.save(), other.save())
 
     def test_it_comes_back_and_goes_on(self):
-        for last in (Session.part, Session.yank, lambda it: it.kill(START), lambda it: it.insert("a")):
+        for last in (Session.undo_boundary, Session.yank, lambda it: it.kill(START), lambda it: it.insert("a")):
             session = edited()
             last(session)
             loaded = Session.load(session.save())
@@ -498,7 +498,7 @@ class Saved(Scripts):
                 self.are_equal(other, session)
                 self.assertEqual((type(other), other.note), (Noted, ["a"]))
                 self.assertEqual(other.note is session.note, take is copy.copy)
-                self.assertEqual((other.count_reports(), session.count_reports()), (0, 1))
+                self.assertEqual((other.report_count, session.report_count), (0, 1))
                 self.assertEqual((other.on_change, session.on_change), (None, print))
                 other.undo()
                 self.stands(session, "漢 é 日本é", 2)
@@ -522,7 +522,7 @@ class Saved(Scripts):
         self.assertEqual([it for name, *it in parts if name == "slot"], [[it] for it in reversed(session.ring)])
         entries = [it for it in parts if it[0] != "slot"]
         undone = [it for it in entries if it[0].startswith("undone")]
-        self.assertEqual(len(entries) - len(undone), session.entries)
+        self.assertEqual(len(entries) - len(undone), session.record_entries)
         changes = [(session.redo, at, went, came, pos) for _, at, _, pos, went, came in undone]
         changes += [(session.undo, at, came, went, pos) for _, at, pos, _, went, came in reversed(entries)]
         given = text.encode()
@@ -591,12 +591,12 @@ def asked(session):
 class Faults(Scripts):
     def refuses(self, fault, session, call, *given, **named):
         """The call raises the fault, and leaves text, cursor and record."""
-        before = (session.text, session.pos, session.entries)
+        before = (session.text, session.pos, session.record_entries)
         with self.subTest(call=call, given=given, named=named), self.assertRaises(fault) as raised:
             call(*given, **named)
         if fault is ValueError:
             self.assertIsInstance(raised.exception, lodvarn.LodvarnError)
-        self.assertEqual((session.text, session.pos, session.entries), before)
+        self.assertEqual((session.text, session.pos, session.record_entries), before)
 
     def test_what_is_refused_raises(self):
         session = opened("aé", 2, limit_bytes=3)
@@ -617,17 +617,17 @@ class Faults(Scripts):
         for call, given in [
             (session.set_text, (2, "é")), (session.insert_at, (3, "x")), (session.replace, (2, 1, "x")),
             (session.cluster_at, (3,)), (session.cluster_before, (3,)), (session.line_at, (3,)),
-            (session.covers, (LINE, 3)), (session.destination, (START, 3)), (session.slice, (0, 2**64)),
+            (session.movement_range, (LINE, 3)), (session.movement_target, (START, 3)), (session.slice, (0, 2**64)),
             (lodvarn.cell, (Screen(9), 2, "é")),
         ]:
-            self.refuses(lodvarn.BadPlaceError, session, call, *given)
+            self.refuses(lodvarn.BadIndexError, session, call, *given)
         for call, given in [
             (session.insert, ("\ud800",)), (session.undo, (65536,)), (session.move, (Movement.chars_back(65536),)),
             (session.delete_by, (LINE,)), (session.watch, (0,)), (session.indent, (LINE, 256)),
             *((lodvarn.cell, (Screen(*it), 0, "")) for it in [(0,), (65536,), (9, 65536), (9, 0, -1)]),
         ]:
             self.refuses(lodvarn.NoSuchNumberError, session, call, *given)
-        for call in (session.paste, session.keep, session.restart, lodvarn.width):
+        for call in (session.paste, session.ring_add, session.restart, lodvarn.width):
             self.refuses(UnicodeEncodeError, session, call, "\ud800")
         self.assertTrue(issubclass(lodvarn.NoMemoryError, MemoryError) and issubclass(lodvarn.ClosedError, ValueError))
 
@@ -695,7 +695,7 @@ STOPPED = report(ReportKind.KILL_STOPPED, 0, "", "", 0, 0)
 class Changes(Scripts):
     def tells(self, session, *wanted):
         """Those reports wait, and no others."""
-        self.assertEqual(session.count_reports(), len(wanted))
+        self.assertEqual(session.report_count, len(wanted))
         self.assertEqual(list(session.changes()), list(wanted))
 
     def test_what_changed_is_one_splice(self):
@@ -714,7 +714,7 @@ class Changes(Scripts):
             (Splice(1, 4, 3), (1, 1, 1), (2, 1, 3), (4, 3, 3)),
         ]:
             for place, *wanted in rows:
-                self.assertEqual([change.moved(place, it) for it in Side], wanted, (change, place))
+                self.assertEqual([change.map_index(place, it) for it in Side], wanted, (change, place))
         session, mark = opened("é漢字é", 1), 3
         session.watch()
         for wanted, call, *given in [
@@ -723,14 +723,14 @@ class Changes(Scripts):
         ]:
             call(*given)
             for it in session.changes():
-                mark = it.moved(mark)
+                mark = it.map_index(mark)
             self.assertEqual(mark, wanted)
         for refused, change, *given in [
-            (lodvarn.BadPlaceError, Splice(2, 1, 2), 0), (lodvarn.BadPlaceError, Splice(2, 2, 1), 0),
-            (lodvarn.BadPlaceError, Splice(0, 0, 1), 2**64 - 1), (lodvarn.NoSuchNumberError, Splice(0, 0, 1), -1),
+            (lodvarn.BadIndexError, Splice(2, 1, 2), 0), (lodvarn.BadIndexError, Splice(2, 2, 1), 0),
+            (lodvarn.BadIndexError, Splice(0, 0, 1), 2**64 - 1), (lodvarn.NoSuchNumberError, Splice(0, 0, 1), -1),
             (TypeError, Splice(0, 0, 1), 0, Direction.FORWARD),
         ]:
-            self.assertRaises(refused, change.moved, *given)
+            self.assertRaises(refused, change.map_index, *given)
 
     def test_reports_count_characters(self):
         kind, session = ReportKind, opened("éb", 1)
@@ -829,7 +829,7 @@ class OnChange(Scripts):
         self.assertIs(session.on_change, call)
         inserted = report(ReportKind.CHAR_INSERTED, 1, "", "c", 1, 2)
         session.insert("c")
-        session.part()
+        session.undo_boundary()
         session.kill(END)
         self.assertEqual(seen, [inserted, STARTED, report(ReportKind.DELETED_FORWARD, 2, "b", "", 2, 2), STOPPED])
         session.on_change = None
@@ -856,7 +856,7 @@ class OnChange(Scripts):
         self.stands(session, "cd", 2)
         session.on_change = seen.append
         # A read tells nothing, though a report waits. What it was given before is not given again.
-        self.assertEqual((session.text, session.covers(LINE), seen), ("cd", (0, 2), []))
+        self.assertEqual((session.text, session.movement_range(LINE), seen), ("cd", (0, 2), []))
         session.pos = 0
         self.assertEqual(seen, [report(ReportKind.TEXT_INSERTED, 0, "", "cd", 0, 2)])
         session.on_change = lambda it: session.on_change(it)
@@ -875,7 +875,7 @@ class OnChange(Scripts):
         session, seen = Session("é"), []
         session.on_change = seen.append
         is_through = not disturbed(at, lambda: (session.insert("b"), session.set_text(1, "漢字")))
-        session.part()
+        session.undo_boundary()
         return self.loses_none(is_through, at, session, seen)
 
     def by_changes(self, at):
@@ -979,7 +979,7 @@ class Mirrors(Scripts):
         """Makes the changes of all reports in a text, which is the session's then. The kinds, and where the cursor went
         by the last of a change."""
         told = []
-        while session.count_reports():
+        while session.report_count:
             try:
                 told.extend(session.changes())
             except lodvarn.NoMemoryError:
@@ -1005,7 +1005,7 @@ class Mirrors(Scripts):
             do(session, word, [some(rng, session, it) for it in WORDS[word][0]])
             if rng.random() < 0.03:
                 session.max_bytes = session.max_ring_bytes = rng.choice([None, 300])
-                session.keeps_undone = rng.random() < 0.5
+                session.keep_undone = rng.random() < 0.5
                 session.restart(rng.choice(PIECES))
         except (lodvarn.NoSuchNumberError, lodvarn.NoMemoryError) as fault:
             self.refused += isinstance(fault, MemoryError)

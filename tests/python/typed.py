@@ -8,13 +8,13 @@ from functools import partial
 from pathlib import Path
 
 from lodvarn import (
-    BadPlaceError, BadYankSizeError, Case, Direction, Mode, Movement, NoRoomError, NotReplayingError, Search, Session,
+    BadIndexError, BadYankSizeError, Case, Direction, Mode, Movement, NoRoomError, NotReplayingError, Search, Session,
     Stop, Word,
 )
 
 TOP = Path(__file__).resolve().parents[2]
 MARKS = {"\\": "\\", "n": "\n", "r": "\r", "t": "\t", "s": " "}
-FAULTS = {BadPlaceError: 2, BadYankSizeError: 3, NotReplayingError: 4}
+FAULTS = {BadIndexError: 2, BadYankSizeError: 3, NotReplayingError: 4}
 # The names among the arguments, by the letters of docs/RULES.md, in the order of their enums.
 NAMES = {
     "S": (Word, "big emacs vi"), "P": (Stop, "start before after"), "X": (Search, "f t F T"), "D": (Direction, "f b"),
@@ -52,7 +52,7 @@ MOVEMENTS = table("Movements")
 
 def covered(s, movement):
     """What a movement covers, of which a copy is the same."""
-    return s.slice(*s.covers(movement)) if s.covers(movement) else None
+    return s.slice(*s.movement_range(movement)) if s.movement_range(movement) else None
 
 
 def replied(text):
@@ -81,7 +81,7 @@ def yank_pop(s):
 
 def move(s, movement):
     """Moves to where it was said that it would."""
-    place, is_done = s.destination(movement), s.move(movement)
+    place, is_done = s.movement_target(movement), s.move(movement)
     assert is_done == (place is not None) and place in (None, s.pos)
     return is_done
 
@@ -93,8 +93,8 @@ WORDS = {
     "dedent": ("KM", lambda s, amount, movement: s.dedent(movement, amount)),
     "update": ("JT", Session.set_text), "pos": ("Q", lambda s, pos: setattr(s, "pos", pos)),
     "str": ("QT", lambda s, at, text: s.insert_at(at, text) or True), "case": ("W", Session.change_case),
-    "yankpop": ("", yank_pop), "begin": ("", lambda s: f"mark:{(s.entries, s.begin_group())[0]}"),
-    "where": ("", lambda s: "at:{}:{}".format(*(setattr(s, "pos", s.pos), s.find_cursor())[1])),
+    "yankpop": ("", yank_pop), "begin": ("", lambda s: f"mark:{(s.record_entries, s.begin_group())[0]}"),
+    "where": ("", lambda s: "at:{}:{}".format(*(setattr(s, "pos", s.pos), s.cursor_position)[1])),
 }
 # The words of an insertion, of which a script prints whether it went to the end of the text.
 INSERTIONS = {"ins", "paste", "str", "yank", "yankpop"}
