@@ -27,6 +27,8 @@ OTHER_UNDO = re.compile(
     rb"^(?:(?:update|tchars|twords|case|indent|dedent|yankpop)\b.*\n(?:.*\n){0,2}|begin\n(?:(?!end|abandon).*\n)*)undo",
     re.M,
 )
+# What no call does.
+NO_CALL = re.compile(rb"^(?:keepundone$|(?:move|kill|copy|(?:in|de)dent \d+) first$)", re.M)
 # What stands in a text of C as it is. Two question marks and what comes after them may mean another character there.
 PLAIN = set(range(32, 127)) - set(b'"\\?')
 
@@ -73,7 +75,8 @@ def rows_of(source):
 
 def has_calls(script, printed):
     """Whether each line of a script has a call that does the same."""
-    return b"bad" not in printed.split(b"\n") and not NO_TIMES.search(script) and not OTHER_UNDO.search(script)
+    is_none = NO_TIMES.search(script) or OTHER_UNDO.search(script) or NO_CALL.search(script)
+    return b"bad" not in printed.split(b"\n") and not is_none
 
 
 def in_c(text):

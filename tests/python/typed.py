@@ -1,6 +1,6 @@
 """Runs the lines of scripts by calls of Session, and returns what scripts print, as docs/RULES.md says.
 
-A script counts places in bytes. One that is inside of a character has no index, so it stands for one that no text has.
+A script counts offsets in bytes. One that is inside a character has no index, so -1 stands for it.
 """
 
 import re
@@ -61,13 +61,13 @@ def replied(text):
 
 
 def copy(s, movement):
-    """What a movement covers, by both of the calls that tell it."""
+    """What a movement covers, by both of the calls that return it."""
     assert (text := covered(s, movement)) == s.copy(movement)
     return replied(text)
 
 
 def delete(s, n):
-    """What is deleted ahead of the cursor, or none."""
+    """What is deleted after the cursor, or none."""
     text = covered(s, Movement.chars_forward(n))
     assert s.delete(n) == (text is not None)
     return replied(text)
@@ -80,9 +80,9 @@ def yank_pop(s):
 
 
 def move(s, movement):
-    """Moves to where it was said that it would."""
-    place, is_done = s.movement_target(movement), s.move(movement)
-    assert is_done == (place is not None) and place in (None, s.pos)
+    """Moves to the target."""
+    target, is_done = s.movement_target(movement), s.move(movement)
+    assert is_done == (target is not None) and target in (None, s.pos)
     return is_done
 
 
@@ -100,10 +100,10 @@ WORDS = {
 INSERTIONS = {"ins", "paste", "str", "yank", "yankpop"}
 
 
-def index_of(text, place):
-    """The index of a place in bytes, or -1 if there is none."""
+def index_of(text, offset):
+    """The index of an offset in bytes, or -1 if there is none."""
     try:
-        return len(text.encode()[:place].decode()) if place <= len(text.encode()) else -1
+        return len(text.encode()[:offset].decode()) if offset <= len(text.encode()) else -1
     except UnicodeDecodeError:
         return -1
 
@@ -187,6 +187,8 @@ def do(session, word, given):
     except NoRoomError:
         return "none"
     except tuple(FAULTS) as fault:
+        if word != "killrange":
+            session.pos = session.pos  # A line that fails is a command too. An index is checked before the call.
         return f"refused:{FAULTS[type(fault)]}"
     if word in INSERTIONS:
         return str(is_at_end).lower() if told else "none"
