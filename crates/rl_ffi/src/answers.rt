@@ -14,7 +14,7 @@ pub(crate) enum Answer {
     Done = 1,
     DoneAtEnd = 2,
     NoMemory = -1,
-    BadPlace = -2,
+    BadOffset = -2,
     BadYankSize = -3,
     NotReplaying = -4,
     NoRoom = -5,
@@ -25,6 +25,7 @@ pub(crate) enum Answer {
     Closed = -10,
     UnknownFormat = -11,
     Damaged = -12,
+    BadSize = -13,
 }
 
 impl Answer {
@@ -59,7 +60,7 @@ pub(crate) fn truth(found: bool) -> Answer
 }
 
 // An insertion is done: whether at the end.
-fn placed(at_end: bool) -> Answer
+pub(crate) fn placed(at_end: bool) -> Answer
     ensures { result ≡ placed at_end }
 {
     if at_end {
@@ -74,7 +75,7 @@ pub(crate) fn of_fault(fault: Fault) -> Answer
 {
     match fault {
         Fault::NoMemory => Answer::NoMemory,
-        Fault::BadPlace => Answer::BadPlace,
+        Fault::BadPlace => Answer::BadOffset,
         Fault::BadYankSize => Answer::BadYankSize,
         Fault::NotReplaying => Answer::NotReplaying,
         Fault::TooLong => Answer::NoRoom,

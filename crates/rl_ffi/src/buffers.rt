@@ -1,6 +1,6 @@
 //! Writing a text to a buffer of C.
 ghost use Rattle.std.specs.Prelude.{◌≡◌, ◌≤◌, Some, length};
-ghost use Rattle.rl_ffi.specs.Buffers.{put, written};
+ghost use Rattle.rl_ffi.specs.Buffers.{put};
 ghost use Rattle.rl_ffi.specs.Calls.{WritesText};
 
 use crate::answers::Answer;
@@ -11,16 +11,6 @@ pub(crate) fn put(text: &[u8], out: &mut [u8])
     ensures { out.new ≡ put text.now out.old }
 {
     out[..text.len()].copy_from_slice(text);
-}
-
-// Writes as much of the text as fits, and answers how long the whole is.
-pub(crate) fn write(text: &[u8], out: &mut [u8]) -> usize
-    ensures copied { out.new ≡ written text.now out.old }
-    ensures length { result ≡ length text.now }
-{
-    let count = text.len().min(out.len());
-    put(&text[..count], out);
-    text.len()
 }
 
 // Writes the text and its length; of one that does not fit only the length.

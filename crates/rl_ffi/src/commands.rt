@@ -5,14 +5,17 @@ ghost use Rattle.rl_ffi.specs.Calls.{Through, of_named};
 ghost use Rattle.rl_ffi.specs.Commands.{deletes_by, insertion_of, paste_of, performs, performs_text, performs_with, performs_with_as, replacement_of, update_of};
 ghost use Rattle.rl_ffi.specs.Numbers.{case_of, char_of, count_of, dedents_of, movement_of};
 
-use crate::answers::{Answer, answered, done, handed_out, inserted, inserted_there, marked};
+use crate::answers::{
+    Answer, answered, done, handed_out, inserted, inserted_there, marked, of_fault, placed,
+};
 use crate::handle::{Handle, of};
-use crate::numbers::{case_of, char_of, count_of, dedents_of, movement_of};
+use crate::numbers::{amount_of, case_of, char_of, count_of, dedents_of, movement_of};
+use crate::reach::{Reach, reach_of, span};
 use crate::shapes::{CMovement, CRange};
 use crate::texts::text_of;
 use rl_base::{Movement, RepeatCount, WordAction};
 use rl_line::can_delete_by;
-use rl_session::Session;
+use rl_session::{Session, TypeFault};
 
 #[tactic(auto, unfolding(crate::specs::Commands::performs_as))]
 pub fn lodvarn_set_pos(s: &mut Handle, pos: usize) -> i32
@@ -21,17 +24,43 @@ pub fn lodvarn_set_pos(s: &mut Handle, pos: usize) -> i32
     of!(s, session => done(session.set_pos(pos)))
 }
 
-#[tactic(auto, unfolding(crate::specs::Commands::performs_as))]
-fn move_by(session: &mut Session, m: &Movement) -> Answer
-    ensures { performs (Command.Move m.now) session.old result session.new }
+// Ends a run of kills, as a motion to where the cursor is does.
+pub(crate) fn end_kills(session: &mut Session)
+    ensures { ends_kills session.old session.new }
 {
-    answered(session.move_by(m))
+    let pos = session.line().pos();
+    let _ = session.set_pos(pos);
+}
+
+// Moves the cursor to where a text was found.
+#[tactic(auto, unfolding(crate::specs::Commands::performs_as))]
+fn move_to(session: &mut Session, found: Option<usize>) -> Answer
+    ensures { moves (To found) session.old result session.new }
+{
+    match found {
+        Some(at) => done(session.set_pos(at)),
+        None => {
+            end_kills(session);
+            Answer::Nothing
+        }
+    }
+}
+
+#[tactic(auto, unfolding(crate::specs::Commands::performs_as))]
+fn move_by(session: &mut Session, movement: CMovement) -> Answer
+    ensures { of_reach movement moves session.old result session.new }
+{
+    match reach_of(session, session.line().pos(), movement) {
+        Ok(Reach::By(m)) => answered(session.move_by(&m)),
+        Ok(Reach::To(found)) => move_to(session, found),
+        Err(why) => why,
+    }
 }
 
 pub fn lodvarn_move(s: &mut Handle, movement: CMovement) -> i32
-    ensures { Through (of_named (movement_of movement) (λ m. performs (Command.Move m))) s.old result s.new }
+    ensures { Through (of_reach movement moves) s.old result s.new }
 {
-    of!(s, session, m = movement_of(movement) => move_by(session, &m))
+    of!(s, session => move_by(session, movement))
 }
 
 #[tactic(auto, unfolding(crate::specs::Commands::performs_as))]
@@ -46,6 +75,26 @@ pub fn lodvarn_insert(s: &mut Handle, c: u32, n: usize) -> i32
     ensures { Through (of_named (char_of c) (λ x. of_named (count_of n) (λ k. performs (Command.Insert x k)))) s.old result s.new }
 {
     of!(s, session, x = char_of(c), k = count_of(n) => insert(session, x, k))
+}
+
+fn type_bytes(session: &mut Session, bytes: &[u8], used: &mut usize) -> Answer
+{
+    match session.type_bytes(bytes) {
+        Ok(typed) => {
+            if typed.used == 0 {
+                return Answer::Nothing;
+            }
+            *used = typed.used;
+            placed(typed.at_end)
+        }
+        Err(TypeFault::NotUtf8) => Answer::NotUtf8,
+        Err(TypeFault::Refused(why)) => of_fault(why),
+    }
+}
+
+pub fn lodvarn_type(s: &mut Handle, bytes: &[u8], used: &mut usize) -> i32
+{
+    of!(s, session => type_bytes(session, bytes, used))
 }
 
 #[tactic(auto, unfolding(crate::specs::Commands::performs_as))]
@@ -92,10 +141,34 @@ fn delete_by(session: &mut Session, m: &Movement) -> Answer
     answered(session.delete_by(m))
 }
 
-pub fn lodvarn_delete_by(s: &mut Handle, movement: CMovement) -> i32
-    ensures { Through (of_named (movement_of movement) deletes_by) s.old result s.new }
+// Deletes what lies between the cursor and where a text was found.
+#[tactic(auto, unfolding(crate::specs::Commands::performs_as))]
+fn delete_to(session: &mut Session, found: Option<usize>) -> Answer
+    ensures { deletes (To found) session.old result session.new }
 {
-    of!(s, session, m = movement_of(movement) => delete_by(session, &m))
+    match span(session.line().pos(), found) {
+        Some(range) => done(session.delete_range(range.start, range.end)),
+        None => {
+            end_kills(session);
+            Answer::Nothing
+        }
+    }
+}
+
+fn delete_reached(session: &mut Session, movement: CMovement) -> Answer
+    ensures { of_reach movement deletes session.old result session.new }
+{
+    match reach_of(session, session.line().pos(), movement) {
+        Ok(Reach::By(m)) => delete_by(session, &m),
+        Ok(Reach::To(found)) => delete_to(session, found),
+        Err(why) => why,
+    }
+}
+
+pub fn lodvarn_delete_by(s: &mut Handle, movement: CMovement) -> i32
+    ensures { Through (of_reach movement deletes) s.old result s.new }
+{
+    of!(s, session => delete_reached(session, movement))
 }
 
 #[tactic(auto, unfolding(crate::specs::Commands::performs_as))]
@@ -145,10 +218,10 @@ fn indent(session: &mut Session, m: &Movement, amount: u8, dedent: bool) -> Answ
     answered(session.indent(m, amount, dedent))
 }
 
-pub fn lodvarn_indent(s: &mut Handle, movement: CMovement, amount: u8, indentation: u32) -> i32
-    ensures { Through (of_named (movement_of movement) (λ m. of_named (dedents_of indentation) (λ dedent. performs (Command.Indent m amount dedent)))) s.old result s.new }
+pub fn lodvarn_indent(s: &mut Handle, movement: CMovement, amount: usize, indentation: u32) -> i32
+    ensures { Through (of_named (movement_of movement) (λ m. of_named (amount_of amount) (λ k. of_named (dedents_of indentation) (λ dedent. performs (Command.Indent m k dedent))))) s.old result s.new }
 {
-    of!(s, session, m = movement_of(movement), dedent = dedents_of(indentation) => indent(session, &m, amount, dedent))
+    of!(s, session, m = movement_of(movement), k = amount_of(amount), dedent = dedents_of(indentation) => indent(session, &m, k, dedent))
 }
 
 #[tactic(auto, unfolding(crate::specs::Commands::performs_as))]
@@ -177,13 +250,6 @@ pub fn lodvarn_abandon_group(s: &mut Handle) -> i32
     ensures { Through (performs Command.Abandon) s.old result s.new }
 {
     of!(s, session => answered(session.abandon()))
-}
-
-#[tactic(auto, unfolding(crate::specs::Commands::performs_as))]
-pub fn lodvarn_keep_undone(s: &mut Handle) -> i32
-    ensures { Through (performs Command.KeepUndone) s.old result s.new }
-{
-    of!(s, session => answered(session.keep_undone()))
 }
 
 #[tactic(auto, unfolding(crate::specs::Commands::performs_as))]

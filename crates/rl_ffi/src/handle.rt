@@ -1,14 +1,16 @@
-//! What C holds: a session on the heap, or none, which is closed.
+//! What C holds: a session on the heap, or none, which is closed, and beside it the bytes that it saved last.
 ghost use Rattle.std.specs.Prelude.{◌≡◌, Option, None, Some, option_map};
 ghost use Rattle.rl_session.specs.State.{State};
 
 use rl_session::Session;
 use std::marker::Model;
 
-/// What C holds. It is an `Option`, so that a session that is in a call can be out of it meanwhile.
+/// What C holds. The session is an `Option`, so that one that is in a call can be out of it meanwhile. The bytes that were
+/// saved last are kept, since they are lent; nothing reads them here.
 #[derive(Drop)]
 pub struct Handle {
     session: Option<Box<Session>>,
+    saved: Option<Vec<u8>>,
 }
 
 impl Model for Handle {
@@ -23,20 +25,28 @@ impl Handle {
     pub fn closed() -> Handle
         ensures { result ≡ None }
     {
-        Handle { session: None }
-    }
-
-    /// Holds it.
-    #[inline(always)]
-    pub fn of(session: Box<Session>) -> Handle
-        ensures { result ≡ Some session.value }
-    {
         Handle {
-            session: Some(session),
+            session: None,
+            saved: None,
         }
     }
 
-    /// Gives out what it holds, if anything, and holds nothing.
+    /// Holds a session from now on.
+    #[inline(always)]
+    pub fn hold(&mut self, session: Box<Session>)
+        ensures { self.new ≡ Some session.value }
+    {
+        self.session = Some(session);
+    }
+
+    /// Keeps saved bytes until others are kept.
+    pub fn keep_saved(&mut self, bytes: Vec<u8>)
+        ensures { self.new ≡ self.old }
+    {
+        self.saved = Some(bytes);
+    }
+
+    /// Gives out the session that it holds, if any, and holds none.
     #[inline(always)]
     pub fn take(&mut self) -> Option<Box<Session>>
         ensures held { option_map (λ b. b.value) result ≡ self.old }
@@ -59,7 +69,7 @@ macro_rules! of {
             Some(mut boxed) => {
                 let $session = &mut *boxed;
                 let found = $found;
-                *$handle = Handle::of(boxed);
+                $handle.hold(boxed);
                 found
             }
             None => $closed,
@@ -71,13 +81,13 @@ macro_rules! of {
                 $(let $name = match $given {
                     Ok(given) => given,
                     Err(why) => {
-                        *$handle = Handle::of(boxed);
+                        $handle.hold(boxed);
                         return why.number();
                     }
                 };)+
                 let $session = &mut *boxed;
                 let answer = $answer.number();
-                *$handle = Handle::of(boxed);
+                $handle.hold(boxed);
                 answer
             }
             None => Answer::Closed.number(),

@@ -12,24 +12,44 @@ ghost use Rattle.rl_ffi.specs.Numbers.{count_of, direction_of, movement_of};
 
 use crate::answers::{Answer, answered, done, inserted, truth};
 use crate::buffers::put;
+use crate::commands::end_kills;
 use crate::handle::{Handle, of};
-use crate::numbers::{count_of, direction_of, movement_of};
+use crate::numbers::{count_of, direction_of};
+use crate::reach::{Reach, covers, reach_of};
 use crate::shapes::{CMovement, CRange};
 use crate::texts::text_of;
-use rl_base::{Direction, Movement, RepeatCount};
+use rl_base::{Direction, RepeatCount};
 use rl_session::Session;
+use std::ops::Range;
+
+// Kills what lies between the cursor and where a text was found.
+#[tactic(auto, unfolding(crate::specs::Commands::performs_as))]
+fn kill_to(session: &mut Session, found: Option<usize>) -> Answer
+    ensures { kills (To found) session.old result session.new }
+{
+    let pos = session.line().pos();
+    let at = found.unwrap_or(pos);
+    if at < pos {
+        return answered(session.kill_range(at, pos, Direction::Backward));
+    }
+    answered(session.kill_range(pos, at, Direction::Forward))
+}
 
 #[tactic(auto, unfolding(crate::specs::Commands::performs_as))]
-fn kill(session: &mut Session, m: &Movement) -> Answer
-    ensures { performs (Command.Kill m.now) session.old result session.new }
+fn kill(session: &mut Session, movement: CMovement) -> Answer
+    ensures { of_reach movement kills session.old result session.new }
 {
-    answered(session.kill(m))
+    match reach_of(session, session.line().pos(), movement) {
+        Ok(Reach::By(m)) => answered(session.kill(&m)),
+        Ok(Reach::To(found)) => kill_to(session, found),
+        Err(why) => why,
+    }
 }
 
 pub fn lodvarn_kill(s: &mut Handle, movement: CMovement) -> i32
-    ensures { Through (of_named (movement_of movement) (λ m. performs (Command.Kill m))) s.old result s.new }
+    ensures { Through (of_reach movement kills) s.old result s.new }
 {
-    of!(s, session, m = movement_of(movement) => kill(session, &m))
+    of!(s, session => kill(session, movement))
 }
 
 #[tactic(auto, unfolding(crate::specs::Commands::performs_as))]
@@ -103,24 +123,16 @@ pub fn lodvarn_ring_add(s: &mut Handle, text: &[u8]) -> i32
     of!(s, session => keep_bytes(session, text))
 }
 
-// Ends a run of kills, as a motion to where the cursor is does.
-fn end_kills(session: &mut Session)
-    ensures { ends_kills session.old session.new }
+// Copies a range, if there is one, and ends a run of kills.
+fn copy(session: &mut Session, covered: Option<Range<usize>>, out: &mut [u8], len: &mut usize) -> Answer
+    requires { IfSome covered (λ r. IsRange session.old.line.text r.start r.end) }
+    ensures { hands_out (option_map (text_in session.old.line) covered) session.old result session.new (out.old, len.old) (out.new, len.new) }
 {
-    let pos = session.line().pos();
-    let _ = session.set_pos(pos);
-}
-
-// Copies what a movement covers, and ends a run of kills.
-fn copy(session: &mut Session, movement: &Movement, out: &mut [u8], len: &mut usize) -> Answer
-    ensures { hands_out (copied session.old.line movement.now) session.old result session.new (out.old, len.old) (out.new, len.new) }
-{
-    let line = session.line();
-    let Some(range) = line.covered(movement) else {
+    let Some(range) = covered else {
         end_kills(session);
         return Answer::Nothing;
     };
-    let text = &line.as_str().as_bytes()[range.start..range.end];
+    let text = &session.line().as_str().as_bytes()[range.start..range.end];
     *len = text.len();
     if text.len() > out.len() {
         return Answer::TooSmall;
@@ -133,5 +145,11 @@ fn copy(session: &mut Session, movement: &Movement, out: &mut [u8], len: &mut us
 pub fn lodvarn_copy(s: &mut Handle, movement: CMovement, out: &mut [u8], len: &mut usize) -> i32
     ensures { ThroughOut (copies movement) s.old result s.new (out.old, len.old) (out.new, len.new) }
 {
-    of!(s, session, m = movement_of(movement) => copy(session, &m, out, len))
+    of!(s, session => {
+        let pos = session.line().pos();
+        match covers(session, pos, movement) {
+            Ok(range) => copy(session, range, out, len),
+            Err(why) => why,
+        }
+    })
 }

@@ -9,6 +9,7 @@ pub mod handle;
 pub mod kill_ring;
 mod numbers;
 pub mod opening;
+mod reach;
 pub mod reads;
 pub mod reports;
 pub mod saved;

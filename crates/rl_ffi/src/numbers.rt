@@ -1,13 +1,13 @@
 //! What the numbers of the calls stand for. Each function answers `NoSuchNumber` for a number that stands for nothing,
 //! and `Nothing` for a count of 0.
 ghost use Rattle.std.specs.Prelude.{◌≡◌};
-ghost use Rattle.rl_ffi.specs.Numbers.{case_of, char_of, count_of, dedents_of, direction_of, kind_number, mode_number, mode_of, movement_by, movement_of, named, side_of};
+ghost use Rattle.rl_ffi.specs.Numbers.{amount_of, case_of, char_of, count_of, dedents_of, direction_of, kind_number, mode_number, mode_of, movement_by, movement_of, named, side_of, unit_of};
 
 use crate::answers::Answer;
 use crate::shapes::CMovement;
 use rl_base::{
-    At, CharSearch, Direction, GraphemeClusterMode, Movement, RepeatCount, ReportKind, Side, Word,
-    WordAction,
+    At, CharSearch, Direction, GraphemeClusterMode, Movement, RepeatCount, ReportKind, Side, Unit,
+    Word, WordAction,
 };
 
 pub(crate) fn kind_number(kind: ReportKind) -> u32
@@ -40,17 +40,34 @@ pub(crate) fn count_of(number: usize) -> Result<RepeatCount, Answer>
     if number == 0 {
         return Err(Answer::Nothing);
     }
+    unit_of(number)
+}
+
+// A number of columns.
+pub(crate) fn unit_of(number: usize) -> Result<Unit, Answer>
+    ensures { result ≡ unit_of number }
+{
     if number > 65535 {
         return Err(Answer::NoSuchNumber);
     }
     Ok(number as u16)
 }
 
+// How much an indent inserts or deletes in a line.
+pub(crate) fn amount_of(number: usize) -> Result<u8, Answer>
+    ensures { result ≡ amount_of number }
+{
+    if number > 255 {
+        return Err(Answer::NoSuchNumber);
+    }
+    Ok(number as u8)
+}
+
 pub(crate) fn mode_of(number: u32) -> Result<GraphemeClusterMode, Answer>
     ensures { result ≡ mode_of number }
 {
     match number {
-        10 => Ok(GraphemeClusterMode::Unicode),
+        0 => Ok(GraphemeClusterMode::Unicode),
         11 => Ok(GraphemeClusterMode::WcWidth),
         12 => Ok(GraphemeClusterMode::NoZwj),
         _ => Err(Answer::NoSuchNumber),
@@ -61,7 +78,7 @@ pub(crate) fn mode_number(mode: GraphemeClusterMode) -> u32
     ensures { result ≡ mode_number mode }
 {
     match mode {
-        GraphemeClusterMode::Unicode => 10,
+        GraphemeClusterMode::Unicode => 0,
         GraphemeClusterMode::WcWidth => 11,
         GraphemeClusterMode::NoZwj => 12,
     }
@@ -115,41 +132,41 @@ fn movement_by(kind: u32, n: RepeatCount, c: u32) -> Result<Movement, Answer>
         100 => Movement::WholeLine,
         101 => Movement::BeginningOfLine,
         102 => Movement::EndOfLine,
-        103 => Movement::BackwardWord(n, Word::Big),
-        104 => Movement::BackwardWord(n, Word::Emacs),
-        105 => Movement::BackwardWord(n, Word::Vi),
-        106 => Movement::ForwardWord(n, At::Start, Word::Big),
-        107 => Movement::ForwardWord(n, At::BeforeEnd, Word::Big),
-        108 => Movement::ForwardWord(n, At::AfterEnd, Word::Big),
-        109 => Movement::ForwardWord(n, At::Start, Word::Emacs),
-        110 => Movement::ForwardWord(n, At::BeforeEnd, Word::Emacs),
-        111 => Movement::ForwardWord(n, At::AfterEnd, Word::Emacs),
-        112 => Movement::ForwardWord(n, At::Start, Word::Vi),
-        113 => Movement::ForwardWord(n, At::BeforeEnd, Word::Vi),
-        114 => Movement::ForwardWord(n, At::AfterEnd, Word::Vi),
-        115 => Movement::ViCharSearch(n, CharSearch::Forward(char_of(c)?)),
-        116 => Movement::ViCharSearch(n, CharSearch::ForwardBefore(char_of(c)?)),
-        117 => Movement::ViCharSearch(n, CharSearch::Backward(char_of(c)?)),
-        118 => Movement::ViCharSearch(n, CharSearch::BackwardAfter(char_of(c)?)),
-        119 => Movement::ViFirstPrint,
-        120 => Movement::BackwardChar(n),
-        121 => Movement::ForwardChar(n),
-        122 => Movement::LineUp(n),
-        123 => Movement::LineDown(n),
-        124 => Movement::WholeBuffer,
-        125 => Movement::BeginningOfBuffer,
-        126 => Movement::EndOfBuffer,
-        127 => Movement::FirstNonBlank,
-        128 => Movement::WholeLinesUp(n),
-        129 => Movement::WholeLinesDown(n),
+        103 => Movement::FirstNonBlank,
+        104 => Movement::WholeBuffer,
+        105 => Movement::BeginningOfBuffer,
+        106 => Movement::EndOfBuffer,
+        110 => Movement::BackwardChar(n),
+        111 => Movement::ForwardChar(n),
+        112 => Movement::LineUp(n),
+        113 => Movement::LineDown(n),
+        114 => Movement::WholeLinesUp(n),
+        115 => Movement::WholeLinesDown(n),
+        116 => Movement::BackwardWord(n, Word::Big),
+        117 => Movement::BackwardWord(n, Word::Emacs),
+        118 => Movement::BackwardWord(n, Word::Vi),
+        119 => Movement::ForwardWord(n, At::Start, Word::Big),
+        120 => Movement::ForwardWord(n, At::BeforeEnd, Word::Big),
+        121 => Movement::ForwardWord(n, At::AfterEnd, Word::Big),
+        122 => Movement::ForwardWord(n, At::Start, Word::Emacs),
+        123 => Movement::ForwardWord(n, At::BeforeEnd, Word::Emacs),
+        124 => Movement::ForwardWord(n, At::AfterEnd, Word::Emacs),
+        125 => Movement::ForwardWord(n, At::Start, Word::Vi),
+        126 => Movement::ForwardWord(n, At::BeforeEnd, Word::Vi),
+        127 => Movement::ForwardWord(n, At::AfterEnd, Word::Vi),
+        128 => Movement::ViCharSearch(n, CharSearch::Forward(char_of(c)?)),
+        129 => Movement::ViCharSearch(n, CharSearch::ForwardBefore(char_of(c)?)),
+        130 => Movement::ViCharSearch(n, CharSearch::Backward(char_of(c)?)),
+        131 => Movement::ViCharSearch(n, CharSearch::BackwardAfter(char_of(c)?)),
         _ => return Err(Answer::NoSuchNumber),
     })
 }
 
+// The movement of the core. One to a text is none.
 pub(crate) fn movement_of(movement: CMovement) -> Result<Movement, Answer>
     ensures { result ≡ movement_of movement }
 {
-    let n = if matches!(movement.kind, 103..=118 | 120..=123 | 128..=129) {
+    let n = if matches!(movement.kind, 110..=131) {
         count_of(movement.n)?
     } else {
         0

@@ -7,7 +7,7 @@ ghost use Rattle.rl_ffi.specs.declared.answers.Answer.TheVariants.{Done};
 
 use crate::answers::{Answer, of_fault};
 use crate::handle::{Handle, given, of};
-use crate::numbers::{mode_number, mode_of};
+use crate::numbers::{mode_number, mode_of, unit_of};
 use crate::shapes::COptions;
 use crate::texts::text_of;
 use rl_base::NewKill;
@@ -20,7 +20,7 @@ pub(crate) fn open(alloc: Global, handle: &mut Handle, session: Session) -> Answ
 {
     match Box::new(alloc, session) {
         Ok(boxed) => {
-            *handle = Handle::of(boxed);
+            handle.hold(boxed);
             Answer::Done
         }
         Err(_) => Answer::NoMemory,
@@ -37,13 +37,13 @@ fn settings_of(options: &COptions) -> Result<Settings, Answer>
         new_kill: NewKill::AfterNewest,
         options: Options {
             mode: mode_of(options.mode)?,
-            prompt: options.prompt,
+            prompt: unit_of(options.prompt)?,
             bound: Bound {
                 entries: options.max_entries,
                 bytes: options.max_bytes,
                 ring_bytes: options.max_ring_bytes,
             },
-            keeps: options.keeps_undone,
+            keeps: options.keep_undone,
         },
     })
 }
@@ -84,7 +84,7 @@ pub fn rl_set_options(s: &mut Handle, options: &COptions) -> i32
     of!(s, session, settings = settings_of(options) => choose(session, &settings))
 }
 
-/// Tells a session's options, as `lodvarn_get_options` says.
+/// Writes a session's options, as `lodvarn_get_options` says.
 pub fn rl_get_options(s: &mut Handle, options: &mut COptions) -> i32
     ensures { Tells (λ (s : State) n out out'. (n ≡ Done) × (out' ≡ options_shape out.size s)) s.old result s.new options.old options.new }
 {
@@ -92,14 +92,14 @@ pub fn rl_get_options(s: &mut Handle, options: &mut COptions) -> i32
         let chosen = session.settings();
         *options = COptions {
             size: options.size,
-            mode: mode_number(chosen.options.mode),
-            prompt: chosen.options.prompt,
             limit: chosen.limit,
-            ring_size: chosen.ring_size,
             max_entries: chosen.options.bound.entries,
             max_bytes: chosen.options.bound.bytes,
+            ring_size: chosen.ring_size,
             max_ring_bytes: chosen.options.bound.ring_bytes,
-            keeps_undone: chosen.options.keeps,
+            prompt: usize::from(chosen.options.prompt),
+            mode: mode_number(chosen.options.mode),
+            keep_undone: chosen.options.keeps,
         };
         Answer::Done
     })

@@ -11,9 +11,12 @@ ghost use Rattle.rl_ffi.specs.Calls.{Finds, Tells, Writes};
 ghost use Rattle.rl_ffi.specs.Reads.{LeadsFrom, Lends, TellsCluster, TellsClusterBefore, TellsCoversFrom, TellsLineAt, TellsSlice, cursor_position, range_shape};
 
 use crate::answers::Answer;
+use crate::buffers::put;
 use crate::handle::{Handle, of};
-use crate::numbers::movement_of;
+use crate::numbers::direction_of;
+use crate::reach::{Reach, covers, reach_of};
 use crate::shapes::{CCluster, CMovement, CPosition, CRange};
+use crate::texts::text_of;
 use crate::view::View;
 use rl_base::GraphemeClusterMode;
 use rl_session::Session;
@@ -42,8 +45,36 @@ pub fn lodvarn_slice(s: &mut Handle, range: CRange, out: &mut View) -> i32
         if line.is_range(range.from, range.to) {
             lend(&line.as_str()[range.from..range.to], out)
         } else {
-            Answer::BadPlace
+            Answer::BadOffset
         }
+    })
+}
+
+// Writes the text to a buffer, and a NUL after it.
+fn copy_text(text: &[u8], out: &mut [u8], len: &mut usize) -> Answer
+    ensures { CopiesText text.now result (out.old, len.old) (out.new, len.new) }
+{
+    *len = text.len();
+    if text.len() >= out.len() {
+        return Answer::TooSmall;
+    }
+    put(text, out);
+    out[text.len()] = 0;
+    Answer::Done
+}
+
+pub fn lodvarn_text_copy(s: &mut Handle, out: &mut [u8], len: &mut usize) -> i32
+    ensures { Tells (λ (s : State). CopiesText s.line.text) s.old result s.new (out.old, len.old) (out.new, len.new) }
+{
+    of!(s, session => copy_text(session.line().as_str().as_bytes(), out, len))
+}
+
+pub fn lodvarn_find(s: &mut Handle, from: usize, text: &[u8], direction: u32, range: &mut CRange) -> i32
+    ensures { Tells (TellsFound from text.now direction) s.old result s.new range.old range.new }
+{
+    of!(s, session, t = text_of(text), side = direction_of(direction) => match session.find(from, t, side) {
+        Ok(found) => write_range(found, range),
+        Err(_) => Answer::BadOffset,
     })
 }
 
@@ -155,9 +186,9 @@ pub fn lodvarn_cursor_position(s: &mut Handle, at: &mut CPosition) -> i32
 pub fn lodvarn_movement_range(s: &mut Handle, from: usize, movement: CMovement, range: &mut CRange) -> i32
     ensures { Tells (TellsCoversFrom from movement) s.old result s.new range.old range.new }
 {
-    of!(s, session, m = movement_of(movement) => match session.covers_from(from, &m) {
+    of!(s, session => match covers(session, from, movement) {
         Ok(found) => write_range(found, range),
-        Err(_) => Answer::BadPlace,
+        Err(why) => why,
     })
 }
 
@@ -174,12 +205,26 @@ fn write_place(found: Option<usize>, place: &mut usize) -> Answer
     }
 }
 
+// Where a movement leads from an offset.
+fn leads(session: &mut Session, from: usize, movement: CMovement) -> Result<Option<usize>, Answer>
+    ensures asked { Leads from movement session.old result }
+    ensures kept { session.new ≡ session.old }
+{
+    match reach_of(session, from, movement)? {
+        Reach::By(m) => match session.destination_from(from, &m) {
+            Ok(found) => Ok(found),
+            Err(_) => Err(Answer::BadOffset),
+        },
+        Reach::To(found) => Ok(found),
+    }
+}
+
 pub fn lodvarn_movement_target(s: &mut Handle, from: usize, movement: CMovement, to: &mut usize) -> i32
     ensures { Tells (LeadsFrom from movement) s.old result s.new to.old to.new }
 {
-    of!(s, session, m = movement_of(movement) => match session.destination_from(from, &m) {
+    of!(s, session => match leads(session, from, movement) {
         Ok(found) => write_place(found, to),
-        Err(_) => Answer::BadPlace,
+        Err(why) => why,
     })
 }
 
@@ -189,7 +234,7 @@ fn line_at(session: &Session, place: usize, number: &mut usize) -> Answer
 {
     let line = session.line();
     if !line.as_str().is_char_boundary(place) {
-        return Answer::BadPlace;
+        return Answer::BadOffset;
     }
     write_place(Some(line.line_at(place)), number)
 }
@@ -210,7 +255,7 @@ fn measure(text: &str, mode: GraphemeClusterMode, place: usize, found: &mut CClu
     ensures { TellsCluster text.now mode place result found.old found.new }
 {
     if !text.is_char_boundary(place) {
-        return Answer::BadPlace;
+        return Answer::BadOffset;
     }
     match text[place..].graphemes(true).next() {
         Some(cluster) => {
@@ -237,7 +282,7 @@ fn measure_before(text: &str, mode: GraphemeClusterMode, at: usize, found: &mut 
     ensures { TellsClusterBefore text.now mode at result found.old found.new }
 {
     if !text.is_char_boundary(at) {
-        return Answer::BadPlace;
+        return Answer::BadOffset;
     }
     match text[..at].graphemes(true).next_back() {
         Some(cluster) => {

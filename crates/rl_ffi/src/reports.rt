@@ -5,7 +5,7 @@ ghost use Rattle.rl_session.specs.State.{State, with_watch};
 ghost use Rattle.rl_ffi.specs.Calls.{Finds, Tells, Through, ThroughOut, becomes};
 ghost use Rattle.rl_ffi.specs.Reports.{Forgets, TakesChange, TellsNote, TellsReport, Watches};
 
-use crate::answers::{Answer, of_watch_fault, truth};
+use crate::answers::{Answer, of_watch_fault};
 use crate::handle::{Handle, of};
 use crate::numbers::kind_number;
 use crate::shapes::{CReport, CSplice};
@@ -63,6 +63,7 @@ fn write_report(found: Option<Report>, texts: &str, report: &mut CReport) -> Ans
     let bytes = texts.as_bytes();
     let went = found.old_len.min(bytes.len());
     *report = CReport {
+        size: report.size,
         kind: kind_number(found.kind),
         at: found.at,
         old_len: found.old_len,
@@ -75,14 +76,12 @@ fn write_report(found: Option<Report>, texts: &str, report: &mut CReport) -> Ans
     Answer::Done
 }
 
-pub fn lodvarn_next_report(s: &mut Handle, report: &mut CReport) -> i32
-    ensures { Tells (λ (s : State). TellsNote (next_note s.pair.watch)) s.old result s.new report.old report.new }
+/// Removes the oldest report and writes it, as `lodvarn_take_report` says.
+pub fn rl_take_report(s: &mut Handle, report: &mut CReport) -> i32
 {
-    of!(s, session => write_report(session.watch().next_report(), session.watch().next_texts(), report))
-}
-
-pub fn lodvarn_forget_report(s: &mut Handle) -> i32
-    ensures { Through Forgets s.old result s.new }
-{
-    of!(s, session => truth(session.forget_report()))
+    of!(s, session => {
+        let answer = write_report(session.watch().next_report(), session.watch().next_texts(), report);
+        session.forget_report();
+        answer
+    })
 }

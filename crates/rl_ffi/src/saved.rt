@@ -4,18 +4,22 @@ ghost use Rattle.rl_ffi.specs.Calls.{Answers, Tells};
 ghost use Rattle.rl_ffi.specs.Saved.{OpensSaved, Saves};
 
 use crate::answers::Answer;
-use crate::buffers::hand_out;
 use crate::handle::{Handle, of};
 use crate::opening::open;
+use crate::view::View;
 use rl_base::{LoadFault, SaveFault};
 use rl_session::Session;
 use std::alloc::Global;
 
-pub fn lodvarn_save(s: &mut Handle, out: &mut [u8], len: &mut usize) -> i32
-    ensures { Tells Saves s.old result s.new (out.old, len.old) (out.new, len.new) }
+pub fn lodvarn_save(s: &mut Handle, view: &mut View) -> i32
+    ensures { Tells Saves s.old result s.new view.old view.new }
 {
     of!(s, session => match session.save() {
-        Ok(bytes) => hand_out(bytes.as_slice(), out, len),
+        Ok(bytes) => {
+            *view = View::of(bytes.as_slice());
+            s.keep_saved(bytes);
+            Answer::Done
+        }
         Err(SaveFault::NoMemory) => Answer::NoMemory,
         Err(SaveFault::TooLong) => Answer::NoRoom,
     })

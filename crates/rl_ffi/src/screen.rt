@@ -7,7 +7,7 @@ ghost use Rattle.rl_ffi.specs.Screen.{TellsCell, TellsPlace, TellsRow, TellsRows
 
 use crate::answers::{Answer, Outcome, merged};
 use crate::handle::{Handle, of};
-use crate::numbers::{count_of, mode_of};
+use crate::numbers::{count_of, mode_of, unit_of};
 use crate::shapes::{CPosition, CScreen};
 use crate::texts::text_of;
 use rl_base::Screen;
@@ -16,16 +16,17 @@ use rl_base::Screen;
 fn screen_of(screen: &CScreen) -> Result<Screen, Answer>
     ensures { result ≡ screen_of screen.now }
 {
-    if screen.columns == 0 {
+    let columns = unit_of(screen.columns)?;
+    if columns == 0 {
         return Err(Answer::NoSuchNumber);
     }
     Ok(Screen {
         mode: mode_of(screen.mode)?,
-        columns: screen.columns,
-        prompt: screen.prompt,
-        continuation: screen.continuation,
-        tab: screen.tab,
-        controls: screen.controls,
+        columns,
+        prompt: unit_of(screen.prompt)?,
+        continuation: unit_of(screen.continuation)?,
+        tab: unit_of(screen.tab)?,
+        controls: unit_of(screen.controls)?,
     })
 }
 
@@ -35,7 +36,7 @@ fn find_cell(screen: &CScreen, place: usize, text: &[u8], found: &mut CPosition)
     let screen = screen_of(screen)?;
     let text = text_of(text)?;
     if !text.is_char_boundary(place) {
-        return Err(Answer::BadPlace);
+        return Err(Answer::BadOffset);
     }
     let (line, column) = screen.cell(text, place);
     *found = CPosition { line, column };
@@ -63,11 +64,30 @@ pub fn lodvarn_offset_at(screen: &CScreen, at: CPosition, text: &[u8], place: &m
     merged(find_place(screen, at, text, place)).number()
 }
 
+// How many rows a text has, if they do not fit. It has at most one more than bytes.
+fn too_many(screen: &Screen, text: &str, room: usize) -> Option<usize>
+    ensures some { IfSome result (λ n. (n ≡ length (rows screen.now text.now)) × (room < n)) }
+    ensures none { result ≡ None → length (rows screen.now text.now) ≤ room }
+{
+    if room > text.len() {
+        return None;
+    }
+    let needed = screen.rows(text, &mut []);
+    if needed <= room {
+        return None;
+    }
+    Some(needed)
+}
+
 fn find_rows(screen: &CScreen, text: &[u8], starts: &mut [usize], count: &mut usize) -> Outcome
     ensures { TellsRows screen.now text.now (merged result) (starts.old, count.old) (starts.new, count.new) }
 {
     let screen = screen_of(screen)?;
     let text = text_of(text)?;
+    if let Some(needed) = too_many(&screen, text, starts.len()) {
+        *count = needed;
+        return Ok(Answer::TooSmall);
+    }
     *count = screen.rows(text, starts);
     Ok(Answer::Done)
 }

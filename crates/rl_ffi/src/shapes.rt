@@ -35,19 +35,21 @@ pub struct CSplice {
     pub new_to: usize,
 }
 
-/// A movement by the number of its kind, with the number of a search's character, and a count.
-#[repr(C)]
+/// A movement by the number of its kind, with the number of a search's character, a count, and the bytes of a text that is
+/// searched. C passes the last as a pointer and a length.
 #[derive(Clone, Copy)]
-pub struct CMovement {
+pub struct CMovement<'a> {
     pub kind: u32,
     pub c: u32,
     pub n: usize,
+    pub text: &'a [u8],
 }
 
-/// A report by the number of its kind, with its texts.
+/// A report by the number of its kind, with its texts. What its size and that of the next two mean is for the border to C.
 #[repr(C)]
 #[derive(Clone, Copy)]
 pub struct CReport {
+    pub size: usize,
     pub kind: u32,
     pub at: usize,
     pub old_len: usize,
@@ -62,12 +64,13 @@ pub struct CReport {
 #[repr(C)]
 #[derive(Clone, Copy)]
 pub struct CScreen {
-    pub columns: u16,
-    pub prompt: u16,
-    pub tab: u16,
+    pub size: usize,
+    pub columns: usize,
+    pub prompt: usize,
+    pub continuation: usize,
+    pub tab: usize,
+    pub controls: usize,
     pub mode: u32,
-    pub continuation: u16,
-    pub controls: u16,
 }
 
 /// What may be chosen of a session, whose mode is a number.
@@ -75,12 +78,12 @@ pub struct CScreen {
 #[derive(Clone, Copy)]
 pub struct COptions {
     pub size: usize,
-    pub mode: u32,
-    pub prompt: u16,
     pub limit: usize,
-    pub ring_size: usize,
     pub max_entries: usize,
     pub max_bytes: usize,
+    pub ring_size: usize,
     pub max_ring_bytes: usize,
-    pub keeps_undone: bool,
+    pub prompt: usize,
+    pub mode: u32,
+    pub keep_undone: bool,
 }

@@ -10,7 +10,7 @@ ghost use Rattle.rl_ffi.specs.Texts.{Printed, TellsClusters, TellsFirst, TellsLa
 ghost use Rattle.rl_ffi.specs.declared.answers.Answer.TheVariants.{NotUtf8};
 
 use crate::answers::{Answer, Outcome, merged};
-use crate::buffers::write;
+use crate::buffers::hand_out;
 use crate::numbers::{mode_of, side_of};
 use crate::shapes::{CCluster, CSplice};
 use rl_base::{GraphemeClusterMode, Splice};
@@ -34,13 +34,11 @@ pub fn lodvarn_script(alloc: Global, script: &[u8], out: &mut [u8], printed: &mu
 {
     let mut reader = script;
     let mut whole = Vec::new(alloc);
-    // A read from a slice never fails, and a write to a vector fails only if memory is out.
-    let answer = match run_script(alloc, &mut reader, &mut whole) {
-        Ok(()) => Answer::Done,
-        Err(_) => Answer::NoMemory,
-    };
-    *printed = write(whole.as_slice(), out);
-    answer.number()
+    // A read from a slice never fails, and a write to a vector fails only if there is no memory.
+    if run_script(alloc, &mut reader, &mut whole).is_err() {
+        return Answer::NoMemory.number();
+    }
+    hand_out(whole.as_slice(), out, printed).number()
 }
 
 fn measure(mode: u32, text: &[u8], columns: &mut usize) -> Outcome
@@ -113,11 +111,30 @@ fn cut(mode: GraphemeClusterMode, text: &str, out: &mut [CCluster]) -> usize
     count
 }
 
+// How many clusters a text has, if they do not fit. It has no more than bytes.
+fn too_many(mode: GraphemeClusterMode, text: &str, room: usize) -> Option<usize>
+    ensures some { IfSome result (λ n. (n ≡ length (clusters text.now)) × (room < n)) }
+    ensures none { result ≡ None → length (clusters text.now) ≤ room }
+{
+    if room >= text.len() {
+        return None;
+    }
+    let needed = cut(mode, text, &mut []);
+    if needed <= room {
+        return None;
+    }
+    Some(needed)
+}
+
 fn find_clusters(mode: u32, text: &[u8], out: &mut [CCluster], count: &mut usize) -> Outcome
     ensures { TellsClusters mode text.now (merged result) (out.old, count.old) (out.new, count.new) }
 {
     let mode = mode_of(mode)?;
     let text = text_of(text)?;
+    if let Some(needed) = too_many(mode, text, out.len()) {
+        *count = needed;
+        return Ok(Answer::TooSmall);
+    }
     *count = cut(mode, text, out);
     Ok(Answer::Done)
 }
@@ -142,7 +159,7 @@ fn find_moved(change: &CSplice, place: usize, side: u32, moved: &mut usize) -> O
         || splice.new_end < splice.from
         || usize::MAX - after < splice.new_end
     {
-        return Err(Answer::BadPlace);
+        return Err(Answer::BadOffset);
     }
     *moved = splice.moved(place, side);
     Ok(Answer::Done)

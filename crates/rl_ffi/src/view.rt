@@ -2,7 +2,7 @@
 ghost use Rattle.std.specs.Prelude.{◌≡◌, length};
 ghost use Rattle.std.specs.Ptr.{as_ptr};
 
-/// Where a text stands, and how many bytes it has. It is good until the next call on the handle that holds the text.
+/// Where a text stands, and how many bytes it has. It is valid until the next call that may change the handle that holds the text.
 #[repr(C)]
 #[derive(Clone, Copy)]
 pub struct View {

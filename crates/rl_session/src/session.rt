@@ -18,6 +18,7 @@ mod deletions;
 mod edits;
 pub mod forgetting;
 mod history;
+pub mod interim;
 mod motions;
 mod opening;
 mod replies;

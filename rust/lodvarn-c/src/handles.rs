@@ -3,8 +3,9 @@
 
 use crate::proved::rl_ffi::handle::Handle;
 use crate::proved::rl_ffi::opening::{rl_close, rl_get_options, rl_open_session, rl_set_options};
+use crate::proved::rl_ffi::reports::rl_take_report;
 use crate::proved::rl_ffi::saved::rl_load_session;
-use crate::proved::rl_ffi::shapes::COptions;
+use crate::proved::rl_ffi::shapes::{COptions, CReport};
 use crate::proved::stand_in::alloc::Global;
 use crate::proved::stand_in::boxed::Box;
 use core::mem::{size_of, MaybeUninit};
@@ -12,24 +13,73 @@ use core::mem::{size_of, MaybeUninit};
 type Block = alloc::boxed::Box<Handle>;
 
 const NO_MEMORY: i32 = -1;
-const NO_SUCH_NUMBER: i32 = -7;
+pub(crate) const BAD_SIZE: i32 = -13;
 
 // As LODVARN_OPTIONS of the header.
 const OPTIONS: COptions = COptions {
     size: size_of::<COptions>(),
-    mode: 10,
-    prompt: 0,
     limit: usize::MAX,
-    ring_size: 60,
     max_entries: usize::MAX,
     max_bytes: usize::MAX,
+    ring_size: 60,
     max_ring_bytes: usize::MAX,
-    keeps_undone: false,
+    prompt: 0,
+    mode: 0,
+    keep_undone: false,
 };
 
-/// The call of C that a function of the core is: without the allocator, and with a pointer and a count for each slice, of
-/// which the pointer may be null where the count is 0. The parameters go from the third bracket, one by one, to the first,
-/// and what makes them those of the function to the second.
+/// What a pointer and a count of C stand for. The pointer may be null if the count is 0.
+///
+/// # Safety
+/// So many are there, and nothing changes them as long as they are used.
+pub(crate) unsafe fn slice<'a, T>(at: *const T, len: usize) -> &'a [T] {
+    match len {
+        0 => &[],
+        // SAFETY: as above.
+        _ => unsafe { core::slice::from_raw_parts(at, len) },
+    }
+}
+
+/// A structure that begins with its size, if this version knows all of it: it has no member beyond, or 0 in each. This
+/// version knows one size. A later one puts no member into the padding at the end: the size would stay, and old programs
+/// leave anything there. 0 in a member that it adds is what there was before.
+///
+/// # Safety
+/// As many bytes are there as the size says.
+pub(crate) unsafe fn known<'a, T>(at: *const T) -> Option<&'a T> {
+    // SAFETY: a size is there at least.
+    let size = unsafe { at.cast::<usize>().read() };
+    // SAFETY: the size says that there is such a byte.
+    let is_unset = |k| unsafe { at.cast::<u8>().add(k).read() } == 0;
+    match size >= size_of::<T>() && (size_of::<T>()..size).all(is_unset) {
+        // SAFETY: it is there whole.
+        true => Some(unsafe { &*at }),
+        false => None,
+    }
+}
+
+/// Has a call write such a structure. What this version does not know in it becomes 0, if the call writes.
+///
+/// # Safety
+/// As many bytes are there as the size says, and nothing else that is passed overlaps them.
+unsafe fn written<T>(at: *mut T, call: impl FnOnce(&mut T) -> i32) -> i32 {
+    // SAFETY: a size is there at least.
+    let size = unsafe { at.cast::<usize>().read() };
+    if size < size_of::<T>() {
+        return BAD_SIZE;
+    }
+    // SAFETY: it is there whole.
+    let answer = call(unsafe { &mut *at });
+    if answer > 0 {
+        // SAFETY: these bytes are there too.
+        unsafe { at.add(1).cast::<u8>().write_bytes(0, size - size_of::<T>()) };
+    }
+    answer
+}
+
+/// The call of C that a function of the core is: without the allocator, with a pointer and a count for each slice, with a
+/// pointer to a screen, whose size it looks at, and with a movement as C has it. The parameters go from the third bracket,
+/// one by one, to the first, and what makes them those of the function to the second.
 macro_rules! export {
     (pub fn $name:ident($($of:tt)*) $(-> $result:ty)? $body:block) => {
         export! { $name [] [] [$($of)*,] [$(-> $result)?] $body }
@@ -40,11 +90,28 @@ macro_rules! export {
     ($name:ident [$($c:tt)*] [$($own:tt)*] [$slice:ident: &[$type:ty], $($of:tt)*] $result:tt $body:block) => {
         export! {
             $name [$($c)* at: *const $type, len: usize,]
-            [$($own)* let $slice = match len {
-                0 => &[],
-                // SAFETY: C passes so many, and nothing changes them during the call.
-                _ => unsafe { core::slice::from_raw_parts(at, len) },
+            // SAFETY: C passes so many, and nothing changes them during the call.
+            [$($own)* let $slice = unsafe { $crate::handles::slice(at, len) };]
+            [$($of)*] $result $body
+        }
+    };
+    ($name:ident [$($c:tt)*] [$($own:tt)*] [$screen:ident: &CScreen, $($of:tt)*] $result:tt $body:block) => {
+        export! {
+            $name [$($c)* $screen: *const CScreen,]
+            [$($own)*
+            // SAFETY: C passes a screen of that size.
+            let $screen = match unsafe { $crate::handles::known($screen) } {
+                Some(known) => known,
+                None => return $crate::handles::BAD_SIZE,
             };]
+            [$($of)*] $result $body
+        }
+    };
+    ($name:ident [$($c:tt)*] [$($own:tt)*] [$movement:ident: CMovement, $($of:tt)*] $result:tt $body:block) => {
+        export! {
+            $name [$($c)* $movement: $crate::movements::Movement,]
+            // SAFETY: nothing changes its text during the call.
+            [$($own)* let $movement = unsafe { $movement.own() };]
             [$($of)*] $result $body
         }
     };
@@ -84,19 +151,16 @@ fn open(out: &mut MaybeUninit<Block>, fill: impl FnOnce(&mut Handle) -> i32) -> 
     answer
 }
 
-// This version knows one size. A later version puts no member into the padding at the end: the size would stay, and old
-// programs leave anything there. 0 in a member that it adds is what there was before, since the client for Python sets all
-// that it does not know to 0.
-fn is_known(options: &COptions) -> bool {
-    options.size == OPTIONS.size
-}
-
-export! { pub fn lodvarn_open(out: &mut MaybeUninit<Block>, options: Option<&COptions>, text: &[u8]) -> i32 {
-    let options = options.unwrap_or(&OPTIONS);
-    if !is_known(options) {
-        return NO_SUCH_NUMBER;
+export! { pub fn lodvarn_open(out: &mut MaybeUninit<Block>, options: *const COptions, text: &[u8]) -> i32 {
+    let options = match options.is_null() {
+        true => Some(&OPTIONS),
+        // SAFETY: C passes options of that size.
+        false => unsafe { known(options) },
+    };
+    match options {
+        Some(options) => open(out, |handle| rl_open_session(Global, handle, options, text)),
+        None => BAD_SIZE,
     }
-    open(out, |handle| rl_open_session(Global, handle, options, text))
 } }
 
 export! { pub fn lodvarn_load(out: &mut MaybeUninit<Block>, bytes: &[u8]) -> i32 {
@@ -109,26 +173,55 @@ export! { pub fn lodvarn_close(s: Option<&mut Option<Block>>) {
     }
 } }
 
-export! { pub fn lodvarn_set_options(s: &mut Handle, options: &COptions) -> i32 {
-    if is_known(options) { rl_set_options(s, options) } else { NO_SUCH_NUMBER }
+export! { pub fn lodvarn_set_options(s: &mut Handle, options: *const COptions) -> i32 {
+    // SAFETY: C passes options of that size.
+    match unsafe { known(options) } {
+        Some(options) => rl_set_options(s, options),
+        None => BAD_SIZE,
+    }
 } }
 
-export! { pub fn lodvarn_get_options(s: &mut Handle, options: &mut COptions) -> i32 {
-    if is_known(options) { rl_get_options(s, options) } else { NO_SUCH_NUMBER }
+export! { pub fn lodvarn_get_options(s: &mut Handle, options: *mut COptions) -> i32 {
+    // SAFETY: C passes options of that size.
+    unsafe { written(options, |options| rl_get_options(s, options)) }
 } }
 
-macro_rules! names {
-    ($($name:literal)*) => { [$(concat!("LODVARN_", $name, "\0")),*] };
+export! { pub fn lodvarn_take_report(s: &mut Handle, report: *mut CReport) -> i32 {
+    // SAFETY: C passes a report of that size.
+    unsafe { written(report, |report| rl_take_report(s, report)) }
+} }
+
+macro_rules! answers {
+    ($($name:literal: $text:literal,)*) => { [$((concat!("LODVARN_", $name, "\0"), concat!($text, "\0"))),*] };
 }
 
-// The names of the answers, from the least number on, each with a NUL at its end.
-const LEAST: i32 = -12;
-const NAMES: [&str; 15] = names! {
-    "DAMAGED" "UNKNOWN_FORMAT" "CLOSED" "IS_WATCHED" "TOO_SMALL" "NO_SUCH_NUMBER" "NOT_UTF8" "NO_ROOM" "NOT_REPLAYING"
-    "BAD_YANK_SIZE" "BAD_PLACE" "NO_MEMORY" "NOTHING" "DONE" "DONE_AT_END"
+// The names of the answers, from the least number on, and what they mean, each with a NUL at its end.
+const LEAST: i32 = -13;
+const ANSWERS: [(&str, &str); 16] = answers! {
+    "BAD_SIZE": "a structure has a size, or members, that this version does not know",
+    "DAMAGED": "the saved bytes are not those of a session",
+    "UNKNOWN_FORMAT": "the bytes do not begin as this version saves them",
+    "CLOSED": "the session was lost in a call that a signal handler left",
+    "IS_WATCHED": "the session keeps reports already",
+    "TOO_SMALL": "the result does not fit in the buffer",
+    "NO_SUCH_NUMBER": "a number is out of its range, not in its enum, or no character",
+    "NOT_UTF8": "a text that was passed is not UTF-8",
+    "NO_ROOM": "the text would exceed the limit, or is too long to be saved",
+    "NOT_REPLAYING": "the entries do not lead to the present text",
+    "BAD_YANK_SIZE": "no text of the yanked size ends at the cursor",
+    "BAD_OFFSET": "an offset is past the end or inside a character, or two are out of order",
+    "NO_MEMORY": "out of memory",
+    "NOTHING": "there was nothing to do, or nothing that was asked for",
+    "DONE": "done",
+    "DONE_AT_END": "done: the inserted text is the end of the text now",
 };
 
-export! { pub fn lodvarn_answer_name(answer: i32) -> *const u8 {
-    let place = answer.checked_sub(LEAST).and_then(|n| usize::try_from(n).ok());
-    place.and_then(|n| NAMES.get(n)).unwrap_or(&"unknown\0").as_ptr()
-} }
+fn said(answer: i32) -> (&'static str, &'static str) {
+    let index = answer.checked_sub(LEAST).and_then(|n| usize::try_from(n).ok());
+    let found = index.and_then(|n| ANSWERS.get(n));
+    *found.unwrap_or(&("unknown\0", "unknown answer\0"))
+}
+
+export! { pub fn lodvarn_answer_name(answer: i32) -> *const u8 { said(answer).0.as_ptr() } }
+
+export! { pub fn lodvarn_error_text(answer: i32) -> *const u8 { said(answer).1.as_ptr() } }

@@ -6,6 +6,7 @@ extern crate alloc;
 
 #[macro_use]
 mod handles;
+mod movements;
 #[cfg(not(any(feature = "std", panic = "unwind")))]
 mod bare;
 
