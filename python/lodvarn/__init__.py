@@ -129,6 +129,7 @@ _WHY: dict[object, str] = {
     ("py_type", lib.LODVARN_NOT_UTF8): "the bytes do not begin with a character in UTF-8",
     ("py_delete_by", _NO_SUCH_NUMBER): "delete_by() takes a movement by words, to a character or a text, or to the "
     "start or the end of the line or the text",
+    ("lodvarn_map_offset", lib.LODVARN_BAD_OFFSET): "the change ends before it starts, or the index is too great",
     ("py_indent", _NO_SUCH_NUMBER): "a movement to a text has no lines to indent",
 }
 # The items that a buffer has at first, and the greatest numbers: of a size, and of a count or a column.
@@ -182,6 +183,12 @@ def _of(kind: type[_T], given: object) -> _T:
 def _utf8(text: str) -> tuple[bytes, int]:
     """Returns the bytes of a text and their length, as the library takes it."""
     given = str.encode(_of(str, text))
+    return given, len(given)
+
+
+def _given(data: bytes) -> tuple[Any, int]:
+    """Returns bytes and their length, as the library takes them."""
+    given = ffi.from_buffer(memoryview(data))
     return given, len(given)
 
 
@@ -596,8 +603,8 @@ class Session:
         Text, cursor, record, ring and options are as they were; nothing has changed yet, and no reports are kept. Safe
         for untrusted bytes. Raises UnknownFormatError, DamagedError, NoMemoryError.
         """
-        session, given = cls.__new__(cls), ffi.from_buffer(saved)
-        session._open(None, lib.py_load, given, len(given))
+        session = cls.__new__(cls)
+        session._open(None, lib.py_load, *_given(saved))
         return session
 
     def save(self) -> bytes:
@@ -732,8 +739,8 @@ class Session:
         and pass them again with those that follow. Raises, only if the first character can't be inserted, NotUtf8Error,
         NoRoomError, NoMemoryError.
         """
-        given, used = ffi.from_buffer(data), _new(_SIZE)
-        self._do(lib.py_type, given, len(given), used)
+        used = _new(_SIZE)
+        self._do(lib.py_type, *_given(data), used)
         return int(used[0])
 
     def paste(self, text: str, n: int = 1) -> bool:
@@ -1225,8 +1232,7 @@ def library_version() -> str:
 
 def run_script(script: bytes) -> bytes:
     """Returns the output of a script, run in a session of its own. Raises NoMemoryError."""
-    given = ffi.from_buffer(script)
-    _, out, size = _filled(_CHARS, lib.lodvarn_script, given, len(given))
+    _, out, size = _filled(_CHARS, lib.lodvarn_script, *_given(script))
     return bytes(ffi.buffer(out, size))
 
 
@@ -1251,11 +1257,11 @@ def clusters(text: str, mode: Mode = Mode.UNICODE) -> list[Cluster]:
     """Returns the grapheme clusters of a text."""
     given, size = _utf8(text)
     _, out, count = _filled("lodvarn_cluster[]", lib.lodvarn_clusters, _of(Mode, mode).value, given, size)
-    found, start = [], 0
-    for i in range(count):
-        cluster = given[out[i]["from"] : out[i].to].decode()
-        found.append(Cluster(cluster, start, start + len(cluster), out[i].columns))
-        start += len(cluster)
+    found, start, last = [], 0, 0
+    for it in out[0:count]:
+        cluster = given[last : it.to].decode()
+        found.append(Cluster(cluster, start, start + len(cluster), it.columns))
+        start, last = start + len(cluster), it.to
     return found
 
 

@@ -1,6 +1,7 @@
 """What the package for Python makes of the library: the worked scripts by its calls, and what it has of its own."""
 
 import copy
+import gc
 import hashlib
 import inspect
 import pickle
@@ -24,7 +25,8 @@ sys.path[:0] = [str(TOP / "python"), str(TOP / "tests")]
 
 import lodvarn  # noqa: E402
 from lodvarn import (  # noqa: E402
-    Case, Direction, Mode, Movement, Report, ReportKind, Screen, Search, Session, Side, Splice, Stop, Word, lib,
+    Case, Cell, Cluster, Direction, Mode, Movement, Range, Report, ReportKind, RowCell, Screen, Search, Session, Side,
+    Splice, Stop, Word, lib,
 )
 from read_saved import read  # noqa: E402
 from rows import TESTS, has_calls, rows_of  # noqa: E402
@@ -36,7 +38,7 @@ MAKERS = [it for name, it in inspect.getmembers(Movement, inspect.ismethod) if n
 
 
 def opened(text, pos, **options):
-    """A session with the cursor at that place."""
+    """A session with the cursor at that index."""
     session = Session(text, **options)
     session.pos = pos
     return session
@@ -60,8 +62,8 @@ class Rows(unittest.TestCase):
                     self.assertEqual("".join(map(typed.run, script.decode().splitlines())), wanted.decode())
 
 
-class Places(Scripts):
-    def test_the_text_is_parted_at_the_cursor(self):
+class Indexes(Scripts):
+    def test_a_text_has_parts_before_and_after_the_cursor(self):
         for text, pos, before, after, shown in [
             ("", 0, "", "", "<Session ''|''>"),
             ("aé漢\n", 3, "aé漢", "\n", "<Session 'aé漢'|'\\n'>"),
@@ -74,24 +76,24 @@ class Places(Scripts):
                 self.assertEqual((session.pos, len(session), bool(session), str(session)), (pos, len(text), True, text))
                 self.assertEqual((repr(session), session.slice(0, pos)), (shown, before))
 
-    def test_each_place_is_an_index(self):
+    def test_each_offset_has_an_index(self):
         rng = random.Random(7)
         for length in [0, 1, 15, 16, 119, 120, 121, 239, 240, 241, 480, 700]:
             text = "".join(rng.choice("aé漢\U0001f468") for _ in range(length))
             given, session = text.encode(), Session(text)
             for index in range(length + 1):
-                place = len(text[:index].encode())
-                self.assertEqual(lib.offset_in(given, len(given), index), place)
-                self.assertEqual(lib.chars_in(given, place), index)
+                offset = len(text[:index].encode())
+                self.assertEqual(lib.offset_in(given, len(given), index), offset)
+                self.assertEqual(lib.chars_in(given, offset), index)
                 session.pos = index
                 self.assertEqual((session.pos, session.before), (index, text[:index]))
             for none in (-1, length + 1, 2**63 - 1, 2**64):
                 self.assertRaises(lodvarn.BadIndexError, setattr, session, "pos", none)
 
-    def test_what_is_told_are_indexes(self):
+    def test_what_is_returned_are_indexes(self):
         text = "é日 cd\n  é漢x\n" + FAMILY
         session = opened(text, 10)
-        for told, wanted in [
+        for found, wanted in [
             (session.movement_range(LINE), "  é漢x"),
             (session.movement_range(BACK), "é漢"),
             (session.line_range(0), "é日 cd"),
@@ -102,13 +104,20 @@ class Places(Scripts):
             (session.movement_range(BACK, 2), "é日"),
             (session.movement_range(BACK, 0), None),
         ]:
-            self.assertEqual(told and text[slice(*told)], wanted)
+            self.assertEqual(found and text[slice(*found)], wanted)
         self.assertEqual([session.movement_target(BACK, it) for it in (None, 2, 0, 6)], [8, 0, None, 3])
         self.assertIsNone(session.movement_target(LINE))
-        self.assertEqual([session.cluster_at(it) for it in (1, 12, 17)], [(1, 2, 2), (12, 17, 2), None])
-        self.assertEqual([session.cluster_before(it) for it in (2, 17, 0)], [(1, 2, 2), (12, 17, 2), None])
+        wide = [Cluster("日", 1, 2, 2), Cluster(FAMILY, 12, 17, 2), None]
+        self.assertEqual([session.cluster_at(it) for it in (1, 12, 17)], wide)
+        self.assertEqual([session.cluster_before(it) for it in (2, 17, 0)], wide)
         self.assertEqual([session.line_at(it) for it in (0, 5, 6, 11, 12, 17)], [0, 0, 1, 1, 2, 2])
-        self.assertEqual((session.cursor_position, session.line_count, session.pos), ((1, 5), 3, 10))
+        self.assertEqual((session.cursor_position, session.line_count, session.pos), (Cell(1, 5), 3, 10))
+        for found, wanted in [
+            (session.line_range(0), Range(0, 5)), (session.movement_range(BACK), Range(8, 10)),
+            (session.find("é"), None), (session.cursor_position, Cell(1, 5)),
+            (session.row_above(Screen(9)), RowCell(4, 5)), (session.cluster_at(1), Cluster("日", 1, 2, 2)),
+        ]:
+            self.assertEqual((type(found), found), (type(wanted), wanted))
 
     def test_what_is_given_are_indexes(self):
         session = opened("é日c", 1)
@@ -124,17 +133,18 @@ class Places(Scripts):
             self.stands(session, text, pos)
         self.assertEqual(session.ring, ["éé漢"])
 
-    def test_a_place_has_a_cell_and_a_cell_a_place(self):
-        for screen, text, place, wanted in [
+    def test_an_index_has_a_cell_and_a_cell_an_index(self):
+        for screen, text, index, wanted in [
             (Screen(10, 2), "ab\ncd", 5, (1, 2)),
             (Screen(4), "abc漢", 4, (1, 2)),
             (Screen(10, 2), FAMILY, 5, (0, 4)),
             (Screen(10, 2, mode=Mode.WC_WIDTH), FAMILY, 5, (0, 8)),
             (Screen(columns=20, prompt=3, tab=4), "漢\n\t", 3, (1, 4)),
+            (Screen(20, 3, 1, 0, 2), "漢\n\x01", 3, (1, 3)),
         ]:
             with self.subTest(text=text, screen=screen):
-                self.assertEqual(lodvarn.cell(screen, place, text), wanted)
-                self.assertEqual(lodvarn.index_at(screen, wanted, text), place)
+                self.assertEqual(lodvarn.cell(screen, index, text), Cell(*wanted))
+                self.assertEqual(lodvarn.index_at(screen, wanted, text), index)
         self.assertEqual(lodvarn.index_at(Screen(10), (2**64 - 1, 0), "漢字"), 2)
 
     def test_motions_by_rows_keep_the_column(self):
@@ -147,17 +157,23 @@ class Places(Scripts):
             self.assertIsNone(session.row_below(screen, n=9))
 
     def test_a_text_is_cut_into_clusters(self):
-        self.assertEqual(lodvarn.clusters("e\u0301漢x"), [("e\u0301", 1), ("漢", 2), ("x", 1)])
-        self.assertEqual(lodvarn.clusters("\x01\n", Mode.WC_WIDTH), [("\x01", 0), ("\n", 0)])
+        self.assertEqual(
+            lodvarn.clusters("e\u0301漢x"),
+            [Cluster("e\u0301", 0, 2, 1), Cluster("漢", 2, 3, 2), Cluster("x", 3, 4, 1)],
+        )
+        counted = [Cluster("\x01", 0, 1, 0), Cluster("\n", 1, 2, 0)]
+        self.assertEqual(lodvarn.clusters("\x01\n", Mode.WC_WIDTH), counted)
         self.assertEqual(lodvarn.clusters(""), [])
         shorter = type("Shorter", (str,), {"__len__": lambda it: 0})
-        self.assertEqual(lodvarn.clusters(shorter("ab")), [("a", 1), ("b", 1)])
+        for text in ("ab" * 999, shorter("ab" * 999)):
+            self.assertEqual([it[:2] for it in lodvarn.clusters(text)][-2:], [("a", 1996), ("b", 1997)])
 
-    def test_rows_begin_at_places(self):
+    def test_rows_begin_at_indexes(self):
         for screen, text, wanted in [
             (Screen(10), "", [0]),
             (Screen(3, 2), "é漢字\nb", [0, 1, 2, 4]),
             (Screen(4, continuation=3, controls=2), "\x01\x01\nab", [0, 2, 4]),
+            (Screen(1), "é" * 999, [*range(1000)]),
         ]:
             with self.subTest(text=text, screen=screen):
                 self.assertEqual(lodvarn.rows(screen, text), wanted)
@@ -190,10 +206,14 @@ class Values(Scripts):
         self.assertNotEqual(BACK, Movement.words_back(Word.VI))
         self.assertRaises(AttributeError, setattr, LINE, "name", "")
         self.assertIn("'words_back'", repr(BACK))
-        session = opened("xé é", 2)
-        for movement in (LINE, BACK, Movement.to_char(Search.TO, "é")):
-            for other in (copy.copy(movement), copy.deepcopy(movement), pickle.loads(pickle.dumps(movement))):
-                self.assertEqual((other, session.movement_range(other)), (movement, session.movement_range(movement)))
+        session, matches = opened("xé é日", 2), [Movement.to_match(it) for it in ("é日", "日")]
+        self.assertEqual(len({*matches, Movement.to_match("é日"), Movement.to_match("日", Direction.BACKWARD)}), 3)
+        for movement, covered in [(LINE, (0, 5)), (BACK, (0, 2)), (Movement.to_char(Search.TO, "é"), (2, 4))] + [
+            (it, (2, at)) for it, at in zip(matches, (3, 4))
+        ]:
+            for other in (movement, copy.copy(movement), copy.deepcopy(movement), pickle.loads(pickle.dumps(movement))):
+                gc.collect()  # The text of a movement lives as long as the movement.
+                self.assertEqual((other, hash(other), session.movement_range(other)), (movement, hash(movement), covered))
 
     def test_the_ring_and_the_record_are_read(self):
         session = Session("x")
@@ -226,6 +246,94 @@ class Values(Scripts):
         for script, wanted in [(b"", b""), (bytearray(b"\xff"), b"bad\n"), (longer(b"\xff"), b"bad\n")]:
             self.assertEqual(lodvarn.run_script(script), wanted)
         self.assertEqual(lodvarn.run_script(b"text \n" + b"ins 1 a\n" * 99).count(b"\n"), 100)
+
+
+class Typing(Scripts):
+    def test_whole_characters_are_typed(self):
+        for data, used, left in [
+            ("日本a".encode(), 7, "é日本a"), (bytearray(b"a\x1b\0\n"), 4, "éa\x1b\0\n"), (memoryview(b"a\xff"), 1, "éa"),
+            (b"a\xed\xa0\x80", 1, "éa"), (b"a\xe6\x97", 1, "éa"), (b"\xe6\x97", 0, "é"), (b"\xf0\x9f\x91", 0, "é"), (b"", 0, "é"),
+        ]:
+            session = Session("é")
+            self.assertEqual(session.type(data), used)
+            self.stands(session, left, len(left))
+
+    def test_what_is_no_character_raises(self):
+        for data in (b"\xff", b"\x80a", b"\xc0\x80", b"\xed\xa0", b"\xed\xa0\x80", b"\xf4\x90\x80\x80", b"\xe6a"):
+            session = Session("é")
+            self.assertRaises(lodvarn.NotUtf8Error, session.type, data)
+            self.assertEqual((session.text, session.record_entries), ("é", 0))
+
+    def test_no_more_is_typed_than_has_room(self):
+        session = Session("ab", limit_bytes=4)
+        self.assertEqual((session.type("cdé".encode()), session.text), (2, "abcd"))
+        self.assertRaises(lodvarn.NoRoomError, session.type, "é".encode())
+        session.backspace()
+        self.assertRaises(lodvarn.NoRoomError, session.type, "éa".encode())
+        self.stands(session, "abc", 3)
+
+    def test_bytes_may_be_cut_anywhere(self):
+        text = "aé漢" + FAMILY
+        for length in range(1, 9):
+            session, left, data = Session(), b"", text.encode()
+            for at in range(0, len(data), length):
+                left += data[at : at + length]
+                left = left[session.type(left) :]
+            self.assertEqual((session.text, left), (text, b""))
+
+    def test_it_joins_and_reports_as_insert_does(self):
+        by_insert, by_type = opened("-", 0), opened("-", 0)
+        for session in (by_insert, by_type):
+            session.watch()
+        for c in "aé1 b漢":
+            by_insert.insert(c)
+        by_type.insert("a")
+        self.assertEqual(by_type.type("é1 b漢".encode()), 8)
+        self.assertEqual(list(by_type.changes()), list(by_insert.changes()))
+        for text, pos in [("aé1-", 3), ("-", 0)]:
+            self.assertTrue(by_type.undo() and by_insert.undo())
+            self.stands(by_type, text, pos)
+            self.stands(by_insert, text, pos)
+
+
+class Finding(Scripts):
+    def test_a_text_is_found(self):
+        session, back = opened("aé aé aé", 3), Direction.BACKWARD
+        for given, wanted in [
+            (("aé", 0), (0, 2)), (("aé", 1), (3, 5)), (("aé", 6), (6, 8)), (("aé", 7), None), (("é", 8), None),
+            (("aé", 8, back), (6, 8)), (("aé", 7, back), (3, 5)), (("aé", 2, back), (0, 2)), (("aé", 1, back), None),
+            (("a",), (3, 4)), (("a", None, back), (0, 1)), (("", 0), None), (("", 8, back), None), (("x", 0), None),
+            (("aé aé aéx", 0), None),
+        ]:
+            self.assertEqual(session.find(*given), wanted, given)
+        self.stands(session, "aé aé aé", 3)
+
+    def test_it_is_found_as_python_finds_it(self):
+        rng, back = random.Random(7), Direction.BACKWARD
+        for _ in range(3000):
+            text, what = ("".join(rng.choices("aé漢\n", [6, 3, 1, 1], k=rng.randint(least, 9))) for least in (0, 1))
+            session = opened(text, rng.randint(0, len(text)))
+            pos, ahead, last = session.pos, text.find(what, session.pos), text.rfind(what, 0, session.pos)
+            self.assertEqual(session.find(what), (ahead, ahead + len(what)) if ahead >= 0 else None)
+            self.assertEqual(session.find(what, pos, back), (last, last + len(what)) if last >= 0 else None)
+            for movement, at, covered in [
+                (Movement.to_match(what), ahead, (pos, ahead)), (Movement.to_match(what, back), last, (last, pos)),
+            ]:
+                self.assertEqual(session.movement_target(movement), at if at >= 0 else None)
+                self.assertEqual(session.movement_range(movement), covered if at not in (-1, pos) else None)
+
+    def test_a_match_is_moved_to_killed_and_copied(self):
+        ahead, back = Movement.to_match("é b"), Movement.to_match("é b", Direction.BACKWARD)
+        for movement, pos, killed in [(ahead, 1, " "), (back, 6, "é b日"), (back, 4, None)]:
+            left = "a é b日" if killed is None else "a é b日".replace(killed, "", 1)
+            at = min(pos, pos - len(killed)) if killed and movement is back else pos
+            for call, wanted in [(Session.copy, killed), (Session.kill, bool(killed)), (Session.delete_by, bool(killed))]:
+                session = opened("a é b日", pos)
+                self.assertEqual(call(session, movement), wanted)
+                self.stands(session, *(("a é b日", pos) if call is Session.copy else (left, at)))
+                self.assertEqual(session.ring, [killed] if killed and call is Session.kill else [])
+            session = opened("a é b日", pos)
+            self.assertEqual((session.move(movement), session.pos), (bool(killed), 2 if killed else pos))
 
 
 class Groups(Scripts):
@@ -319,22 +427,6 @@ class Groups(Scripts):
         self.assertEqual((session.group_level, session.record_entries, session.can_redo, session.ring), (0, 0, False, ["two"]))
         self.assertFalse(session.abandon_group())
 
-    def test_what_was_undone_is_kept(self):
-        session = Session("né")
-        self.assertFalse(session.keep_undone())
-        with session.group():
-            session.paste("日本")
-        session.undo()
-        self.assertTrue(session.keep_undone())
-        self.stands(session, "né", 2)
-        self.assertEqual((session.group_level, session.record_entries, session.can_redo), (0, 6, False))
-        session.insert("!")
-        session.undo(2)
-        self.stands(session, "né日本", 4)
-        session.undo()
-        self.stands(session, "né", 2)
-        self.assertEqual((session.record_entries, session.undo()), (0, False))
-
     def test_edits_keep_what_was_undone(self):
         def type_in_group(session):
             with session.group(reopen=True):
@@ -371,11 +463,11 @@ class Groups(Scripts):
             ("all are ended", lambda it: it.end_all_groups(), 0),
             ("it is abandoned", lambda it: it.abandon_group(), 1),
             ("an undo stays in it", lambda it: (it.insert("b"), it.undo(3)), 1),
-            ("what was undone in it is kept", lambda it: (it.insert("b"), it.undo(), it.keep_undone()), 1),
+            ("an edit keeps what was undone", lambda it: (it.insert("b"), it.undo(), it.insert("c")), 1),
             ("it is forgotten", lambda it: it.truncate(2), 1),
             ("all is begun anew", lambda it: it.restart("x"), 0),
         ]:
-            session = Session("ab")
+            session = Session("ab", keep_undone=True)
             session.begin_group()
             session.insert("-")
             with self.subTest(what=what):
