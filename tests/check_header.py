@@ -5,8 +5,8 @@ What Python calls is declared by the header itself, through cffi.
     python3 tests/check_header.py
 
 - Calls: each is an export of the crate, or of rust/lodvarn-c/src/handles.rs, with the same arguments and result. There
-  are no others.
-- Structs: each has the same fields in the same order as that of the crate.
+  are no others. The functions that make movements are those of movements.rs beside it, with the same kinds.
+- Structs: each has the same fields in the same order as that of the crate, a movement as that of movements.rs.
 - Numbers: each is that of the crate. Those of the enums that calls take all differ. The client uses each, and the name
   that it gives it is the header's.
 
@@ -40,7 +40,6 @@ OTHERWISE = {
     "Movement::WholeLine": "WHOLE_LINE_",
     "Movement::BeginningOfLine": "TO_LINE_START_",
     "Movement::EndOfLine": "TO_LINE_END_",
-    "Movement::ViFirstPrint": "FROM_FIRST_WORD_",
     "Movement::BackwardChar": "CHARS_BACK_",
     "Movement::ForwardChar": "CHARS_FORWARD_",
     "Movement::LineUp": "LINES_UP_",
@@ -51,6 +50,7 @@ OTHERWISE = {
     "Movement::FirstNonBlank": "TO_FIRST_NONBLANK_",
     "Movement::WholeLinesUp": "WHOLE_LINES_UP_",
     "Movement::WholeLinesDown": "WHOLE_LINES_DOWN_",
+    "Some": "TO_MATCH",
     "Ok(false)": "INDENT",
     "Ok(true)": "DEDENT",
 }
@@ -59,6 +59,10 @@ GIVEN = ("lodvarn_answer", "lodvarn_report_kind")
 # What the client need not tell apart: in Python no str is refused for what it encodes to.
 ALIKE = ("NOTHING", "DONE", "DONE_AT_END", "TOO_SMALL", "NOT_UTF8")
 EXPORT = re.compile(r"^(?:export! \{ )?pub fn (lodvarn_\w+)\(([^)]*)\)(?: -> ([*\w ]*\w))?", re.M)
+MADE_BY_HEADER = re.compile(
+    r"^static inline \w+ (lodvarn_\w+)\([^)]*\) \{[^{}]*\blodvarn_movement_\((.*?)\);", re.M | re.S
+)
+MADE = re.compile(r"^    pub fn (\w+)\((.*?)\) -> Movement \{.*?\bnew\((.*?)\)\s*\}", re.M | re.S)
 CRATE_STRUCT = re.compile(r"#\[repr\(C\)\][^{};]*?struct (\w+)(?:<'\w+>)? \{(.*?)^\}", re.M | re.S)
 
 
@@ -92,6 +96,7 @@ def kind_of(kind):
     """A type of the crate, without its path and its lifetime; a struct that C gets, without the C before its name. What
     may be NULL or unset is a pointer to C, and so is what a block is."""
     kind = re.sub(r"\b\w+::|\bC(?=[A-Z][a-z])|(?<=&)\s*'\w+\s*", "", " ".join(kind.split()))
+    kind = re.sub(r"\*(?:const |(mut ))(?=[A-Z])", r"&\1", kind)
     return re.sub(r"\b(?:Option|MaybeUninit)<|>", "", kind).replace("Block", "&mut Handle")
 
 
@@ -124,12 +129,14 @@ def kinds_of(numbers):
     kinds = dict(numbers)
     words, stops = ("BIG", "EMACS", "VI"), ("AT_START", "BEFORE_END", "AFTER_END")
     searches = ("TO", "TO_BEFORE", "BACK_TO", "BACK_TO_AFTER")
-    back, forward, search = (kinds.pop(name) for name in ("WORDS_BACK_", "WORDS_FORWARD_", "SEARCH_"))
+    bases = ("WORDS_BACK_", "WORDS_FORWARD_", "TO_CHAR_", "TO_MATCH_")
+    back, forward, search, match = (kinds.pop(name) for name in bases)
     for name in words + stops + searches:
         kinds.pop(name)
     for i, word in enumerate(words):
         kinds[f"BACKWARD_WORD {word}"] = back + i
         kinds |= {f"FORWARD_WORD {stop} {word}": forward + 3 * i + k for k, stop in enumerate(stops)}
+    kinds |= {"TO_MATCH FORWARD": match, "TO_MATCH BACKWARD": match + 1}
     return kinds | {f"VI_CHAR_SEARCH {name}": search + i for i, name in enumerate(searches)}
 
 
@@ -139,8 +146,19 @@ def numbers_of_crate(source):
     rows = re.findall(r"^ +(\d+) => (.+),$", source, re.M)
     rows += [(number, value) for value, number in re.findall(r"^ +(\w+::\w+) => (\d+),$", source, re.M)]
     for number, value in rows:
-        names = re.findall(r"\w+::\w+|Ok\((?:true|false)\)", value)
+        names = re.findall(r"\w+::\w+|Ok\((?:true|false)\)|Some", value)
         found[" ".join(OTHERWISE.get(it, snake(it.partition("::")[2])) for it in names)] = int(number)
+    return found
+
+
+def movements_of_header(numbers):
+    """The functions of the header that make movements: their arguments, and what makes the movement but for its text."""
+    given = {it.name: ", ".join(f"{one.name}: {in_crate(one.kind)}" for one in it.arguments) for it in header.functions()}
+    found = {}
+    for name, made in MADE_BY_HEADER.findall(header.code()):
+        made = re.sub(r"LODVARN_(\w+)", lambda it: str(numbers[it[1]]), made)
+        made = made.replace("lodvarn_index_", "index").replace("(uint32_t)", "")
+        found[name] = f"({given[name]}) -> {' '.join(made.split())}"
     return found
 
 
@@ -171,9 +189,12 @@ def main():
     used = named_by(read("python/lodvarn/*.py"))
     crate = read("crates/rl_ffi/src/**/*.rt")
     exports = exports_of(crate + read("rust/lodvarn-c/src/handles.rs"))
+    movements = read("rust/lodvarn-c/src/movements.rs")
+    made = {name: f"({given}) -> {' '.join(of.split())}" for name, given, of in MADE.findall(movements)}
     sums = [
         see("a call", {it.name: form_of(it) for it in header.calls()}, exports),
-        see("a struct", {in_crate(name): fields for name, fields in structs.items()}, structs_of_crate(crate)),
+        see("a struct", {in_crate(name): fields for name, fields in structs.items()}, structs_of_crate(crate + movements)),
+        see("a movement", movements_of_header(numbers), made),
         see("a number", kinds_of(numbers), numbers_of_crate(crate)),
         see("the enums that calls take", {"values": len(taken)}, {"values": len(set(taken))}),
         see("Python", named, {name: own for name, own in used.items() if name in named}),

@@ -21,7 +21,7 @@ from typing import NamedTuple
 
 HEADER = Path(__file__).resolve().parent.parent / "include/lodvarn.h"
 COMMENT = re.compile(r"^/\*(.*?)\*/\n", re.M | re.S)
-FUNCTION = re.compile(r"^(static inline )?(\w[\w ]*[ *])(\w+)\(([^)]*)\)(?:;| \{)", re.M)
+FUNCTION = re.compile(r"^(static inline )?(?:LODVARN_CHECK_ )?(\w[\w ]*[ *])(\w+)\(([^)]*)\)(?:;| \{)", re.M)
 STRUCT = re.compile(r"^typedef struct \w+ \{(.*?)^\} (\w+);", re.M | re.S)
 ENUM = re.compile(r"^enum (\w+) \{(.*?)^\};", re.M | re.S)
 NUMBER = re.compile(r"(\w+) = (-?\d+)")

@@ -16,6 +16,5 @@ mod spelling;
 pub use options::{Bound, Options};
 pub use pair::Pair;
 pub use script::{ScriptFault, run_script};
-pub use session::interim::{TypeFault, Typed};
 pub use session::{Command, Fault, Reply, Session};
 pub use settings::Settings;

@@ -18,7 +18,6 @@ mod deletions;
 mod edits;
 pub mod forgetting;
 mod history;
-pub mod interim;
 mod motions;
 mod opening;
 mod replies;
