@@ -23,6 +23,7 @@ HERE = Path(__file__).resolve().parent
 TOP = HERE.parents[1]
 sys.path[:0] = [str(TOP / "python"), str(TOP / "tests")]
 
+import header  # noqa: E402
 import lodvarn  # noqa: E402
 from lodvarn import (  # noqa: E402
     Case, Cell, Cluster, Direction, Mode, Movement, Range, Report, ReportKind, RowCell, Screen, Search, Session, Side,
@@ -213,7 +214,8 @@ class Values(Scripts):
         ]:
             for other in (movement, copy.copy(movement), copy.deepcopy(movement), pickle.loads(pickle.dumps(movement))):
                 gc.collect()  # The text of a movement lives as long as the movement.
-                self.assertEqual((other, hash(other), session.movement_range(other)), (movement, hash(movement), covered))
+                self.assertEqual((other, hash(other)), (movement, hash(movement)))
+                self.assertEqual(session.movement_range(other), covered)
 
     def test_the_ring_and_the_record_are_read(self):
         session = Session("x")
@@ -252,7 +254,8 @@ class Typing(Scripts):
     def test_whole_characters_are_typed(self):
         for data, used, left in [
             ("日本a".encode(), 7, "é日本a"), (bytearray(b"a\x1b\0\n"), 4, "éa\x1b\0\n"), (memoryview(b"a\xff"), 1, "éa"),
-            (b"a\xed\xa0\x80", 1, "éa"), (b"a\xe6\x97", 1, "éa"), (b"\xe6\x97", 0, "é"), (b"\xf0\x9f\x91", 0, "é"), (b"", 0, "é"),
+            (b"a\xed\xa0\x80", 1, "éa"), (b"a\xe6\x97", 1, "éa"), (b"\xe6\x97", 0, "é"), (b"\xf0\x9f\x91", 0, "é"),
+            (b"", 0, "é"),
         ]:
             session = Session("é")
             self.assertEqual(session.type(data), used)
@@ -327,13 +330,14 @@ class Finding(Scripts):
         for movement, pos, killed in [(ahead, 1, " "), (back, 6, "é b日"), (back, 4, None)]:
             left = "a é b日" if killed is None else "a é b日".replace(killed, "", 1)
             at = min(pos, pos - len(killed)) if killed and movement is back else pos
-            for call, wanted in [(Session.copy, killed), (Session.kill, bool(killed)), (Session.delete_by, bool(killed))]:
+            found = bool(killed)
+            for call, wanted in [(Session.copy, killed), (Session.kill, found), (Session.delete_by, found)]:
                 session = opened("a é b日", pos)
                 self.assertEqual(call(session, movement), wanted)
                 self.stands(session, *(("a é b日", pos) if call is Session.copy else (left, at)))
                 self.assertEqual(session.ring, [killed] if killed and call is Session.kill else [])
             session = opened("a é b日", pos)
-            self.assertEqual((session.move(movement), session.pos), (bool(killed), 2 if killed else pos))
+            self.assertEqual((session.move(movement), session.pos), (found, 2 if found else pos))
 
 
 class Groups(Scripts):
@@ -392,7 +396,8 @@ class Groups(Scripts):
         with session.group():
             session.paste("日")
             session.transpose_chars()
-            self.assertEqual((session.undo(9), session.text, session.undo(9), session.group_level), (True, "é", False, 1))
+            self.assertEqual((session.undo(9), session.text, session.undo(9)), (True, "é", False))
+            self.assertEqual(session.group_level, 1)
             session.redo()
         self.assertEqual((session.text, session.undo(), session.text), ("é日", True, "é"))
 
@@ -403,7 +408,8 @@ class Groups(Scripts):
             session.undo()
             session.begin_group()
             end(session)
-            self.assertEqual((session.group_level, session.record_entries, session.redo(), session.text), (0, 0, True, "é"))
+            self.assertEqual((session.group_level, session.record_entries), (0, 0))
+            self.assertEqual((session.redo(), session.text), (True, "é"))
 
     def test_a_group_goes_on(self):
         session = Session("one")
@@ -424,7 +430,8 @@ class Groups(Scripts):
                 session.paste("日本")
             self.assertTrue(session.abandon_group())
         self.stands(session, "né two", 6)
-        self.assertEqual((session.group_level, session.record_entries, session.can_redo, session.ring), (0, 0, False, ["two"]))
+        self.assertEqual((session.group_level, session.record_entries), (0, 0))
+        self.assertEqual((session.can_redo, session.ring), (False, ["two"]))
         self.assertFalse(session.abandon_group())
 
     def test_edits_keep_what_was_undone(self):
@@ -519,9 +526,9 @@ undone replacement 0 12 4 'n' '漢 '
 
 class Saved(Scripts):
     def are_equal(self, one, other):
-        """All that two sessions tell is the same, but for what is called on a change."""
+        """All that two sessions return is the same, but for the reports, which are not saved."""
         for name, it in vars(Session).items():
-            if isinstance(it, property) and name != "on_change":
+            if isinstance(it, property) and name not in ("on_change", "report_count"):
                 self.assertEqual(getattr(one, name), getattr(other, name), name)
         self.assertEqual(one.save(), other.save())
 
@@ -681,54 +688,115 @@ def asked(session):
 
 
 class Faults(Scripts):
-    def refuses(self, fault, session, call, *given, **named):
-        """The call raises the fault, and leaves text, cursor and record."""
+    def refuses(self, fault, session, call, *given, says=".", **named):
+        """The call raises the fault, in words that have this pattern and none of cffi's, and leaves the session."""
         before = (session.text, session.pos, session.record_entries)
         with self.subTest(call=call, given=given, named=named), self.assertRaises(fault) as raised:
             call(*given, **named)
+        said = str(raised.exception)
+        self.assertRegex(said, says)
+        self.assertNotRegex(said, "ctype|cdata|ffi|from_buffer|initializer|descriptor")
         if fault is ValueError:
             self.assertIsInstance(raised.exception, lodvarn.LodvarnError)
         self.assertEqual((session.text, session.pos, session.record_entries), before)
 
-    def test_what_is_refused_raises(self):
-        session = opened("aé", 2, limit_bytes=3)
+    def test_what_fails_raises_and_says_why(self):
+        session, room = opened("aé", 2, limit_bytes=3), "^the text would exceed the limit of 3 bytes$"
         session.kill(START)
         self.refuses(lodvarn.NotReplayingError, session, session.truncate, 0)
         session.yank()
-        for call, given in [
-            (session.insert, ("é",)), (session.paste, ("c", 2)), (session.yank, ()), (session.set_text, (0, "é漢")),
-            (session.insert_at, (2, "x")), (session.replace, (0, 1, "é")), (session.indent, (LINE, 1)),
-            (session.restart, ("éé",)), (setattr, (session, "limit_bytes", 2)),
+        for call, *given in [
+            (session.insert, "é"), (session.type, b"b"), (session.paste, "c", 2), (session.yank,),
+            (session.set_text, 0, "é漢"), (session.insert_at, 2, "x"), (session.replace, 0, 1, "é"),
+            (session.indent, LINE, 1), (session.restart, "éé"), (partial(Session, limit_bytes=3), "éé"),
         ]:
-            self.refuses(lodvarn.NoRoomError, session, call, *given)
-        self.refuses(lodvarn.NoRoomError, session, Session, "éé", limit_bytes=3)
+            self.refuses(lodvarn.NoRoomError, session, call, *given, says=room)
+        self.refuses(lodvarn.NoRoomError, session, setattr, session, "limit_bytes", 2, says="limit of 2 bytes$")
         for given in [(2**63,), (1, 2**63)]:
             self.refuses(lodvarn.NoMemoryError, session, session.watch, *given)
         session.watch()
         self.refuses(lodvarn.IsWatchedError, session, session.watch)
-        for call, given in [
-            (session.set_text, (2, "é")), (session.insert_at, (3, "x")), (session.replace, (2, 1, "x")),
-            (session.cluster_at, (3,)), (session.cluster_before, (3,)), (session.line_at, (3,)),
-            (session.movement_range, (LINE, 3)), (session.movement_target, (START, 3)), (session.slice, (0, 2**64)),
-            (lodvarn.cell, (Screen(9), 2, "é")),
+        for says, call, *given in [
+            ("^index 3 is outside the text, whose length is 2$", session.insert_at, 3, "x"),
+            ("^index -1 is outside", session.cluster_at, -1), ("^index 3 is", session.cluster_before, 3),
+            ("^index 3 is", session.line_at, 3), (f"^index {2**64} is", session.slice, 0, 2**64),
+            ("^index 3 is", session.movement_range, LINE, 3), ("^index 3 is", session.movement_target, START, 3),
+            ("^index 3 is", session.find, "a", 3), ("^index 2 is .* 1$", session.set_text, 2, "é"),
+            ("^index 2 is .* 1$", lodvarn.cell, Screen(9), 2, "é"),
+            ("^the range ends at 1, before its start 2$", session.replace, 2, 1, "x"),
+            ("^the cursor.* would be inside a character$", opened("aé", 1, limit_bytes=9).insert_at, 0, "é"),
         ]:
-            self.refuses(lodvarn.BadIndexError, session, call, *given)
-        for call, given in [
-            (session.insert, ("\ud800",)), (session.undo, (65536,)), (session.move, (Movement.chars_back(65536),)),
-            (session.delete_by, (LINE,)), (session.watch, (0,)), (session.indent, (LINE, 256)),
-            *((lodvarn.cell, (Screen(*it), 0, "")) for it in [(0,), (65536,), (9, 65536), (9, 0, -1)]),
-        ]:
-            self.refuses(lodvarn.NoSuchNumberError, session, call, *given)
-        for call in (session.paste, session.ring_add, session.restart, lodvarn.width):
-            self.refuses(UnicodeEncodeError, session, call, "\ud800")
+            self.refuses(lodvarn.BadIndexError, session, call, *given, says=says)
         self.assertTrue(issubclass(lodvarn.NoMemoryError, MemoryError) and issubclass(lodvarn.ClosedError, ValueError))
+        self.assertFalse(issubclass(lodvarn.BadIndexError, IndexError))
+
+    def test_a_number_out_of_its_range_raises(self):
+        session = Session("aé")
+        for says, call, *given in [
+            ("^n is from 0 to 65535, not 65536$", session.insert, "b", 65536),
+            ("^n .* not -1$", session.insert, "b", -1),
+            ("^n .* not 65536$", session.undo, 65536), ("^n .* not 65536$", Movement.chars_back, 65536),
+            ("^reports is from 1 to .*, not 0$", session.watch, 0),
+            ("^amount is from 0 to 255, not 256$", session.indent, LINE, 256),
+            ("^columns is from 1 to 65535, not 0$", lodvarn.rows, Screen(0), ""),
+            ("^columns .* not 65536$", lodvarn.cell, Screen(65536), 0, ""),
+            ("^prompt .* not 65536$", lodvarn.index_at, Screen(9, 65536), (0, 0), ""),
+            ("^tab .* not -1$", session.row_above, Screen(9, tab=-1)),
+            ("^delete_by.. takes a movement by words", session.delete_by, LINE),
+            ("^a movement to a text has no lines", session.dedent, Movement.to_match("a"), 1),
+            ("^the text of a movement is not empty$", Movement.to_match, ""),
+        ]:
+            self.refuses(lodvarn.NoSuchNumberError, session, call, *given, says=says)
+
+    def test_a_lone_surrogate_is_one_error_everywhere(self):
+        session = Session("ab")
+        for call, *given in [
+            (session.insert, "\ud800"), (session.insert, "\udfff", 0), (Movement.to_char, Search.TO, "\ud800"),
+            (Movement.to_match, "\ud800"), (session.find, "\ud800"), (session.paste, "\ud800"), (Session, "\ud800"),
+            (session.ring_add, "\ud800"), (session.restart, "a\udc00"), (lodvarn.width, "\ud800"),
+            (lodvarn.clusters, "\ud800"),
+        ]:
+            self.refuses(UnicodeEncodeError, session, call, *given, says="surrogates not allowed")
+        self.refuses(lodvarn.NotUtf8Error, session, session.type, "\ud800".encode("utf-8", "surrogatepass"))
+
+    def test_an_argument_of_another_type_raises(self):
+        session = Session("ab")
+        for says, call, *given in [
+            (r"^insert\(\) takes one character, not 'ab'$", session.insert, "ab"),
+            ("^insert.* not ''$", session.insert, ""),
+            (r"^insert\(\) takes one character, not 1$", session.insert, 1), ("integer$", session.insert, "a", "1"),
+            (r"^to_char\(\) takes one character, not 'ab'$", Movement.to_char, Search.TO, "ab"),
+            ("^expected str, not b'ab'$", session.set_text, 0, b"ab"), ("^expected str, not 1$", Session, 1),
+            ("^expected Movement, not 100$", session.move, 100),
+            ("^'str' object cannot be interpreted as an integer$", session.undo, "1"),
+            ("a bytes-like object is required, not 'str'$", session.type, "a"),
+            ("^expected Mode, not 10$", lodvarn.cell, Screen(9, mode=10), 0, ""),
+        ]:
+            self.refuses(TypeError, session, call, *given, says=says)
+        self.refuses(TypeError, session, Session, "ab", 9)
+
+    def test_an_error_has_its_number_and_its_name(self):
+        for error in lodvarn.LodvarnError.__subclasses__():
+            name = re.sub("(?=[A-Z])", "_", error.__name__[: -len("Error")]).upper().replace("BAD_INDEX", "BAD_OFFSET")
+            name = f"LODVARN{name}"
+            for fault in (error("why"), copy.copy(error("why"))):
+                self.assertEqual((fault.name, fault.code, str(fault)), (name, getattr(lib, name), "why"))
+        with self.assertRaises(lodvarn.ClosedError) as raised:
+            len(Session.__new__(Session))
+        self.assertEqual((str(raised.exception), raised.exception.code), ("the session is closed", lib.LODVARN_CLOSED))
 
     def test_an_error_of_a_later_library_raises(self):
-        self.assertRaisesRegex(lodvarn.LodvarnError, "^move: unknown$", lodvarn._seen, lib.py_move, -99)
+        with self.assertRaises(lodvarn.LodvarnError) as raised:
+            lodvarn._seen(lib.py_move, -99)
+        fault = raised.exception
+        self.assertEqual((type(fault), fault.code, fault.name), (lodvarn.LodvarnError, -99, "unknown"))
+        self.assertNotEqual(str(fault), "")
+        self.assertEqual(lodvarn.NoRoomError.code, lib.LODVARN_NO_ROOM)
 
     def test_wrong_arguments_are_refused(self):
         session = Session("ab")
         names = [name for name, it in vars(Session).items() if inspect.isfunction(it) and name[0] != "_"]
+        self.assertLess({"type", "find", "copy", "ring_add"}, {*names})
         calls = [getattr(session, name) for name in names]
         calls += [*MAKERS, *(getattr(lodvarn, name) for name in lodvarn.__all__ if name.islower())]
         calls += [Session, Session.load]
@@ -736,9 +804,6 @@ class Faults(Scripts):
             for name, kind in kinds(call).items():
                 for it, fault in wrong(kind):
                     self.refuses(fault, session, call, **{**right(call), name: it})
-        self.refuses(TypeError, session, session.insert, "ab")
-        self.refuses(TypeError, session, lodvarn.cell, Screen(9, mode=10), 0, "")
-        self.refuses(TypeError, session, Session, "ab", 9)
 
     def test_wrong_options_are_refused(self):
         session = Session("ab")
@@ -1138,18 +1203,35 @@ class Module(unittest.TestCase):
         self.assertEqual(set(lodvarn.__all__), {name for name in public if not name.startswith("_")})
 
     def test_each_call_of_the_header_is_used(self):
-        header, source = (TOP / "include/lodvarn.h").read_text(), Path(lodvarn.__file__).read_text()
-        own = (TOP / "python/session.c").read_text()
-        calls = set(re.findall(r"^(?:int|bool|size_t|uint32_t|void|const char) \*?(lodvarn_\w+)\(", header, re.M))
+        source, own = Path(lodvarn.__file__).read_text(), (TOP / "python/session.c").read_text()
         used = set(re.findall(r"\blib\.(\w+)", source))
         made = {f"lodvarn_{it[3:]}" for it in used if it.startswith("py_")}
-        # A copy is read, as what is covered, and ends a run of kills.
-        left = {"lodvarn_version", "lodvarn_copy"}
-        self.assertEqual(calls - used - made - set(re.findall(r"\blodvarn_\w+", own)), left)
+        left = {it.name for it in header.calls()} - used - made - set(re.findall(r"\blodvarn_\w+", own))
+        self.assertEqual(left, {"lodvarn_text_copy"})  # A str needs no NUL.
+
+    def test_each_call_names_the_errors_of_the_header(self):
+        kinds, seen = {it().name: it.__name__ for it in lodvarn.LodvarnError.__subclasses__()}, 0
+        for call in header.functions():
+            name = {"open": "__init__", "set_pos": "pos", "pos": ""}.get(call.name[8:], call.name[8:])
+            owner = next((it for it in (Session, Movement, lodvarn) if hasattr(it, name)), None)
+            about = getattr(getattr(owner, name), "__doc__", None) if owner else None
+            if not about:
+                continue
+            # Those of a range, in the comment of several calls, are of those that take one.
+            takes_offset = re.search(r"offset|range|pos|from|change", " ".join(it.name for it in call.arguments))
+            listed = " ".join(re.findall(r"Errors(?:[:,]|, only)(.*?)(?:\.(?: |\n|$)|$)", call.comment, re.S))
+            wanted = {kinds.get(f"LODVARN_{it}") for it in re.findall(r"\b[A-Z][A-Z_0-9]+\b", listed)} - {None}
+            wanted -= set() if takes_offset else {"BadIndexError"}
+            raised = set(re.findall(r"\b\w+Error\b", about.partition("Raises")[2])) if "Raises" in about else set()
+            # A call that takes a screen or options may raise it besides.
+            also = {"NoSuchNumberError", "NotUtf8Error"} & raised
+            with self.subTest(name=name):
+                self.assertEqual(raised - also, wanted - also)
+            seen += len(wanted)
+        self.assertGreater(seen, 60)
 
     def test_the_library_has_the_version_of_the_package_or_a_later_one(self):
-        number = lib.lodvarn_version()
-        its, own = [number >> 16, number >> 8 & 255, number & 255], [*map(int, lodvarn.__version__.split("."))]
+        its, own = ([*map(int, it.split("."))] for it in (lodvarn.library_version(), lodvarn.__version__))
         self.assertTrue(its[:2] == own[:2] and its >= own)
         self.assertTrue(sys.modules["lodvarn._lodvarn"].__file__.endswith(".abi3.so"))
 
