@@ -81,10 +81,10 @@ fn type_bytes(session: &mut Session, bytes: &[u8], used: &mut usize) -> Answer
 {
     match session.type_bytes(bytes) {
         Ok(typed) => {
-            if typed.used == 0 {
+            if typed.len == 0 {
                 return Answer::Nothing;
             }
-            *used = typed.used;
+            *used = typed.len;
             placed(typed.at_end)
         }
         Err(TypeFault::NotUtf8) => Answer::NotUtf8,
