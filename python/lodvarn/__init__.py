@@ -186,9 +186,10 @@ def _utf8(text: str) -> tuple[bytes, int]:
     return given, len(given)
 
 
-def _given(data: bytes) -> tuple[Any, int]:
-    """Returns bytes and their length, as the library takes them."""
-    given = ffi.from_buffer(memoryview(data))
+def _bytes(data: bytes) -> tuple[bytes, int]:
+    """Returns the bytes of a bytes-like object and their length, as the library takes them. Others than bytes are
+    copied: cffi would hold the buffer, and the interpreter may crash if it finds both in a cycle, as of an error."""
+    given = data if type(data) is bytes else memoryview(data).tobytes()
     return given, len(given)
 
 
@@ -604,7 +605,7 @@ class Session:
         for untrusted bytes. Raises UnknownFormatError, DamagedError, NoMemoryError.
         """
         session = cls.__new__(cls)
-        session._open(None, lib.py_load, *_given(saved))
+        session._open(None, lib.py_load, *_bytes(saved))
         return session
 
     def save(self) -> bytes:
@@ -740,7 +741,7 @@ class Session:
         NoRoomError, NoMemoryError.
         """
         used = _new(_SIZE)
-        self._do(lib.py_type, *_given(data), used)
+        self._do(lib.py_type, *_bytes(data), used)
         return int(used[0])
 
     def paste(self, text: str, n: int = 1) -> bool:
@@ -1232,7 +1233,7 @@ def library_version() -> str:
 
 def run_script(script: bytes) -> bytes:
     """Returns the output of a script, run in a session of its own. Raises NoMemoryError."""
-    _, out, size = _filled(_CHARS, lib.lodvarn_script, *_given(script))
+    _, out, size = _filled(_CHARS, lib.lodvarn_script, *_bytes(script))
     return bytes(ffi.buffer(out, size))
 
 

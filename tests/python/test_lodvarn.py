@@ -267,6 +267,16 @@ class Typing(Scripts):
             self.assertRaises(lodvarn.NotUtf8Error, session.type, data)
             self.assertEqual((session.text, session.record_entries), ("é", 0))
 
+    def test_an_error_leaves_no_buffer_behind(self):
+        for make in (bytes, bytearray, memoryview):
+            for call in (Session().type, Session.load):
+                data, faults = make(b"\xff"), []
+                with self.assertRaises(ValueError) as raised:
+                    call(data)
+                faults += [raised.exception, faults, data]
+                del data, faults, raised
+                gc.collect()
+
     def test_no_more_is_typed_than_has_room(self):
         session = Session("ab", limit_bytes=4)
         self.assertEqual((session.type("cdé".encode()), session.text), (2, "abcd"))
