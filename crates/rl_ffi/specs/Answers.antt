@@ -7,7 +7,7 @@ use Rattle.rl_session.specs.declared.session.Fault.TheVariants as fault
 use Rattle.rl_session.specs.declared.session.Reply.{Reply}
 use Rattle.rl_session.specs.declared.session.Reply.TheVariants as says
 use Rattle.rl_ffi.specs.declared.answers.Answer.{Answer}
-use Rattle.rl_ffi.specs.declared.answers.Answer.TheVariants.{BadPlace, BadYankSize, Closed, Damaged, Done, DoneAtEnd, IsWatched, NoMemory, NoRoom, NoSuchNumber, NotReplaying, NotUtf8, Nothing, TooSmall, UnknownFormat}
+use Rattle.rl_ffi.specs.declared.answers.Answer.TheVariants.{BadOffset, BadSize, BadYankSize, Closed, Damaged, Done, DoneAtEnd, IsWatched, NoMemory, NoRoom, NoSuchNumber, NotReplaying, NotUtf8, Nothing, TooSmall, UnknownFormat}
 
 -- 0 if there was nothing to do, from 1 on if it is done, and below 0 if it was refused
 abbrev pub number : Answer → ℤ
@@ -15,7 +15,7 @@ number Nothing = pos 0
 number Done = pos 1
 number DoneAtEnd = pos 2
 number NoMemory = negsuc 0
-number BadPlace = negsuc 1
+number BadOffset = negsuc 1
 number BadYankSize = negsuc 2
 number NotReplaying = negsuc 3
 number NoRoom = negsuc 4
@@ -26,6 +26,7 @@ number IsWatched = negsuc 8
 number Closed = negsuc 9
 number UnknownFormat = negsuc 10
 number Damaged = negsuc 11
+number BadSize = negsuc 12
 
 -- the answer of a call that was done, or refused
 abbrev pub merged : Result Answer Answer → Answer
@@ -44,7 +45,7 @@ placed false = Done
 
 abbrev pub of_fault : Fault → Answer
 of_fault fault.NoMemory = NoMemory
-of_fault fault.BadPlace = BadPlace
+of_fault fault.BadPlace = BadOffset
 of_fault fault.BadYankSize = BadYankSize
 of_fault fault.NotReplaying = NotReplaying
 of_fault fault.TooLong = NoRoom

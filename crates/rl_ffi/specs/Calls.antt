@@ -86,9 +86,8 @@ abbrev pub Writes : {A : Type 0} → Option A → Answer → A → A → Type 0
 Writes None n out out' = (n ≡ Nothing) × (out' ≡ out)
 Writes (Some x) n out out' = (n ≡ Done) × (out' ≡ x)
 
--- a text is written to a buffer, with its length, if there is one; of one that does not fit only the length
-abbrev pub WritesText : Option (List ℕ) → Answer → List ℕ × ℕ → List ℕ × ℕ → Type 0
-WritesText None n out out' = (n ≡ Nothing) × (out' ≡ out)
-WritesText (Some text) n out out' =
-    ((length text ≤ length out.0) × (n ≡ Done) × (out' ≡ (put text out.0, length text)))
-    ⊎ ((length out.0 < length text) × (n ≡ TooSmall) × (out' ≡ (out.0, length text)))
+-- values, such as the bytes of a text, are written to a buffer, and how many there are; of those that do not fit only how many
+abbrev pub Fills : {A : Type 0} → List A → Tale (List A × ℕ)
+Fills values n out out' =
+    ((length values ≤ length out.0) × (n ≡ Done) × (out' ≡ (put values out.0, length values)))
+    ⊎ ((length out.0 < length values) × (n ≡ TooSmall) × (out' ≡ (out.0, length values)))

@@ -5,6 +5,7 @@ pub mod Commands
 pub mod KillRing
 pub mod Numbers
 pub mod Opening
+pub mod Reach
 pub mod Reads
 pub mod Reports
 pub mod Saved

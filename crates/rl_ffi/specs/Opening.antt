@@ -8,7 +8,7 @@ use Rattle.rl_session.specs.declared.session.Fault.{Fault}
 use Rattle.rl_session.specs.declared.settings.Settings.{Settings}
 use Rattle.rl_ffi.specs.Answers.{of_fault}
 use Rattle.rl_ffi.specs.Calls.{Effect, Tale, leaves, of_bytes, of_text, refuses, where_named}
-use Rattle.rl_ffi.specs.Numbers.{mode_number, mode_of}
+use Rattle.rl_ffi.specs.Numbers.{mode_number, mode_of, unit_of}
 use Rattle.rl_ffi.specs.declared.answers.Answer.{Answer}
 use Rattle.rl_ffi.specs.declared.answers.Answer.TheVariants.{Done, NoMemory, NoRoom}
 use Rattle.rl_ffi.specs.declared.shapes.COptions.{COptions}
@@ -18,23 +18,24 @@ abbrev pub Opens : State → Tale (Option State)
 Opens s n old new = ((n ≡ Done) × (new ≡ Some s)) ⊎ refuses NoMemory n old new
 
 -- all that C chooses; new kills go after the newest text of the ring
-abbrev pub settings_by : COptions → Result GraphemeClusterMode Answer → Result Settings Answer
-settings_by o (Err why) = Err why
-settings_by o (Ok mode) =
+abbrev pub settings_by : COptions → Result GraphemeClusterMode Answer → Result ℕ Answer → Result Settings Answer
+settings_by o (Err why) prompt = Err why
+settings_by o (Ok mode) (Err why) = Err why
+settings_by o (Ok mode) (Ok prompt) =
     Ok (record {
       limit = o.limit;
       ring_size = o.ring_size;
       new_kill = AfterNewest;
       options = record {
         mode = mode;
-        prompt = o.prompt;
+        prompt = prompt;
         bound = record { entries = o.max_entries; bytes = o.max_bytes; ring_bytes = o.max_ring_bytes };
-        keeps = o.keeps_undone;
+        keeps = o.keep_undone;
       };
     })
 
 abbrev pub settings_of : COptions → Result Settings Answer
-settings_of o = settings_by o (mode_of o.mode)
+settings_of o = settings_by o (mode_of o.mode) (unit_of o.prompt)
 
 -- what making a session gave takes the place of what the handle held, or the answer says why there is none
 abbrev pub made : Result State Fault → Tale (Option State)
@@ -57,14 +58,14 @@ abbrev pub options_shape : ℕ → State → COptions
 options_shape size s =
     record {
       size = size;
-      mode = mode_number s.options.mode;
-      prompt = s.options.prompt;
       limit = s.line.limit;
-      ring_size = s.pair.ring.size;
       max_entries = s.options.bound.entries;
       max_bytes = s.options.bound.bytes;
+      ring_size = s.pair.ring.size;
       max_ring_bytes = s.options.bound.ring_bytes;
-      keeps_undone = s.options.keeps;
+      prompt = s.options.prompt;
+      mode = mode_number s.options.mode;
+      keep_undone = s.options.keeps;
     }
 
 -- a session begins anew, or the answer says why not

@@ -1,18 +1,22 @@
 -- What the calls tell that change nothing.
-use Rattle.std.specs.Prelude.{◌≡◌, ℕ, ◌+◌, ◌-◌, List, [], ◌∷◌, drop, take, reverse, length, slice_range, Option, Some, None, option_map}
+use Rattle.std.specs.Prelude.{◌≡◌, ◌⊎◌, ℕ, ◌+◌, ◌-◌, ◌<◌, ◌≤◌, List, [], ◌∷◌, ◌++◌, drop, take, reverse, length, slice_range, Option, Some, None, option_map, Result}
 use Rattle.std.specs.Str.{IsCharBoundary}
 use Rattle.std.specs.declared.ops.Range.{Range}
 use Rattle.rl_base.specs.Clusters.{clusters}
 use Rattle.rl_base.specs.Lines.{line_number}
+use Rattle.rl_base.specs.Search.{find_text}
 use Rattle.rl_base.specs.Widths.{width}
 use Rattle.rl_base.specs.declared.layout.GraphemeClusterMode.{GraphemeClusterMode}
+use Rattle.rl_base.specs.declared.listeners.Direction.{Direction}
 use Rattle.rl_line.specs.LineRanges.{IsRange}
-use Rattle.rl_line.specs.Ranges.{covered}
-use Rattle.rl_session.specs.Commands.{destination, line_place, with_cursor}
+use Rattle.rl_session.specs.Commands.{line_place, with_cursor}
 use Rattle.rl_session.specs.State.{State}
-use Rattle.rl_ffi.specs.Calls.{Tale, Telling, Writes, told_named, told_where}
-use Rattle.rl_ffi.specs.Numbers.{movement_of}
-use Rattle.rl_ffi.specs.declared.answers.Answer.TheVariants.{BadPlace, Done, Nothing}
+use Rattle.rl_ffi.specs.Buffers.{put}
+use Rattle.rl_ffi.specs.Calls.{Tale, Telling, Writes, of_bytes, told_where, where_named}
+use Rattle.rl_ffi.specs.Numbers.{direction_of}
+use Rattle.rl_ffi.specs.Reach.{Covers, Leads}
+use Rattle.rl_ffi.specs.declared.answers.Answer.{Answer}
+use Rattle.rl_ffi.specs.declared.answers.Answer.TheVariants.{BadOffset, Done, Nothing, TooSmall}
 use Rattle.rl_ffi.specs.declared.shapes.CCluster.{CCluster}
 use Rattle.rl_ffi.specs.declared.shapes.CMovement.{CMovement}
 use Rattle.rl_ffi.specs.declared.shapes.CPosition.{CPosition}
@@ -30,7 +34,7 @@ Lends (Some text) n out out' = (n ≡ Done) × IsViewOf text out'
 
 -- what stands in a range of the text is lent
 abbrev pub TellsSlice : CRange → Telling View
-TellsSlice r s = told_where (IsRange s.line.text r.from r.to) BadPlace (Lends (Some (slice_range s.line.text r.from r.to)))
+TellsSlice r s = told_where (IsRange s.line.text r.from r.to) BadOffset (Lends (Some (slice_range s.line.text r.from r.to)))
 
 abbrev pub range_shape : Range ℕ → CRange
 range_shape r = record { from = r.start; to = r.end }
@@ -39,18 +43,33 @@ range_shape r = record { from = r.start; to = r.end }
 abbrev pub cursor_position : State → CPosition
 cursor_position s = record { line = (line_place s).0; column = (line_place s).1 }
 
+-- the text is written to a buffer with a NUL after it, and its length; if that does not fit, only its length
+abbrev pub CopiesText : List ℕ → Tale (List ℕ × ℕ)
+CopiesText text n out out' =
+    ((length text < length out.0) × (n ≡ Done) × (out' ≡ (put (text ++ 0 ∷ []) out.0, length text)))
+    ⊎ ((length out.0 ≤ length text) × (n ≡ TooSmall) × (out' ≡ (out.0, length text)))
+
 -- what is told with the cursor at a place, which must be a boundary
 abbrev pub TellsFrom : {A : Type 0} → ℕ → Telling A → Telling A
-TellsFrom place Does s = told_where (IsCharBoundary s.line.text place) BadPlace (Does (with_cursor place s))
+TellsFrom place Does s = told_where (IsCharBoundary s.line.text place) BadOffset (Does (with_cursor place s))
 
--- what a movement covers from a place, where it leads from there, and the line in which a place stands. The last is no
--- abbreviation, so that it is one fact for the search, as are the clusters at and before a place
-abbrev pub TellsCoversFrom : ℕ → CMovement → Telling CRange
-TellsCoversFrom place movement = told_named (movement_of movement) (λ m. TellsFrom place (λ (s : State). Writes (option_map range_shape (covered s.line m))))
+-- where a text is found from a place
+abbrev pub TellsFound : ℕ → List ℕ → ℕ → Telling CRange
+TellsFound place text direction s = of_bytes text (where_named (direction_of direction) (λ (d : Direction).
+    TellsFrom place (λ (s : State). Writes (option_map range_shape (find_text s.line.text s.line.cursor text d))) s))
 
-abbrev pub LeadsFrom : ℕ → CMovement → Telling ℕ
-LeadsFrom place movement = told_named (movement_of movement) (λ m. TellsFrom place (λ (s : State). Writes (destination s m)))
+-- what a movement covers from a place, and where it leads from there
+abbrev pub TellsCovers : ℕ → CMovement → Telling CRange
+TellsCovers place movement s n out out' =
+    (range : Result (Option (Range ℕ)) Answer) × Covers place movement s range
+    × where_named range (λ (r : Option (Range ℕ)). Writes (option_map range_shape r)) n out out'
 
+abbrev pub TellsTarget : ℕ → CMovement → Telling ℕ
+TellsTarget place movement s n out out' =
+    (target : Result (Option ℕ) Answer) × Leads place movement s target × where_named target Writes n out out'
+
+-- the line in which a place stands. No abbreviation, so that it is one fact for the search, as are the clusters at and before a
+-- place
 unfoldable pub TellsLineAt : ℕ → Telling ℕ
 TellsLineAt place = TellsFrom place (λ (s : State). Writes (Some (line_number s.line.text s.line.cursor)))
 
@@ -66,8 +85,8 @@ last_cluster mode place (cluster ∷ more) = Some (record { from = place - lengt
 
 -- the first cluster of a text from a place on; the last one before a place
 unfoldable pub TellsCluster : List ℕ → GraphemeClusterMode → ℕ → Tale CCluster
-TellsCluster text mode place = told_where (IsCharBoundary text place) BadPlace (Writes (first_cluster mode place (clusters (drop place text))))
+TellsCluster text mode place = told_where (IsCharBoundary text place) BadOffset (Writes (first_cluster mode place (clusters (drop place text))))
 
 unfoldable pub TellsClusterBefore : List ℕ → GraphemeClusterMode → ℕ → Tale CCluster
 TellsClusterBefore text mode place =
-    told_where (IsCharBoundary text place) BadPlace (Writes (last_cluster mode place (reverse (clusters (take place text)))))
+    told_where (IsCharBoundary text place) BadOffset (Writes (last_cluster mode place (reverse (clusters (take place text)))))

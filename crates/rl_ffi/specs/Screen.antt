@@ -1,5 +1,5 @@
 -- What the calls tell that lay a text out on a screen.
-use Rattle.std.specs.Prelude.{◌⊎◌, ℕ, ◌^◌, ◌-◌, ◌==◌, zero, suc, List, Option, Some, None, Result, Ok, Err, if◌then◌else◌}
+use Rattle.std.specs.Prelude.{◌⊎◌, ℕ, ◌^◌, ◌-◌, ◌==◌, ◌&&◌, nat_le, nat_lt, Bool, List, Option, Some, None, Result, Ok, Err, if◌then◌else◌}
 use Rattle.std.specs.Str.{IsCharBoundary}
 use Rattle.rl_base.specs.Lines.{line_number}
 use Rattle.rl_base.specs.Screen.{cell, place_at, rows}
@@ -7,23 +7,26 @@ use Rattle.rl_base.specs.declared.layout.GraphemeClusterMode.{GraphemeClusterMod
 use Rattle.rl_base.specs.declared.screen.Screen.{Screen}
 use Rattle.rl_line.specs.Rows.{kept_column, own_cell}
 use Rattle.rl_line.specs.Rows as motion
-use Rattle.rl_ffi.specs.Calls.{Tale, Telling, Writes, of_bytes, refuses, where_named}
+use Rattle.rl_ffi.specs.Calls.{Fills, Tale, Telling, Writes, of_bytes, refuses, where_named}
 use Rattle.rl_ffi.specs.Numbers.{count_of, mode_of}
-use Rattle.rl_ffi.specs.Texts.{Fills}
 use Rattle.rl_ffi.specs.declared.answers.Answer.{Answer}
-use Rattle.rl_ffi.specs.declared.answers.Answer.TheVariants.{BadPlace, NoSuchNumber}
+use Rattle.rl_ffi.specs.declared.answers.Answer.TheVariants.{BadOffset, NoSuchNumber}
 use Rattle.rl_ffi.specs.declared.shapes.CPosition.{CPosition}
 use Rattle.rl_ffi.specs.declared.shapes.CScreen.{CScreen}
 
--- a screen has a column at least
-abbrev pub screen_by : ℕ → Result GraphemeClusterMode Answer → CScreen → Result Screen Answer
-screen_by zero mode s = Err NoSuchNumber
-screen_by (suc k) (Err why) s = Err why
-screen_by (suc k) (Ok mode) s =
-    Ok (record { mode = mode; columns = suc k; prompt = s.prompt; continuation = s.continuation; tab = s.tab; controls = s.controls })
+-- a screen has a column at least, and its numbers of columns have 16 bits
+abbrev pub has_units : CScreen → Bool
+has_units s =
+    nat_lt 0 s.columns && nat_le s.columns 65535 && nat_le s.prompt 65535 && nat_le s.continuation 65535 && nat_le s.tab 65535
+    && nat_le s.controls 65535
+
+abbrev pub screen_by : Result GraphemeClusterMode Answer → CScreen → Result Screen Answer
+screen_by (Err why) s = Err why
+screen_by (Ok mode) s =
+    Ok (record { mode = mode; columns = s.columns; prompt = s.prompt; continuation = s.continuation; tab = s.tab; controls = s.controls })
 
 abbrev pub screen_of : CScreen → Result Screen Answer
-screen_of s = screen_by s.columns (mode_of s.mode) s
+screen_of s = if has_units s then screen_by (mode_of s.mode) s else Err NoSuchNumber
 
 abbrev pub position : ℕ × ℕ → CPosition
 position at = record { line = at.0; column = at.1 }
@@ -32,7 +35,7 @@ position at = record { line = at.0; column = at.1 }
 abbrev pub TellsCell : CScreen → ℕ → List ℕ → Tale CPosition
 TellsCell screen place text = where_named (screen_of screen) (λ (on : Screen). of_bytes text (λ n out out'.
     (IsCharBoundary text place × Writes (Some (position (cell on text place))) n out out')
-    ⊎ ((¬ (IsCharBoundary text place)) × refuses BadPlace n out out')))
+    ⊎ ((¬ (IsCharBoundary text place)) × refuses BadOffset n out out')))
 
 -- the place of a cell
 abbrev pub TellsPlace : CScreen → CPosition → List ℕ → Tale ℕ

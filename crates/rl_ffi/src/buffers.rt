@@ -1,7 +1,7 @@
 //! Writing a text to a buffer of C.
-ghost use Rattle.std.specs.Prelude.{◌≡◌, ◌≤◌, Some, length};
+ghost use Rattle.std.specs.Prelude.{◌≡◌, ◌≤◌, length};
 ghost use Rattle.rl_ffi.specs.Buffers.{put};
-ghost use Rattle.rl_ffi.specs.Calls.{WritesText};
+ghost use Rattle.rl_ffi.specs.Calls.{Fills};
 
 use crate::answers::Answer;
 
@@ -15,7 +15,7 @@ pub(crate) fn put(text: &[u8], out: &mut [u8])
 
 // Writes the text and its length; of one that does not fit only the length.
 pub(crate) fn hand_out(text: &[u8], out: &mut [u8], len: &mut usize) -> Answer
-    ensures { WritesText (Some text.now) result (out.old, len.old) (out.new, len.new) }
+    ensures { Fills text.now result (out.old, len.old) (out.new, len.new) }
 {
     *len = text.len();
     if text.len() > out.len() {

@@ -1,9 +1,11 @@
 //! The calls that ask a session for a command, which obeys its options.
 ghost use Rattle.rl_session.specs.declared.session.Command.{Command};
 ghost use Rattle.rl_ffi.specs.Answers.{told, told_place};
-ghost use Rattle.rl_ffi.specs.Calls.{Through, of_named};
-ghost use Rattle.rl_ffi.specs.Commands.{deletes_by, insertion_of, paste_of, performs, performs_text, performs_with, performs_with_as, replacement_of, update_of};
-ghost use Rattle.rl_ffi.specs.Numbers.{case_of, char_of, count_of, dedents_of, movement_of};
+ghost use Rattle.rl_ffi.specs.Calls.{Through, ThroughOut, of_named};
+ghost use Rattle.rl_ffi.specs.Commands.{deletes, deletes_by, ends_kills, insertion_of, moves, paste_of, performs, performs_text, performs_with, performs_with_as, replacement_of, types, update_of};
+ghost use Rattle.rl_ffi.specs.Numbers.{amount_of, case_of, char_of, count_of, dedents_of, movement_of};
+ghost use Rattle.rl_ffi.specs.Reach.{of_reach};
+ghost use Rattle.rl_ffi.specs.declared.reach.Reach.TheVariants.{To};
 
 use crate::answers::{
     Answer, answered, done, handed_out, inserted, inserted_there, marked, of_fault, placed,
@@ -46,7 +48,7 @@ fn move_to(session: &mut Session, found: Option<usize>) -> Answer
     }
 }
 
-#[tactic(auto, unfolding(crate::specs::Commands::performs_as))]
+#[tactic(auto, unfolding(crate::specs::Reach::of_reach, crate::specs::Commands::performs_as))]
 fn move_by(session: &mut Session, movement: CMovement) -> Answer
     ensures { of_reach movement moves session.old result session.new }
 {
@@ -77,7 +79,9 @@ pub fn lodvarn_insert(s: &mut Handle, c: u32, n: usize) -> i32
     of!(s, session, x = char_of(c), k = count_of(n) => insert(session, x, k))
 }
 
+#[tactic(auto, unfolding(crate::specs::Commands::types))]
 fn type_bytes(session: &mut Session, bytes: &[u8], used: &mut usize) -> Answer
+    ensures { types bytes.now session.old result session.new used.old used.new }
 {
     match session.type_bytes(bytes) {
         Ok(typed) => {
@@ -93,6 +97,7 @@ fn type_bytes(session: &mut Session, bytes: &[u8], used: &mut usize) -> Answer
 }
 
 pub fn lodvarn_type(s: &mut Handle, bytes: &[u8], used: &mut usize) -> i32
+    ensures { ThroughOut (types bytes.now) s.old result s.new used.old used.new }
 {
     of!(s, session => type_bytes(session, bytes, used))
 }
@@ -155,6 +160,7 @@ fn delete_to(session: &mut Session, found: Option<usize>) -> Answer
     }
 }
 
+#[tactic(auto, unfolding(crate::specs::Reach::of_reach))]
 fn delete_reached(session: &mut Session, movement: CMovement) -> Answer
     ensures { of_reach movement deletes session.old result session.new }
 {

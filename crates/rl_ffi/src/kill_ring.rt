@@ -1,14 +1,17 @@
 //! The calls that kill, yank and copy.
-ghost use Rattle.std.specs.Prelude.{◌≡◌};
+ghost use Rattle.std.specs.Prelude.{◌≡◌, IfSome, option_map};
 ghost use Rattle.rl_base.specs.KillRing.{cleared};
-ghost use Rattle.rl_line.specs.Deletions.{copied};
+ghost use Rattle.rl_line.specs.LineRanges.{IsRange};
+ghost use Rattle.rl_line.specs.Ranges.{text_in};
 ghost use Rattle.rl_session.specs.State.{State, with_ring};
 ghost use Rattle.rl_session.specs.declared.session.Command.{Command};
 ghost use Rattle.rl_ffi.specs.Answers.{told};
 ghost use Rattle.rl_ffi.specs.Calls.{Through, ThroughOut, becomes, of_named};
 ghost use Rattle.rl_ffi.specs.Commands.{performs, performs_text, performs_with, performs_with_as};
-ghost use Rattle.rl_ffi.specs.KillRing.{copies, ends_kills, hands_out, pops};
-ghost use Rattle.rl_ffi.specs.Numbers.{count_of, direction_of, movement_of};
+ghost use Rattle.rl_ffi.specs.KillRing.{copies, hands_out, kills, pops};
+ghost use Rattle.rl_ffi.specs.Numbers.{count_of, direction_of};
+ghost use Rattle.rl_ffi.specs.Reach.{of_reach};
+ghost use Rattle.rl_ffi.specs.declared.reach.Reach.TheVariants.{To};
 
 use crate::answers::{Answer, answered, done, inserted, truth};
 use crate::buffers::put;
@@ -35,7 +38,7 @@ fn kill_to(session: &mut Session, found: Option<usize>) -> Answer
     answered(session.kill_range(pos, at, Direction::Forward))
 }
 
-#[tactic(auto, unfolding(crate::specs::Commands::performs_as))]
+#[tactic(auto, unfolding(crate::specs::Reach::of_reach, crate::specs::Commands::performs_as))]
 fn kill(session: &mut Session, movement: CMovement) -> Answer
     ensures { of_reach movement kills session.old result session.new }
 {

@@ -1,6 +1,5 @@
 //! What a movement of C reaches in a session: it is one of the core, or it leads to a text that is searched.
-ghost use Rattle.std.specs.Prelude.{◌≡◌, ◌≤◌, IfOk, IfSome};
-ghost use Rattle.std.specs.Str.{IsCharBoundary};
+ghost use Rattle.std.specs.Prelude.{◌≡◌, IfOk, IfSome};
 ghost use Rattle.rl_line.specs.LineRanges.{IsRange};
 ghost use Rattle.rl_ffi.specs.Reach.{Covers, Reaches, direction_by, is_in_text, spanned};
 
@@ -53,7 +52,7 @@ pub(crate) fn reach_of(session: &Session, from: usize, movement: CMovement) -> R
 
 // What lies between an offset and where a text was found, if there is anything.
 pub(crate) fn span(from: usize, found: Option<usize>) -> Option<Range<usize>>
-    ensures { result ≡ spanned from found }
+    ensures value { result ≡ spanned from found }
 {
     let at = found?;
     if at < from {
@@ -66,6 +65,7 @@ pub(crate) fn span(from: usize, found: Option<usize>) -> Option<Range<usize>>
 }
 
 // What a movement covers from an offset.
+#[tactic(auto, unfolding(crate::specs::Reach::Covers))]
 pub(crate) fn covers(session: &mut Session, from: usize, movement: CMovement) -> Result<Option<Range<usize>>, Answer>
     ensures asked { Covers from movement session.old result }
     ensures range { IfOk result (λ found. IfSome found (λ r. IsRange session.old.line.text r.start r.end)) }

@@ -8,7 +8,8 @@ ghost use Rattle.rl_line.specs.Record.{is_saved};
 ghost use Rattle.rl_line.specs.Units.{has_change, last_of, level, redo_of};
 ghost use Rattle.rl_session.specs.State.{State};
 ghost use Rattle.rl_ffi.specs.Calls.{Finds, Tells, Writes};
-ghost use Rattle.rl_ffi.specs.Reads.{LeadsFrom, Lends, TellsCluster, TellsClusterBefore, TellsCoversFrom, TellsLineAt, TellsSlice, cursor_position, range_shape};
+ghost use Rattle.rl_ffi.specs.Reach.{Leads};
+ghost use Rattle.rl_ffi.specs.Reads.{CopiesText, Lends, TellsCluster, TellsClusterBefore, TellsCovers, TellsFound, TellsLineAt, TellsSlice, TellsTarget, cursor_position, range_shape};
 
 use crate::answers::Answer;
 use crate::buffers::put;
@@ -184,7 +185,7 @@ pub fn lodvarn_cursor_position(s: &mut Handle, at: &mut CPosition) -> i32
 }
 
 pub fn lodvarn_movement_range(s: &mut Handle, from: usize, movement: CMovement, range: &mut CRange) -> i32
-    ensures { Tells (TellsCoversFrom from movement) s.old result s.new range.old range.new }
+    ensures { Tells (TellsCovers from movement) s.old result s.new range.old range.new }
 {
     of!(s, session => match covers(session, from, movement) {
         Ok(found) => write_range(found, range),
@@ -206,6 +207,7 @@ fn write_place(found: Option<usize>, place: &mut usize) -> Answer
 }
 
 // Where a movement leads from an offset.
+#[tactic(auto, unfolding(crate::specs::Reach::Leads))]
 fn leads(session: &mut Session, from: usize, movement: CMovement) -> Result<Option<usize>, Answer>
     ensures asked { Leads from movement session.old result }
     ensures kept { session.new ≡ session.old }
@@ -220,7 +222,7 @@ fn leads(session: &mut Session, from: usize, movement: CMovement) -> Result<Opti
 }
 
 pub fn lodvarn_movement_target(s: &mut Handle, from: usize, movement: CMovement, to: &mut usize) -> i32
-    ensures { Tells (LeadsFrom from movement) s.old result s.new to.old to.new }
+    ensures { Tells (TellsTarget from movement) s.old result s.new to.old to.new }
 {
     of!(s, session => match leads(session, from, movement) {
         Ok(found) => write_place(found, to),

@@ -1,9 +1,9 @@
 //! The calls that tell what changed in a session's text.
 ghost use Rattle.std.specs.Prelude.{None};
-ghost use Rattle.rl_base.specs.Watch.{next_note, waiting_count};
+ghost use Rattle.rl_base.specs.Watch.{waiting_count};
 ghost use Rattle.rl_session.specs.State.{State, with_watch};
-ghost use Rattle.rl_ffi.specs.Calls.{Finds, Tells, Through, ThroughOut, becomes};
-ghost use Rattle.rl_ffi.specs.Reports.{Forgets, TakesChange, TellsNote, TellsReport, Watches};
+ghost use Rattle.rl_ffi.specs.Calls.{Finds, Through, ThroughOut, becomes};
+ghost use Rattle.rl_ffi.specs.Reports.{TakesChange, TakesReport, TellsReport, Watches};
 
 use crate::answers::{Answer, of_watch_fault};
 use crate::handle::{Handle, of};
@@ -78,10 +78,10 @@ fn write_report(found: Option<Report>, texts: &str, report: &mut CReport) -> Ans
 
 /// Removes the oldest report and writes it, as `lodvarn_take_report` says.
 pub fn rl_take_report(s: &mut Handle, report: &mut CReport) -> i32
+    ensures { ThroughOut TakesReport s.old result s.new report.old report.new }
 {
     of!(s, session => {
-        let answer = write_report(session.watch().next_report(), session.watch().next_texts(), report);
-        session.forget_report();
-        answer
+        let found = session.take_report();
+        write_report(found, session.watch().taken_texts(), report)
     })
 }

@@ -1,5 +1,4 @@
 //! Saving a session, and opening one that was saved.
-ghost use Rattle.std.specs.Prelude.{◌≡◌};
 ghost use Rattle.rl_ffi.specs.Calls.{Answers, Tells};
 ghost use Rattle.rl_ffi.specs.Saved.{OpensSaved, Saves};
 

@@ -1,5 +1,6 @@
 //! The calls that lay a text out on a screen.
-ghost use Rattle.std.specs.Prelude.{◌≡◌};
+ghost use Rattle.std.specs.Prelude.{◌≡◌, ◌<◌, ◌≤◌, length, None, IfSome};
+ghost use Rattle.rl_base.specs.Screen.{rows};
 ghost use Rattle.rl_line.specs.Rows.{Above, Below};
 ghost use Rattle.rl_ffi.specs.Answers.{merged};
 ghost use Rattle.rl_ffi.specs.Calls.{Answers, Tells, Writes};
@@ -64,12 +65,12 @@ pub fn lodvarn_offset_at(screen: &CScreen, at: CPosition, text: &[u8], place: &m
     merged(find_place(screen, at, text, place)).number()
 }
 
-// How many rows a text has, if they do not fit. It has at most one more than bytes.
+// How many rows a text has, if they do not fit. It has at most two more than bytes.
 fn too_many(screen: &Screen, text: &str, room: usize) -> Option<usize>
     ensures some { IfSome result (λ n. (n ≡ length (rows screen.now text.now)) × (room < n)) }
     ensures none { result ≡ None → length (rows screen.now text.now) ≤ room }
 {
-    if room > text.len() {
+    if room > text.len() + 1 {
         return None;
     }
     let needed = screen.rows(text, &mut []);

@@ -1,12 +1,11 @@
 //! The calls that need no session.
-ghost use Rattle.std.specs.Prelude.{◌≡◌, ℕ, List, length, Some, IfOk, IfErr};
+ghost use Rattle.std.specs.Prelude.{◌≡◌, ◌<◌, ◌≤◌, length, None, IfOk, IfErr, IfSome};
 ghost use Rattle.std.specs.Str.{IsUtf8};
 ghost use Rattle.rl_base.specs.Clusters.{clusters};
 ghost use Rattle.rl_base.specs.Screen.{filled};
-ghost use Rattle.rl_ffi.specs.Answers.{merged, number};
-ghost use Rattle.rl_ffi.specs.Buffers.{written};
+ghost use Rattle.rl_ffi.specs.Answers.{merged};
 ghost use Rattle.rl_ffi.specs.Calls.{Answers};
-ghost use Rattle.rl_ffi.specs.Texts.{Printed, TellsClusters, TellsFirst, TellsLast, TellsMoved, TellsWidth, measured, version};
+ghost use Rattle.rl_ffi.specs.Texts.{Prints, TellsClusters, TellsFirst, TellsLast, TellsMoved, TellsWidth, measured, version};
 ghost use Rattle.rl_ffi.specs.declared.answers.Answer.TheVariants.{NotUtf8};
 
 use crate::answers::{Answer, Outcome, merged};
@@ -30,7 +29,7 @@ pub(crate) fn text_of(bytes: &[u8]) -> Result<&str, Answer>
 }
 
 pub fn lodvarn_script(alloc: Global, script: &[u8], out: &mut [u8], printed: &mut usize) -> i32
-    ensures { (whole : List ℕ) × Printed script.now result whole × (out.new ≡ written whole out.old) × (printed.new ≡ length whole) }
+    ensures { Answers (Prints script.now) result (out.old, printed.old) (out.new, printed.new) }
 {
     let mut reader = script;
     let mut whole = Vec::new(alloc);

@@ -94,6 +94,7 @@ fn until(typed: Typed, fault: Option<TypeFault>) -> Result<Typed, TypeFault>
 }
 
 // The longest front that is UTF-8, and what is wrong with the bytes after it.
+#[tactic(auto, using(crate::proofs::Sessions::TypingLemmas::whole_front, crate::proofs::Sessions::TypingLemmas::whole_faultless))]
 fn whole_text(bytes: &[u8]) -> (&str, Option<TypeFault>)
     ensures text { result.0.now ≡ take (utf8_valid_len bytes.now) bytes.now }
     ensures fault { result.1 ≡ fault_after bytes.now }
@@ -118,6 +119,7 @@ fn fault_of(error_len: Option<usize>) -> Option<TypeFault>
 }
 
 /// Typing is a run of performed commands: so the laws of these (`performing`) hold of it.
+#[tactic(auto, using(crate::proofs::Sessions::TypingLemmas::typing_calls))]
 pub fn typing_is_performed()
     ensures { (bytes : List ℕ) (old new : State) (result : Result Typed TypeFault) → TypesBytes bytes old result new → Calls old new }
 {}
