@@ -267,15 +267,20 @@ class Typing(Scripts):
             self.assertRaises(lodvarn.NotUtf8Error, session.type, data)
             self.assertEqual((session.text, session.record_entries), ("é", 0))
 
-    def test_an_error_leaves_no_buffer_behind(self):
-        for make in (bytes, bytearray, memoryview):
-            for call in (Session().type, Session.load):
-                data, faults = make(b"\xff"), []
-                with self.assertRaises(ValueError) as raised:
-                    call(data)
-                faults += [raised.exception, faults, data]
-                del data, faults, raised
+    def test_an_error_in_a_cycle_holds_no_buffer(self):
+        def fail(call, data):
+            """Leaves an error that leads to itself, and to the frames that have the data."""
+            try:
+                call(data)
+            except ValueError as fault:
+                itself = fault
+            return itself is None
+
+        for call, kind in product((Session().type, Session.load), (bytes, bytearray, memoryview)):
+            self.assertFalse(fail(call, kind(b"\xff")))
+            with mock.patch.object(sys, "unraisablehook") as told:
                 gc.collect()
+            self.assertEqual(told.mock_calls, [])
 
     def test_no_more_is_typed_than_has_room(self):
         session = Session("ab", limit_bytes=4)
