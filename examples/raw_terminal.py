@@ -1,6 +1,5 @@
 """Standard input as a terminal whose keys come one by one, for the programs in the folders beside this file."""
 
-import codecs
 import os
 import re
 import select
@@ -8,22 +7,20 @@ import signal
 import sys
 import termios
 import tty
-import unicodedata
 from typing import Any, Callable, Iterator
 
-ESC, RETURN, BACKSPACE = "\x1b", "\r", "\x7f"
-# A key is a character, or what an arrow or a function key sends.
-KEY = re.compile(r"\x1b[\[O][ -?]*[@-~]|.", re.S)
+from lodvarn import NotUtf8Error, Session
+
+ESC, RETURN, BACKSPACE = b"\x1b", b"\r", b"\x7f"
+# A key is what an arrow or a function key sends, or one byte: a control character, or the first byte of a text.
+KEY = re.compile(rb"\x1b[\[O][ -?]*[@-~]|.", re.S)
+# A text without control characters.
+TEXT = re.compile(rb"(?:[^\x00-\x1f\x7f\xc2]|\xc2(?![\x80-\x9f]))+")
 
 
-def control(letter: str) -> str:
+def control(letter: str) -> bytes:
     """What a letter sends with Control."""
-    return chr(ord(letter) & 31)
-
-
-def is_text(key: str) -> bool:
-    """Whether a key is a character that may stand in a text."""
-    return len(key) == 1 and unicodedata.category(key) not in ("Cc", "Cs")
+    return bytes([ord(letter) & 31])
 
 
 class RawTerminal:
@@ -31,11 +28,12 @@ class RawTerminal:
 
     def __init__(self, has_screen: bool = False) -> None:
         self.has_screen = has_screen
-        self.decoder = codecs.getincrementaldecoder("utf-8")("replace")
+        self.left = b""  # What was read and is no key yet.
+        self.is_cut = False  # Whether that is the start of a character.
 
     def __enter__(self) -> "RawTerminal":
         signal.signal(signal.SIGTERM, lambda number, _: sys.exit(128 + number))  # So that the `with` ends.
-        signal.signal(signal.SIGWINCH, lambda *_: None)  # It ends a wait, as all signals do that are heard.
+        signal.signal(signal.SIGWINCH, lambda *_: None)  # It ends a wait, as each signal with a handler does.
         self.woken, waking = os.pipe2(os.O_NONBLOCK)
         signal.set_wakeup_fd(waking)
         self.modes = termios.tcgetattr(0)
@@ -47,14 +45,30 @@ class RawTerminal:
         print("\x1b[?1049l" if self.has_screen else "\r\n", end="", flush=True)
         termios.tcsetattr(0, termios.TCSADRAIN, self.modes)
 
-    def keys(self, draw: Callable[[], None]) -> Iterator[str]:
-        """The keys up to the end of input. It draws when it has to wait, once for all that came together."""
+    def keys(self, draw: Callable[[], None]) -> Iterator[bytes]:
+        """The keys up to the end of input. It draws when it has to wait, once for all that was sent together."""
         while True:
-            draw()
-            ready, _, _ = select.select([0, self.woken], [], [])
-            if self.woken in ready:
-                os.read(self.woken, 4096)
-            elif came := os.read(0, 4096):
-                yield from KEY.findall(self.decoder.decode(came))
-            else:
-                return
+            if not self.left or self.is_cut:
+                draw()
+                ready, _, _ = select.select([0, self.woken], [], [])
+                if self.woken in ready:
+                    os.read(self.woken, 4096)
+                    continue
+                if not (data := os.read(0, 4096)):
+                    return
+                self.left, self.is_cut = self.left + data, False
+            if found := KEY.match(self.left):
+                self.left = self.left[found.end() :]
+                yield found[0]
+
+    def type(self, session: Session, key: bytes) -> bool:
+        """Types a key into a session, with the text that follows it. Returns False if it is no text."""
+        data = key + self.left
+        try:
+            used = session.type(text[0]) if (text := TEXT.match(data)) else 0
+        except NotUtf8Error:
+            return False
+        if not text or (not used and text.end() < len(data)):
+            return False
+        self.left, self.is_cut = data[used:], not used
+        return True

@@ -89,7 +89,7 @@ def write_source(header, file):
     """Writes the C of the module, which wraps what the header and session.c declare."""
     from cffi import FFI
 
-    code = NO_CODE.sub("", header.read_text() + SOURCE.read_text())
+    code = NO_CODE.sub("", header.read_text() + SOURCE.read_text()).replace("LODVARN_CHECK_ ", "")
     functions = [(result, name, " ".join(given.split())) for result, name, given in FUNCTION.findall(code)]
     own = {name for _, name, _ in functions if not name.startswith("lodvarn")}
     calls = [it for it in functions if re.match(r"lodvarn \*s\b", it[2])]

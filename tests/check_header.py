@@ -56,8 +56,8 @@ OTHERWISE = {
 }
 # The enums that no call takes.
 GIVEN = ("lodvarn_answer", "lodvarn_report_kind")
-# What the client need not tell apart: in Python no str is refused for what it encodes to.
-ALIKE = ("NOTHING", "DONE", "DONE_AT_END", "TOO_SMALL", "NOT_UTF8")
+# What the client need not tell apart: Python is built with the library of the same header, whose structures it has.
+ALIKE = ("NOTHING", "DONE", "DONE_AT_END", "TOO_SMALL", "BAD_SIZE")
 EXPORT = re.compile(r"^(?:export! \{ )?pub fn (lodvarn_\w+)\(([^)]*)\)(?: -> ([*\w ]*\w))?", re.M)
 MADE_BY_HEADER = re.compile(
     r"^static inline \w+ (lodvarn_\w+)\([^)]*\) \{[^{}]*\blodvarn_movement_\((.*?)\);", re.M | re.S

@@ -29,6 +29,8 @@ OTHER_UNDO = re.compile(
     rb"^(?:(?:update|tchars|twords|case|indent|dedent|yankpop)\b.*\n(?:.*\n){0,2}|begin\n(?:(?!end|abandon).*\n)*)undo",
     re.M,
 )
+# What no call does.
+NO_CALL = re.compile(rb"^(?:keepundone$|(?:move|kill|copy|(?:in|de)dent \d+) first$)", re.M)
 # What stands in a text of C as it is. Two question marks and what comes after them may mean another character there.
 PLAIN = set(range(32, 127)) - set(b'"\\?')
 

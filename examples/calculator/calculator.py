@@ -8,8 +8,8 @@ import os
 from typing import Callable, Dict
 
 from arithmetic import LIMIT, evaluate
-from lodvarn import Movement, NoRoomError, Screen, Session, Stop, Word, cell, place_at, width
-from raw_terminal import BACKSPACE, ESC, RETURN, RawTerminal, control, is_text
+from lodvarn import Movement, NoRoomError, Screen, Session, Stop, Word, cell, index_at, width
+from raw_terminal import BACKSPACE, ESC, RETURN, RawTerminal, control
 
 PROMPT = "> "
 AHEAD = 8  # The columns from the cursor to the right edge, in a row that slides.
@@ -19,16 +19,16 @@ LEFT, RIGHT = Movement.chars_back(), Movement.chars_forward()
 WORD_LEFT, WORD_RIGHT = Movement.words_back(Word.EMACS), Movement.words_forward(Word.EMACS, Stop.AFTER_END)
 # What keys do: moves, kills, other calls, and steps to an older or a newer line. Arrows, Home and End begin with ESC [.
 MOVES = {
-    control("a"): START, "\x1b[H": START, "\x1b[1~": START, control("e"): END, "\x1b[F": END, "\x1b[4~": END,
-    control("b"): LEFT, "\x1b[D": LEFT, control("f"): RIGHT, "\x1b[C": RIGHT,
-    ESC + "b": WORD_LEFT, ESC + "f": WORD_RIGHT,
+    control("a"): START, b"\x1b[H": START, b"\x1b[1~": START, control("e"): END, b"\x1b[F": END, b"\x1b[4~": END,
+    control("b"): LEFT, b"\x1b[D": LEFT, control("f"): RIGHT, b"\x1b[C": RIGHT,
+    ESC + b"b": WORD_LEFT, ESC + b"f": WORD_RIGHT,
 }
-KILLS = {control("k"): END, control("u"): START, control("w"): Movement.words_back(Word.BIG), ESC + "d": WORD_RIGHT}
-CALLS: Dict[str, Callable[[Session], bool]] = {
-    control("d"): Session.delete, BACKSPACE: Session.backspace, control("_"): Session.undo, ESC + "_": Session.redo,
-    control("y"): Session.yank, ESC + "y": Session.yank_pop,
+KILLS = {control("k"): END, control("u"): START, control("w"): Movement.words_back(Word.BIG), ESC + b"d": WORD_RIGHT}
+CALLS: Dict[bytes, Callable[[Session], bool]] = {
+    control("d"): Session.delete, BACKSPACE: Session.backspace, control("_"): Session.undo, ESC + b"_": Session.redo,
+    control("y"): Session.yank, ESC + b"y": Session.yank_pop,
 }
-STEPS = {control("p"): -1, "\x1b[A": -1, control("n"): 1, "\x1b[B": 1}
+STEPS = {control("p"): -1, b"\x1b[A": -1, control("n"): 1, b"\x1b[B": 1}
 
 
 class Calculator:
@@ -36,6 +36,7 @@ class Calculator:
 
     def __init__(self, terminal: RawTerminal) -> None:
         self.session = Session(limit_bytes=LIMIT)
+        self.terminal = terminal
         self.keys = terminal.keys(self.draw)
         self.lines = [""]  # The lines of before and, last, the one that is typed now.
         self.shown = 0  # Which of them the session has.
@@ -44,7 +45,7 @@ class Calculator:
         """Does what the keys say, up to C-d on an empty line."""
         for key in self.keys:
             if key == ESC:
-                key += next(self.keys, "")  # With Alt a key sends ESC, and then what it sends alone.
+                key += next(self.keys, b"")  # With Alt a key sends ESC, and then what it sends alone.
             if key == control("d") and not self.session.text:
                 return
             try:
@@ -54,8 +55,8 @@ class Calculator:
             if not done:
                 print("\a", end="")
 
-    def press(self, key: str) -> bool:
-        """Does what a key says, or types the character that it is. Returns whether there was anything to do."""
+    def press(self, key: bytes) -> bool:
+        """Does what a key says, or types the text that it begins. Returns whether there was anything to do."""
         if key in MOVES:
             return self.session.move(MOVES[key])
         if key in KILLS:
@@ -64,11 +65,11 @@ class Calculator:
             return CALLS[key](self.session)
         if key in STEPS:
             return self.show(self.shown + STEPS[key])
-        if key in (RETURN, "\n"):
+        if key in (RETURN, b"\n"):
             return self.enter()
         if key == control("c"):
             return self.begin_line()
-        return is_text(key) and self.session.insert(key)
+        return self.terminal.type(self.session, key)
 
     def show(self, number: int) -> bool:
         """Shows another line. The session begins anew with it, so that no undo leads out of it."""
@@ -101,7 +102,7 @@ class Calculator:
         """Draws one row, which the terminal cuts at its right edge. It slides to keep the cursor before that."""
         columns = os.get_terminal_size(1).columns or 80
         _, cursor = cell(ENDLESS, self.session.pos, self.session.text)
-        first = place_at(ENDLESS, (0, max(cursor + AHEAD - columns, 0)), self.session.before)
+        first = index_at(ENDLESS, (0, max(cursor + AHEAD - columns, 0)), self.session.before)
         row = PROMPT + self.session.slice(first, len(self.session))
         column = len(PROMPT) + width(self.session.slice(first, self.session.pos))
         print(f"\r\x1b[?7l{row}\x1b[K\x1b[?7h\r\x1b[{column}C", end="", flush=True)

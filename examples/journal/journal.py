@@ -13,7 +13,7 @@ from typing import Callable, Dict, Tuple
 
 from lodvarn import Movement, Report, Session, Word
 
-# A place, how many bytes went from there, and how many came. These follow, and then the sum of all.
+# An offset, and how many bytes were removed and inserted there. These follow, and then the sum of all.
 NUMBERS, SUM = struct.Struct("<QQQ"), struct.Struct("<I")
 
 
@@ -21,11 +21,11 @@ def recover(records: bytes) -> Tuple[str, int]:
     """The text of the records up to one that is cut or damaged, and how many bytes the whole ones have."""
     text, whole = bytearray(), 0
     while len(records) - whole >= NUMBERS.size:
-        at, went, came = NUMBERS.unpack_from(records, whole)
-        end = whole + NUMBERS.size + came
-        if records[end : end + SUM.size] != SUM.pack(zlib.crc32(records[whole:end])) or at + went > len(text):
+        at, removed, inserted = NUMBERS.unpack_from(records, whole)
+        end = whole + NUMBERS.size + inserted
+        if records[end : end + SUM.size] != SUM.pack(zlib.crc32(records[whole:end])) or at + removed > len(text):
             break
-        text[at : at + went] = records[end - came : end]
+        text[at : at + removed] = records[end - inserted : end]
         whole = end + SUM.size
     return text.decode(), whole
 
@@ -44,14 +44,14 @@ class Journal:
         self.session.on_change = self.append
 
     def append(self, report: Report) -> None:
-        """Appends a change. What finds no room, as on a full disk, waits for the next change."""
+        """Appends a change. What can't be written, as to a full disk, waits for the next change."""
         start, end, new = report.at, report.at + report.old_len, report.new_text
-        if new is None:  # It is folded, and what came stands in the present text.
+        if new is None:  # It is folded, and its new text is in the present text.
             new = self.session.slice(start, start + report.new_len)
-        before, went, came = (it.encode() for it in (self.text[:start], self.text[start:end], new))
+        before, removed, inserted = (it.encode() for it in (self.text[:start], self.text[start:end], new))
         self.text = self.text[:start] + new + self.text[end:]
-        if went or came:  # Else a kill begins or ends.
-            record = NUMBERS.pack(len(before), len(went), len(came)) + came
+        if removed or inserted:  # Else a kill begins or ends.
+            record = NUMBERS.pack(len(before), len(removed), len(inserted)) + inserted
             self.waiting += record + SUM.pack(zlib.crc32(record))
             self.waiting = self.waiting[self.file.write(self.waiting) :]
 

@@ -1,6 +1,7 @@
 """What the package for Python makes of the library: the worked scripts by its calls, and what it has of its own."""
 
 import copy
+import gc
 import hashlib
 import inspect
 import pickle
@@ -22,9 +23,11 @@ HERE = Path(__file__).resolve().parent
 TOP = HERE.parents[1]
 sys.path[:0] = [str(TOP / "python"), str(TOP / "tests")]
 
+import header  # noqa: E402
 import lodvarn  # noqa: E402
 from lodvarn import (  # noqa: E402
-    Case, Direction, Mode, Movement, Report, ReportKind, Screen, Search, Session, Side, Splice, Stop, Word, lib,
+    Case, Cell, Cluster, Direction, Mode, Movement, Range, Report, ReportKind, RowCell, Screen, Search, Session, Side,
+    Splice, Stop, Word, lib,
 )
 from read_saved import read  # noqa: E402
 from rows import TESTS, has_calls, rows_of  # noqa: E402
@@ -36,7 +39,7 @@ MAKERS = [it for name, it in inspect.getmembers(Movement, inspect.ismethod) if n
 
 
 def opened(text, pos, **options):
-    """A session with the cursor at that place."""
+    """A session with the cursor at that index."""
     session = Session(text, **options)
     session.pos = pos
     return session
@@ -60,8 +63,8 @@ class Rows(unittest.TestCase):
                     self.assertEqual("".join(map(typed.run, script.decode().splitlines())), wanted.decode())
 
 
-class Places(Scripts):
-    def test_the_text_is_parted_at_the_cursor(self):
+class Indexes(Scripts):
+    def test_a_text_has_parts_before_and_after_the_cursor(self):
         for text, pos, before, after, shown in [
             ("", 0, "", "", "<Session ''|''>"),
             ("aé漢\n", 3, "aé漢", "\n", "<Session 'aé漢'|'\\n'>"),
@@ -74,41 +77,48 @@ class Places(Scripts):
                 self.assertEqual((session.pos, len(session), bool(session), str(session)), (pos, len(text), True, text))
                 self.assertEqual((repr(session), session.slice(0, pos)), (shown, before))
 
-    def test_each_place_is_an_index(self):
+    def test_each_offset_has_an_index(self):
         rng = random.Random(7)
         for length in [0, 1, 15, 16, 119, 120, 121, 239, 240, 241, 480, 700]:
             text = "".join(rng.choice("aé漢\U0001f468") for _ in range(length))
             given, session = text.encode(), Session(text)
             for index in range(length + 1):
-                place = len(text[:index].encode())
-                self.assertEqual(lib.place_in(given, len(given), index), place)
-                self.assertEqual(lib.chars_in(given, place), index)
+                offset = len(text[:index].encode())
+                self.assertEqual(lib.offset_in(given, len(given), index), offset)
+                self.assertEqual(lib.chars_in(given, offset), index)
                 session.pos = index
                 self.assertEqual((session.pos, session.before), (index, text[:index]))
             for none in (-1, length + 1, 2**63 - 1, 2**64):
-                self.assertRaises(lodvarn.BadPlaceError, setattr, session, "pos", none)
+                self.assertRaises(lodvarn.BadIndexError, setattr, session, "pos", none)
 
-    def test_what_is_told_are_indexes(self):
+    def test_what_is_returned_are_indexes(self):
         text = "é日 cd\n  é漢x\n" + FAMILY
         session = opened(text, 10)
-        for told, wanted in [
-            (session.covers(LINE), "  é漢x"),
-            (session.covers(BACK), "é漢"),
-            (session.find_line(0), "é日 cd"),
-            (session.find_line(2), FAMILY),
-            (session.find_line(3), None),
-            (session.covers(Movement.search_for(Search.TO, "z")), None),
-            (session.covers(LINE, 1), "é日 cd"),
-            (session.covers(BACK, 2), "é日"),
-            (session.covers(BACK, 0), None),
+        for found, wanted in [
+            (session.movement_range(LINE), "  é漢x"),
+            (session.movement_range(BACK), "é漢"),
+            (session.line_range(0), "é日 cd"),
+            (session.line_range(2), FAMILY),
+            (session.line_range(3), None),
+            (session.movement_range(Movement.to_char(Search.TO, "z")), None),
+            (session.movement_range(LINE, 1), "é日 cd"),
+            (session.movement_range(BACK, 2), "é日"),
+            (session.movement_range(BACK, 0), None),
         ]:
-            self.assertEqual(told and text[slice(*told)], wanted)
-        self.assertEqual([session.destination(BACK, it) for it in (None, 2, 0, 6)], [8, 0, None, 3])
-        self.assertIsNone(session.destination(LINE))
-        self.assertEqual([session.cluster_at(it) for it in (1, 12, 17)], [(1, 2, 2), (12, 17, 2), None])
-        self.assertEqual([session.cluster_before(it) for it in (2, 17, 0)], [(1, 2, 2), (12, 17, 2), None])
+            self.assertEqual(found and text[slice(*found)], wanted)
+        self.assertEqual([session.movement_target(BACK, it) for it in (None, 2, 0, 6)], [8, 0, None, 3])
+        self.assertIsNone(session.movement_target(LINE))
+        wide = [Cluster("日", 1, 2, 2), Cluster(FAMILY, 12, 17, 2), None]
+        self.assertEqual([session.cluster_at(it) for it in (1, 12, 17)], wide)
+        self.assertEqual([session.cluster_before(it) for it in (2, 17, 0)], wide)
         self.assertEqual([session.line_at(it) for it in (0, 5, 6, 11, 12, 17)], [0, 0, 1, 1, 2, 2])
-        self.assertEqual((session.find_cursor(), session.count_lines(), session.pos), ((1, 5), 3, 10))
+        self.assertEqual((session.cursor_position, session.line_count, session.pos), (Cell(1, 5), 3, 10))
+        for found, wanted in [
+            (session.line_range(0), Range(0, 5)), (session.movement_range(BACK), Range(8, 10)),
+            (session.find("é"), None), (session.cursor_position, Cell(1, 5)),
+            (session.row_above(Screen(9)), RowCell(4, 5)), (session.cluster_at(1), Cluster("日", 1, 2, 2)),
+        ]:
+            self.assertEqual((type(found), found), (type(wanted), wanted))
 
     def test_what_is_given_are_indexes(self):
         session = opened("é日c", 1)
@@ -124,18 +134,19 @@ class Places(Scripts):
             self.stands(session, text, pos)
         self.assertEqual(session.ring, ["éé漢"])
 
-    def test_a_place_has_a_cell_and_a_cell_a_place(self):
-        for screen, text, place, wanted in [
+    def test_an_index_has_a_cell_and_a_cell_an_index(self):
+        for screen, text, index, wanted in [
             (Screen(10, 2), "ab\ncd", 5, (1, 2)),
             (Screen(4), "abc漢", 4, (1, 2)),
             (Screen(10, 2), FAMILY, 5, (0, 4)),
             (Screen(10, 2, mode=Mode.WC_WIDTH), FAMILY, 5, (0, 8)),
             (Screen(columns=20, prompt=3, tab=4), "漢\n\t", 3, (1, 4)),
+            (Screen(20, 3, 1, 0, 2), "漢\n\x01", 3, (1, 3)),
         ]:
             with self.subTest(text=text, screen=screen):
-                self.assertEqual(lodvarn.cell(screen, place, text), wanted)
-                self.assertEqual(lodvarn.place_at(screen, wanted, text), place)
-        self.assertEqual(lodvarn.place_at(Screen(10), (2**64 - 1, 0), "漢字"), 2)
+                self.assertEqual(lodvarn.cell(screen, index, text), Cell(*wanted))
+                self.assertEqual(lodvarn.index_at(screen, wanted, text), index)
+        self.assertEqual(lodvarn.index_at(Screen(10), (2**64 - 1, 0), "漢字"), 2)
 
     def test_motions_by_rows_keep_the_column(self):
         with Session("漢字é\n\na") as session:
@@ -147,17 +158,23 @@ class Places(Scripts):
             self.assertIsNone(session.row_below(screen, n=9))
 
     def test_a_text_is_cut_into_clusters(self):
-        self.assertEqual(lodvarn.clusters("e\u0301漢x"), [("e\u0301", 1), ("漢", 2), ("x", 1)])
-        self.assertEqual(lodvarn.clusters("\x01\n", Mode.WC_WIDTH), [("\x01", 0), ("\n", 0)])
+        self.assertEqual(
+            lodvarn.clusters("e\u0301漢x"),
+            [Cluster("e\u0301", 0, 2, 1), Cluster("漢", 2, 3, 2), Cluster("x", 3, 4, 1)],
+        )
+        counted = [Cluster("\x01", 0, 1, 0), Cluster("\n", 1, 2, 0)]
+        self.assertEqual(lodvarn.clusters("\x01\n", Mode.WC_WIDTH), counted)
         self.assertEqual(lodvarn.clusters(""), [])
         shorter = type("Shorter", (str,), {"__len__": lambda it: 0})
-        self.assertEqual(lodvarn.clusters(shorter("ab")), [("a", 1), ("b", 1)])
+        for text in ("ab" * 999, shorter("ab" * 999)):
+            self.assertEqual([it[:2] for it in lodvarn.clusters(text)][-2:], [("a", 1996), ("b", 1997)])
 
-    def test_rows_begin_at_places(self):
+    def test_rows_begin_at_indexes(self):
         for screen, text, wanted in [
             (Screen(10), "", [0]),
             (Screen(3, 2), "é漢字\nb", [0, 1, 2, 4]),
             (Screen(4, continuation=3, controls=2), "\x01\x01\nab", [0, 2, 4]),
+            (Screen(1), "é" * 999, [*range(1000)]),
         ]:
             with self.subTest(text=text, screen=screen):
                 self.assertEqual(lodvarn.rows(screen, text), wanted)
@@ -171,11 +188,11 @@ class Places(Scripts):
 class Values(Scripts):
     def test_options_are_read_and_set(self):
         given = {"limit_bytes": None, "ring_size": 60, "mode": Mode.UNICODE, "prompt": 0}
-        given.update(max_entries=None, max_bytes=None, max_ring_bytes=None, keeps_undone=False)
+        given.update(max_entries=None, max_bytes=None, max_ring_bytes=None, keep_undone=False)
         session = Session()
         self.assertEqual({name: getattr(session, name) for name in given}, given)
         chosen = [("limit_bytes", 0), ("ring_size", 1), ("mode", Mode.NO_ZWJ), ("prompt", 3), ("max_entries", 0)]
-        chosen += [("max_bytes", 1), ("max_ring_bytes", 2), ("keeps_undone", True)]
+        chosen += [("max_bytes", 1), ("max_ring_bytes", 2), ("keep_undone", True)]
         for name, value in chosen:
             given[name] = value
             setattr(session, name, value)
@@ -186,39 +203,44 @@ class Values(Scripts):
 
     def test_a_movement_is_a_value(self):
         self.assertEqual({BACK, Movement.words_back(Word.EMACS, 1)}, {BACK})
-        self.assertNotEqual(Movement.search_for(Search.TO, "a"), Movement.search_for(Search.TO, "b"))
+        self.assertNotEqual(Movement.to_char(Search.TO, "a"), Movement.to_char(Search.TO, "b"))
         self.assertNotEqual(BACK, Movement.words_back(Word.VI))
         self.assertRaises(AttributeError, setattr, LINE, "name", "")
         self.assertIn("'words_back'", repr(BACK))
-        session = opened("xé é", 2)
-        for movement in (LINE, BACK, Movement.search_for(Search.TO, "é")):
-            for other in (copy.copy(movement), copy.deepcopy(movement), pickle.loads(pickle.dumps(movement))):
-                self.assertEqual((other, session.covers(other)), (movement, session.covers(movement)))
+        session, matches = opened("xé é日", 2), [Movement.to_match(it) for it in ("é日", "日")]
+        self.assertEqual(len({*matches, Movement.to_match("é日"), Movement.to_match("日", Direction.BACKWARD)}), 3)
+        for movement, covered in [(LINE, (0, 5)), (BACK, (0, 2)), (Movement.to_char(Search.TO, "é"), (2, 4))] + [
+            (it, (2, at)) for it, at in zip(matches, (3, 4))
+        ]:
+            for other in (movement, copy.copy(movement), copy.deepcopy(movement), pickle.loads(pickle.dumps(movement))):
+                gc.collect()  # The text of a movement lives as long as the movement.
+                self.assertEqual((other, hash(other)), (movement, hash(movement)))
+                self.assertEqual(session.movement_range(other), covered)
 
     def test_the_ring_and_the_record_are_read(self):
         session = Session("x")
         self.assertEqual((session.ring, session.ring_count, session.ring_text()), ([], 0, None))
         for text in ["a", "", "é"]:
-            session.keep(text)
+            session.ring_add(text)
         self.assertEqual((session.ring, session.ring_count), (["é", "", "a"], 3))
         self.assertEqual([session.ring_text(it) for it in (0, 1, 2, 3, 2**64 - 1)], ["é", "", "a", None, None])
         self.assertTrue(session.yank() and session.last_was_yank and session.can_undo and not session.can_redo)
         session.undo()
         self.assertEqual((session.last_was_yank, session.can_undo, session.can_redo), (False, False, True))
         session.begin_group()
-        self.assertEqual((session.entries, session.level), (1, 1))
+        self.assertEqual((session.record_entries, session.group_level), (1, 1))
 
     def test_a_kill_goes_after_the_newest(self):
         session = Session()
         for text in "abcd":
-            session.keep(text)
+            session.ring_add(text)
         self.assertTrue(session.yank() and session.yank_pop() and session.yank_pop())
-        session.keep("e")
+        session.ring_add("e")
         self.assertEqual(session.ring, list("edcba"))
         for it in (Session.load(session.save()), session):
             it.ring_size = 2
             self.assertEqual(it.ring, list("ed"))
-        session.clear_ring()
+        session.ring_clear()
         self.assertEqual((session.ring, session.yank(), session.text), ([], False, "b"))
 
     def test_scripts(self):
@@ -228,12 +250,117 @@ class Values(Scripts):
         self.assertEqual(lodvarn.run_script(b"text \n" + b"ins 1 a\n" * 99).count(b"\n"), 100)
 
 
+class Typing(Scripts):
+    def test_whole_characters_are_typed(self):
+        for data, used, left in [
+            ("日本a".encode(), 7, "é日本a"), (bytearray(b"a\x1b\0\n"), 4, "éa\x1b\0\n"), (memoryview(b"a\xff"), 1, "éa"),
+            (b"a\xed\xa0\x80", 1, "éa"), (b"a\xe6\x97", 1, "éa"), (b"\xe6\x97", 0, "é"), (b"\xf0\x9f\x91", 0, "é"),
+            (b"", 0, "é"),
+        ]:
+            session = Session("é")
+            self.assertEqual(session.type(data), used)
+            self.stands(session, left, len(left))
+
+    def test_what_is_no_character_raises(self):
+        for data in (b"\xff", b"\x80a", b"\xc0\x80", b"\xed\xa0", b"\xed\xa0\x80", b"\xf4\x90\x80\x80", b"\xe6a"):
+            session = Session("é")
+            self.assertRaises(lodvarn.NotUtf8Error, session.type, data)
+            self.assertEqual((session.text, session.record_entries), ("é", 0))
+
+    def test_an_error_in_a_cycle_holds_no_buffer(self):
+        def fail(call, data):
+            """Leaves an error that leads to itself, and to the frames that have the data."""
+            try:
+                call(data)
+            except ValueError as fault:
+                itself = fault
+            return itself is None
+
+        for call, kind in product((Session().type, Session.load), (bytes, bytearray, memoryview)):
+            self.assertFalse(fail(call, kind(b"\xff")))
+            with mock.patch.object(sys, "unraisablehook") as told:
+                gc.collect()
+            self.assertEqual(told.mock_calls, [])
+
+    def test_no_more_is_typed_than_has_room(self):
+        session = Session("ab", limit_bytes=4)
+        self.assertEqual((session.type("cdé".encode()), session.text), (2, "abcd"))
+        self.assertRaises(lodvarn.NoRoomError, session.type, "é".encode())
+        session.backspace()
+        self.assertRaises(lodvarn.NoRoomError, session.type, "éa".encode())
+        self.stands(session, "abc", 3)
+
+    def test_bytes_may_be_cut_anywhere(self):
+        text = "aé漢" + FAMILY
+        for length in range(1, 9):
+            session, left, data = Session(), b"", text.encode()
+            for at in range(0, len(data), length):
+                left += data[at : at + length]
+                left = left[session.type(left) :]
+            self.assertEqual((session.text, left), (text, b""))
+
+    def test_it_joins_and_reports_as_insert_does(self):
+        by_insert, by_type = opened("-", 0), opened("-", 0)
+        for session in (by_insert, by_type):
+            session.watch()
+        for c in "aé1 b漢":
+            by_insert.insert(c)
+        by_type.insert("a")
+        self.assertEqual(by_type.type("é1 b漢".encode()), 8)
+        self.assertEqual(list(by_type.changes()), list(by_insert.changes()))
+        for text, pos in [("aé1-", 3), ("-", 0)]:
+            self.assertTrue(by_type.undo() and by_insert.undo())
+            self.stands(by_type, text, pos)
+            self.stands(by_insert, text, pos)
+
+
+class Finding(Scripts):
+    def test_a_text_is_found(self):
+        session, back = opened("aé aé aé", 3), Direction.BACKWARD
+        for given, wanted in [
+            (("aé", 0), (0, 2)), (("aé", 1), (3, 5)), (("aé", 6), (6, 8)), (("aé", 7), None), (("é", 8), None),
+            (("aé", 8, back), (6, 8)), (("aé", 7, back), (3, 5)), (("aé", 2, back), (0, 2)), (("aé", 1, back), None),
+            (("a",), (3, 4)), (("a", None, back), (0, 1)), (("", 0), None), (("", 8, back), None), (("x", 0), None),
+            (("aé aé aéx", 0), None),
+        ]:
+            self.assertEqual(session.find(*given), wanted, given)
+        self.stands(session, "aé aé aé", 3)
+
+    def test_it_is_found_as_python_finds_it(self):
+        rng, back = random.Random(7), Direction.BACKWARD
+        for _ in range(3000):
+            text, what = ("".join(rng.choices("aé漢\n", [6, 3, 1, 1], k=rng.randint(least, 9))) for least in (0, 1))
+            session = opened(text, rng.randint(0, len(text)))
+            pos, ahead, last = session.pos, text.find(what, session.pos), text.rfind(what, 0, session.pos)
+            self.assertEqual(session.find(what), (ahead, ahead + len(what)) if ahead >= 0 else None)
+            self.assertEqual(session.find(what, pos, back), (last, last + len(what)) if last >= 0 else None)
+            for movement, at, covered in [
+                (Movement.to_match(what), ahead, (pos, ahead)), (Movement.to_match(what, back), last, (last, pos)),
+            ]:
+                self.assertEqual(session.movement_target(movement), at if at >= 0 else None)
+                self.assertEqual(session.movement_range(movement), covered if at not in (-1, pos) else None)
+
+    def test_a_match_is_moved_to_killed_and_copied(self):
+        ahead, back = Movement.to_match("é b"), Movement.to_match("é b", Direction.BACKWARD)
+        for movement, pos, killed in [(ahead, 1, " "), (back, 6, "é b日"), (back, 4, None)]:
+            left = "a é b日" if killed is None else "a é b日".replace(killed, "", 1)
+            at = min(pos, pos - len(killed)) if killed and movement is back else pos
+            found = bool(killed)
+            for call, wanted in [(Session.copy, killed), (Session.kill, found), (Session.delete_by, found)]:
+                session = opened("a é b日", pos)
+                self.assertEqual(call(session, movement), wanted)
+                self.stands(session, *(("a é b日", pos) if call is Session.copy else (left, at)))
+                self.assertEqual(session.ring, [killed] if killed and call is Session.kill else [])
+            session = opened("a é b日", pos)
+            self.assertEqual((session.move(movement), session.pos), (found, 2 if found else pos))
+
+
 class Groups(Scripts):
     def test_a_saved_text_comes_back(self):
         session = Session()
         self.assertFalse(session.is_saved)
         session.insert("é")
-        session.set_saved()
+        session.mark_saved()
         self.assertTrue(session.is_saved)
         session.insert("b")
         self.assertFalse(session.is_saved)
@@ -250,10 +377,10 @@ class Groups(Scripts):
                 session.insert("a")
                 with session.group():
                     session.paste("b c")
-                    self.assertEqual(session.level, 2)
+                    self.assertEqual(session.group_level, 2)
                     if fault:
                         raise fault
-            self.assertEqual((session.text, session.level, session.undo(), session.text), ("ab c", 0, True, ""))
+            self.assertEqual((session.text, session.group_level, session.undo(), session.text), ("ab c", 0, True, ""))
 
     def test_an_edit_is_one_undo(self):
         def yank_and_pop(session):
@@ -270,13 +397,13 @@ class Groups(Scripts):
         ]:
             session = Session("né two")
             for text in ("日", "x", "yz"):
-                session.keep(text)
+                session.ring_add(text)
             session.pos = 3
             edit(session)
             with self.subTest(left=left):
                 self.assertEqual((session.text, session.undo()), (left, True))
                 self.stands(session, "né two", 3)
-                self.assertEqual((session.entries, session.redo(), session.text), (0, True, left))
+                self.assertEqual((session.record_entries, session.redo(), session.text), (0, True, left))
 
     def test_an_undo_stays_in_its_group(self):
         session = Session("")
@@ -284,7 +411,8 @@ class Groups(Scripts):
         with session.group():
             session.paste("日")
             session.transpose_chars()
-            self.assertEqual((session.undo(9), session.text, session.undo(9), session.level), (True, "é", False, 1))
+            self.assertEqual((session.undo(9), session.text, session.undo(9)), (True, "é", False))
+            self.assertEqual(session.group_level, 1)
             session.redo()
         self.assertEqual((session.text, session.undo(), session.text), ("é日", True, "é"))
 
@@ -295,7 +423,8 @@ class Groups(Scripts):
             session.undo()
             session.begin_group()
             end(session)
-            self.assertEqual((session.level, session.entries, session.redo(), session.text), (0, 0, True, "é"))
+            self.assertEqual((session.group_level, session.record_entries), (0, 0))
+            self.assertEqual((session.redo(), session.text), (True, "é"))
 
     def test_a_group_goes_on(self):
         session = Session("one")
@@ -306,7 +435,7 @@ class Groups(Scripts):
         session.insert("-")
         with session.group(reopen=True):
             session.insert("c")
-        self.assertEqual((session.text, session.undo(), session.text, session.level), ("one-c", True, "one-", 0))
+        self.assertEqual((session.text, session.undo(), session.text, session.group_level), ("one-c", True, "one-", 0))
 
     def test_a_group_is_abandoned(self):
         session = Session("né two")
@@ -316,24 +445,9 @@ class Groups(Scripts):
                 session.paste("日本")
             self.assertTrue(session.abandon_group())
         self.stands(session, "né two", 6)
-        self.assertEqual((session.level, session.entries, session.can_redo, session.ring), (0, 0, False, ["two"]))
+        self.assertEqual((session.group_level, session.record_entries), (0, 0))
+        self.assertEqual((session.can_redo, session.ring), (False, ["two"]))
         self.assertFalse(session.abandon_group())
-
-    def test_what_was_undone_is_kept(self):
-        session = Session("né")
-        self.assertFalse(session.keep_undone())
-        with session.group():
-            session.paste("日本")
-        session.undo()
-        self.assertTrue(session.keep_undone())
-        self.stands(session, "né", 2)
-        self.assertEqual((session.level, session.entries, session.can_redo), (0, 6, False))
-        session.insert("!")
-        session.undo(2)
-        self.stands(session, "né日本", 4)
-        session.undo()
-        self.stands(session, "né", 2)
-        self.assertEqual((session.entries, session.undo()), (0, False))
 
     def test_edits_keep_what_was_undone(self):
         def type_in_group(session):
@@ -347,14 +461,14 @@ class Groups(Scripts):
             (lambda it: it.undo(), [], []),
         ]:
             for keeps, wanted in [(True, kept), (False, forgotten)]:
-                session, seen = Session(keeps_undone=keeps), []
+                session, seen = Session(keep_undone=keeps), []
                 session.paste("é-")
                 session.undo()
                 session = copy.copy(session)
                 edit(session)
                 while session.undo():
                     seen.append(session.text)
-                self.assertEqual((seen, session.keeps_undone), (wanted, keeps))
+                self.assertEqual((seen, session.keep_undone), (wanted, keeps))
 
     def test_it_hides_no_exception(self):
         session = Session("")
@@ -371,17 +485,17 @@ class Groups(Scripts):
             ("all are ended", lambda it: it.end_all_groups(), 0),
             ("it is abandoned", lambda it: it.abandon_group(), 1),
             ("an undo stays in it", lambda it: (it.insert("b"), it.undo(3)), 1),
-            ("what was undone in it is kept", lambda it: (it.insert("b"), it.undo(), it.keep_undone()), 1),
+            ("an edit keeps what was undone", lambda it: (it.insert("b"), it.undo(), it.insert("c")), 1),
             ("it is forgotten", lambda it: it.truncate(2), 1),
             ("all is begun anew", lambda it: it.restart("x"), 0),
         ]:
-            session = Session("ab")
+            session = Session("ab", keep_undone=True)
             session.begin_group()
             session.insert("-")
             with self.subTest(what=what):
                 with session.group():
                     inside(session)
-                self.assertEqual(session.level, level)
+                self.assertEqual(session.group_level, level)
 
     def test_a_session_may_be_closed_in_it(self):
         session = Session("")
@@ -400,10 +514,10 @@ class Noted(Session):
 def edited(kind=Session):
     """A session with a ring of two texts, an open group, and a change that was undone."""
     options = {"limit_bytes": 100, "ring_size": 3, "mode": Mode.NO_ZWJ, "prompt": 2, "max_entries": 50}
-    session = kind("né two", **options, max_bytes=99, max_ring_bytes=98, keeps_undone=True)
+    session = kind("né two", **options, max_bytes=99, max_ring_bytes=98, keep_undone=True)
     session.kill(BACK)
-    session.keep("日本")
-    session.set_saved()
+    session.ring_add("日本")
+    session.mark_saved()
     session.yank()
     session.begin_group()
     session.insert("é")
@@ -427,14 +541,14 @@ undone replacement 0 12 4 'n' '漢 '
 
 class Saved(Scripts):
     def are_equal(self, one, other):
-        """All that two sessions tell is the same, but for what is called on a change."""
+        """All that two sessions return is the same, but for the reports, which are not saved."""
         for name, it in vars(Session).items():
-            if isinstance(it, property) and name != "on_change":
+            if isinstance(it, property) and name not in ("on_change", "report_count"):
                 self.assertEqual(getattr(one, name), getattr(other, name), name)
         self.assertEqual(one.save(), other.save())
 
     def test_it_comes_back_and_goes_on(self):
-        for last in (Session.part, Session.yank, lambda it: it.kill(START), lambda it: it.insert("a")):
+        for last in (Session.undo_boundary, Session.yank, lambda it: it.kill(START), lambda it: it.insert("a")):
             session = edited()
             last(session)
             loaded = Session.load(session.save())
@@ -498,7 +612,7 @@ class Saved(Scripts):
                 self.are_equal(other, session)
                 self.assertEqual((type(other), other.note), (Noted, ["a"]))
                 self.assertEqual(other.note is session.note, take is copy.copy)
-                self.assertEqual((other.count_reports(), session.count_reports()), (0, 1))
+                self.assertEqual((other.report_count, session.report_count), (0, 1))
                 self.assertEqual((other.on_change, session.on_change), (None, print))
                 other.undo()
                 self.stands(session, "漢 é 日本é", 2)
@@ -522,7 +636,7 @@ class Saved(Scripts):
         self.assertEqual([it for name, *it in parts if name == "slot"], [[it] for it in reversed(session.ring)])
         entries = [it for it in parts if it[0] != "slot"]
         undone = [it for it in entries if it[0].startswith("undone")]
-        self.assertEqual(len(entries) - len(undone), session.entries)
+        self.assertEqual(len(entries) - len(undone), session.record_entries)
         changes = [(session.redo, at, went, came, pos) for _, at, _, pos, went, came in undone]
         changes += [(session.undo, at, came, went, pos) for _, at, pos, _, went, came in reversed(entries)]
         given = text.encode()
@@ -589,54 +703,115 @@ def asked(session):
 
 
 class Faults(Scripts):
-    def refuses(self, fault, session, call, *given, **named):
-        """The call raises the fault, and leaves text, cursor and record."""
-        before = (session.text, session.pos, session.entries)
+    def refuses(self, fault, session, call, *given, says=".", **named):
+        """The call raises the fault, in words that have this pattern and none of cffi's, and leaves the session."""
+        before = (session.text, session.pos, session.record_entries)
         with self.subTest(call=call, given=given, named=named), self.assertRaises(fault) as raised:
             call(*given, **named)
+        said = str(raised.exception)
+        self.assertRegex(said, says)
+        self.assertNotRegex(said, "ctype|cdata|ffi|from_buffer|initializer|descriptor")
         if fault is ValueError:
             self.assertIsInstance(raised.exception, lodvarn.LodvarnError)
-        self.assertEqual((session.text, session.pos, session.entries), before)
+        self.assertEqual((session.text, session.pos, session.record_entries), before)
 
-    def test_what_is_refused_raises(self):
-        session = opened("aé", 2, limit_bytes=3)
+    def test_what_fails_raises_and_says_why(self):
+        session, room = opened("aé", 2, limit_bytes=3), "^the text would exceed the limit of 3 bytes$"
         session.kill(START)
         self.refuses(lodvarn.NotReplayingError, session, session.truncate, 0)
         session.yank()
-        for call, given in [
-            (session.insert, ("é",)), (session.paste, ("c", 2)), (session.yank, ()), (session.set_text, (0, "é漢")),
-            (session.insert_at, (2, "x")), (session.replace, (0, 1, "é")), (session.indent, (LINE, 1)),
-            (session.restart, ("éé",)), (setattr, (session, "limit_bytes", 2)),
+        for call, *given in [
+            (session.insert, "é"), (session.type, b"b"), (session.paste, "c", 2), (session.yank,),
+            (session.set_text, 0, "é漢"), (session.insert_at, 2, "x"), (session.replace, 0, 1, "é"),
+            (session.indent, LINE, 1), (session.restart, "éé"), (partial(Session, limit_bytes=3), "éé"),
         ]:
-            self.refuses(lodvarn.NoRoomError, session, call, *given)
-        self.refuses(lodvarn.NoRoomError, session, Session, "éé", limit_bytes=3)
+            self.refuses(lodvarn.NoRoomError, session, call, *given, says=room)
+        self.refuses(lodvarn.NoRoomError, session, setattr, session, "limit_bytes", 2, says="limit of 2 bytes$")
         for given in [(2**63,), (1, 2**63)]:
             self.refuses(lodvarn.NoMemoryError, session, session.watch, *given)
         session.watch()
         self.refuses(lodvarn.IsWatchedError, session, session.watch)
-        for call, given in [
-            (session.set_text, (2, "é")), (session.insert_at, (3, "x")), (session.replace, (2, 1, "x")),
-            (session.cluster_at, (3,)), (session.cluster_before, (3,)), (session.line_at, (3,)),
-            (session.covers, (LINE, 3)), (session.destination, (START, 3)), (session.slice, (0, 2**64)),
-            (lodvarn.cell, (Screen(9), 2, "é")),
+        for says, call, *given in [
+            ("^index 3 is outside the text, whose length is 2$", session.insert_at, 3, "x"),
+            ("^index -1 is outside", session.cluster_at, -1), ("^index 3 is", session.cluster_before, 3),
+            ("^index 3 is", session.line_at, 3), (f"^index {2**64} is", session.slice, 0, 2**64),
+            ("^index 3 is", session.movement_range, LINE, 3), ("^index 3 is", session.movement_target, START, 3),
+            ("^index 3 is", session.find, "a", 3), ("^index 2 is .* 1$", session.set_text, 2, "é"),
+            ("^index 2 is .* 1$", lodvarn.cell, Screen(9), 2, "é"),
+            ("^the range ends at 1, before its start 2$", session.replace, 2, 1, "x"),
+            ("^the cursor.* would be inside a character$", opened("aé", 1, limit_bytes=9).insert_at, 0, "é"),
         ]:
-            self.refuses(lodvarn.BadPlaceError, session, call, *given)
-        for call, given in [
-            (session.insert, ("\ud800",)), (session.undo, (65536,)), (session.move, (Movement.chars_back(65536),)),
-            (session.delete_by, (LINE,)), (session.watch, (0,)), (session.indent, (LINE, 256)),
-            *((lodvarn.cell, (Screen(*it), 0, "")) for it in [(0,), (65536,), (9, 65536), (9, 0, -1)]),
-        ]:
-            self.refuses(lodvarn.NoSuchNumberError, session, call, *given)
-        for call in (session.paste, session.keep, session.restart, lodvarn.width):
-            self.refuses(UnicodeEncodeError, session, call, "\ud800")
+            self.refuses(lodvarn.BadIndexError, session, call, *given, says=says)
         self.assertTrue(issubclass(lodvarn.NoMemoryError, MemoryError) and issubclass(lodvarn.ClosedError, ValueError))
+        self.assertFalse(issubclass(lodvarn.BadIndexError, IndexError))
+
+    def test_a_number_out_of_its_range_raises(self):
+        session = Session("aé")
+        for says, call, *given in [
+            ("^n is from 0 to 65535, not 65536$", session.insert, "b", 65536),
+            ("^n .* not -1$", session.insert, "b", -1),
+            ("^n .* not 65536$", session.undo, 65536), ("^n .* not 65536$", Movement.chars_back, 65536),
+            ("^reports is from 1 to .*, not 0$", session.watch, 0),
+            ("^amount is from 0 to 255, not 256$", session.indent, LINE, 256),
+            ("^columns is from 1 to 65535, not 0$", lodvarn.rows, Screen(0), ""),
+            ("^columns .* not 65536$", lodvarn.cell, Screen(65536), 0, ""),
+            ("^prompt .* not 65536$", lodvarn.index_at, Screen(9, 65536), (0, 0), ""),
+            ("^tab .* not -1$", session.row_above, Screen(9, tab=-1)),
+            ("^delete_by.. takes a movement by words", session.delete_by, LINE),
+            ("^a movement to a text has no lines", session.dedent, Movement.to_match("a"), 1),
+            ("^the text of a movement is not empty$", Movement.to_match, ""),
+        ]:
+            self.refuses(lodvarn.NoSuchNumberError, session, call, *given, says=says)
+
+    def test_a_lone_surrogate_is_one_error_everywhere(self):
+        session = Session("ab")
+        for call, *given in [
+            (session.insert, "\ud800"), (session.insert, "\udfff", 0), (Movement.to_char, Search.TO, "\ud800"),
+            (Movement.to_match, "\ud800"), (session.find, "\ud800"), (session.paste, "\ud800"), (Session, "\ud800"),
+            (session.ring_add, "\ud800"), (session.restart, "a\udc00"), (lodvarn.width, "\ud800"),
+            (lodvarn.clusters, "\ud800"),
+        ]:
+            self.refuses(UnicodeEncodeError, session, call, *given, says="surrogates not allowed")
+        self.refuses(lodvarn.NotUtf8Error, session, session.type, "\ud800".encode("utf-8", "surrogatepass"))
+
+    def test_an_argument_of_another_type_raises(self):
+        session = Session("ab")
+        for says, call, *given in [
+            (r"^insert\(\) takes one character, not 'ab'$", session.insert, "ab"),
+            ("^insert.* not ''$", session.insert, ""),
+            (r"^insert\(\) takes one character, not 1$", session.insert, 1), ("integer$", session.insert, "a", "1"),
+            (r"^to_char\(\) takes one character, not 'ab'$", Movement.to_char, Search.TO, "ab"),
+            ("^expected str, not b'ab'$", session.set_text, 0, b"ab"), ("^expected str, not 1$", Session, 1),
+            ("^expected Movement, not 100$", session.move, 100),
+            ("^'str' object cannot be interpreted as an integer$", session.undo, "1"),
+            ("a bytes-like object is required, not 'str'$", session.type, "a"),
+            ("^expected Mode, not 10$", lodvarn.cell, Screen(9, mode=10), 0, ""),
+        ]:
+            self.refuses(TypeError, session, call, *given, says=says)
+        self.refuses(TypeError, session, Session, "ab", 9)
+
+    def test_an_error_has_its_number_and_its_name(self):
+        for error in lodvarn.LodvarnError.__subclasses__():
+            name = re.sub("(?=[A-Z])", "_", error.__name__[: -len("Error")]).upper().replace("BAD_INDEX", "BAD_OFFSET")
+            name = f"LODVARN{name}"
+            for fault in (error("why"), copy.copy(error("why"))):
+                self.assertEqual((fault.name, fault.code, str(fault)), (name, getattr(lib, name), "why"))
+        with self.assertRaises(lodvarn.ClosedError) as raised:
+            len(Session.__new__(Session))
+        self.assertEqual((str(raised.exception), raised.exception.code), ("the session is closed", lib.LODVARN_CLOSED))
 
     def test_an_error_of_a_later_library_raises(self):
-        self.assertRaisesRegex(lodvarn.LodvarnError, "^move: unknown$", lodvarn._seen, lib.py_move, -99)
+        with self.assertRaises(lodvarn.LodvarnError) as raised:
+            lodvarn._seen(lib.py_move, -99)
+        fault = raised.exception
+        self.assertEqual((type(fault), fault.code, fault.name), (lodvarn.LodvarnError, -99, "unknown"))
+        self.assertNotEqual(str(fault), "")
+        self.assertEqual(lodvarn.NoRoomError.code, lib.LODVARN_NO_ROOM)
 
     def test_wrong_arguments_are_refused(self):
         session = Session("ab")
         names = [name for name, it in vars(Session).items() if inspect.isfunction(it) and name[0] != "_"]
+        self.assertLess({"type", "find", "copy", "ring_add"}, {*names})
         calls = [getattr(session, name) for name in names]
         calls += [*MAKERS, *(getattr(lodvarn, name) for name in lodvarn.__all__ if name.islower())]
         calls += [Session, Session.load]
@@ -644,9 +819,6 @@ class Faults(Scripts):
             for name, kind in kinds(call).items():
                 for it, fault in wrong(kind):
                     self.refuses(fault, session, call, **{**right(call), name: it})
-        self.refuses(TypeError, session, session.insert, "ab")
-        self.refuses(TypeError, session, lodvarn.cell, Screen(9, mode=10), 0, "")
-        self.refuses(TypeError, session, Session, "ab", 9)
 
     def test_wrong_options_are_refused(self):
         session = Session("ab")
@@ -695,7 +867,7 @@ STOPPED = report(ReportKind.KILL_STOPPED, 0, "", "", 0, 0)
 class Changes(Scripts):
     def tells(self, session, *wanted):
         """Those reports wait, and no others."""
-        self.assertEqual(session.count_reports(), len(wanted))
+        self.assertEqual(session.report_count, len(wanted))
         self.assertEqual(list(session.changes()), list(wanted))
 
     def test_what_changed_is_one_splice(self):
@@ -714,7 +886,7 @@ class Changes(Scripts):
             (Splice(1, 4, 3), (1, 1, 1), (2, 1, 3), (4, 3, 3)),
         ]:
             for place, *wanted in rows:
-                self.assertEqual([change.moved(place, it) for it in Side], wanted, (change, place))
+                self.assertEqual([change.map_index(place, it) for it in Side], wanted, (change, place))
         session, mark = opened("é漢字é", 1), 3
         session.watch()
         for wanted, call, *given in [
@@ -723,14 +895,14 @@ class Changes(Scripts):
         ]:
             call(*given)
             for it in session.changes():
-                mark = it.moved(mark)
+                mark = it.map_index(mark)
             self.assertEqual(mark, wanted)
         for refused, change, *given in [
-            (lodvarn.BadPlaceError, Splice(2, 1, 2), 0), (lodvarn.BadPlaceError, Splice(2, 2, 1), 0),
-            (lodvarn.BadPlaceError, Splice(0, 0, 1), 2**64 - 1), (lodvarn.NoSuchNumberError, Splice(0, 0, 1), -1),
+            (lodvarn.BadIndexError, Splice(2, 1, 2), 0), (lodvarn.BadIndexError, Splice(2, 2, 1), 0),
+            (lodvarn.BadIndexError, Splice(0, 0, 1), 2**64 - 1), (lodvarn.NoSuchNumberError, Splice(0, 0, 1), -1),
             (TypeError, Splice(0, 0, 1), 0, Direction.FORWARD),
         ]:
-            self.assertRaises(refused, change.moved, *given)
+            self.assertRaises(refused, change.map_index, *given)
 
     def test_reports_count_characters(self):
         kind, session = ReportKind, opened("éb", 1)
@@ -829,7 +1001,7 @@ class OnChange(Scripts):
         self.assertIs(session.on_change, call)
         inserted = report(ReportKind.CHAR_INSERTED, 1, "", "c", 1, 2)
         session.insert("c")
-        session.part()
+        session.undo_boundary()
         session.kill(END)
         self.assertEqual(seen, [inserted, STARTED, report(ReportKind.DELETED_FORWARD, 2, "b", "", 2, 2), STOPPED])
         session.on_change = None
@@ -856,7 +1028,7 @@ class OnChange(Scripts):
         self.stands(session, "cd", 2)
         session.on_change = seen.append
         # A read tells nothing, though a report waits. What it was given before is not given again.
-        self.assertEqual((session.text, session.covers(LINE), seen), ("cd", (0, 2), []))
+        self.assertEqual((session.text, session.movement_range(LINE), seen), ("cd", (0, 2), []))
         session.pos = 0
         self.assertEqual(seen, [report(ReportKind.TEXT_INSERTED, 0, "", "cd", 0, 2)])
         session.on_change = lambda it: session.on_change(it)
@@ -875,7 +1047,7 @@ class OnChange(Scripts):
         session, seen = Session("é"), []
         session.on_change = seen.append
         is_through = not disturbed(at, lambda: (session.insert("b"), session.set_text(1, "漢字")))
-        session.part()
+        session.undo_boundary()
         return self.loses_none(is_through, at, session, seen)
 
     def by_changes(self, at):
@@ -979,7 +1151,7 @@ class Mirrors(Scripts):
         """Makes the changes of all reports in a text, which is the session's then. The kinds, and where the cursor went
         by the last of a change."""
         told = []
-        while session.count_reports():
+        while session.report_count:
             try:
                 told.extend(session.changes())
             except lodvarn.NoMemoryError:
@@ -1005,7 +1177,7 @@ class Mirrors(Scripts):
             do(session, word, [some(rng, session, it) for it in WORDS[word][0]])
             if rng.random() < 0.03:
                 session.max_bytes = session.max_ring_bytes = rng.choice([None, 300])
-                session.keeps_undone = rng.random() < 0.5
+                session.keep_undone = rng.random() < 0.5
                 session.restart(rng.choice(PIECES))
         except (lodvarn.NoSuchNumberError, lodvarn.NoMemoryError) as fault:
             self.refused += isinstance(fault, MemoryError)
@@ -1046,18 +1218,35 @@ class Module(unittest.TestCase):
         self.assertEqual(set(lodvarn.__all__), {name for name in public if not name.startswith("_")})
 
     def test_each_call_of_the_header_is_used(self):
-        header, source = (TOP / "include/lodvarn.h").read_text(), Path(lodvarn.__file__).read_text()
-        own = (TOP / "python/session.c").read_text()
-        calls = set(re.findall(r"^(?:int|bool|size_t|uint32_t|void|const char) \*?(lodvarn_\w+)\(", header, re.M))
+        source, own = Path(lodvarn.__file__).read_text(), (TOP / "python/session.c").read_text()
         used = set(re.findall(r"\blib\.(\w+)", source))
         made = {f"lodvarn_{it[3:]}" for it in used if it.startswith("py_")}
-        # A copy is read, as what is covered, and ends a run of kills.
-        left = {"lodvarn_version", "lodvarn_copy"}
-        self.assertEqual(calls - used - made - set(re.findall(r"\blodvarn_\w+", own)), left)
+        left = {it.name for it in header.calls()} - used - made - set(re.findall(r"\blodvarn_\w+", own))
+        self.assertEqual(left, {"lodvarn_text_copy"})  # A str needs no NUL.
+
+    def test_each_call_names_the_errors_of_the_header(self):
+        kinds, seen = {it().name: it.__name__ for it in lodvarn.LodvarnError.__subclasses__()}, 0
+        for call in header.functions():
+            name = {"open": "__init__", "set_pos": "pos", "pos": ""}.get(call.name[8:], call.name[8:])
+            owner = next((it for it in (Session, Movement, lodvarn) if hasattr(it, name)), None)
+            about = getattr(getattr(owner, name), "__doc__", None) if owner else None
+            if not about:
+                continue
+            # Those of a range, in the comment of several calls, are of those that take one.
+            takes_offset = re.search(r"offset|range|pos|from|change", " ".join(it.name for it in call.arguments))
+            listed = " ".join(re.findall(r"Errors(?:[:,]|, only)(.*?)(?:\.(?: |\n|$)|$)", call.comment, re.S))
+            wanted = {kinds.get(f"LODVARN_{it}") for it in re.findall(r"\b[A-Z][A-Z_0-9]+\b", listed)} - {None}
+            wanted -= set() if takes_offset else {"BadIndexError"}
+            raised = set(re.findall(r"\b\w+Error\b", about.partition("Raises")[2])) if "Raises" in about else set()
+            # A call that takes a screen or options may raise it besides.
+            also = {"NoSuchNumberError", "NotUtf8Error"} & raised
+            with self.subTest(name=name):
+                self.assertEqual(raised - also, wanted - also)
+            seen += len(wanted)
+        self.assertGreater(seen, 60)
 
     def test_the_library_has_the_version_of_the_package_or_a_later_one(self):
-        number = lib.lodvarn_version()
-        its, own = [number >> 16, number >> 8 & 255, number & 255], [*map(int, lodvarn.__version__.split("."))]
+        its, own = ([*map(int, it.split("."))] for it in (lodvarn.library_version(), lodvarn.__version__))
         self.assertTrue(its[:2] == own[:2] and its >= own)
         self.assertTrue(sys.modules["lodvarn._lodvarn"].__file__.endswith(".abi3.so"))
 

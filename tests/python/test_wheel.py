@@ -34,8 +34,11 @@ print({it.split()[-1] for it in open("/proc/self/maps") if "liblodvarn" in it})
 """
 TYPED = """
 import lodvarn
-with lodvarn.Session("one") as session:
-    pos: int = session.pos
+class Own(lodvarn.Session):
+    note = 1
+with Own("one") as session:
+    note: int = session.note + session.line_count + session.type(b"a") + session.cursor_position.line
+    where: lodvarn.Range = session.find("o", 0) or session.movement_range(lodvarn.Movement.to_match("n")) or (0, 0)
     text: str = session.pos
     session.insrt("a")
 """
@@ -116,7 +119,7 @@ class Wheel(unittest.TestCase):
         (self.room / "typed.py").write_text(TYPED)
         own = f"--python-executable={self.python}"
         done = run("mypy", "--strict", "--cache-dir=/dev/null", own, "typed.py", cwd=self.room)
-        self.assertRegex(done.stdout, r'\Atyped.py:5: error: .*"int".*"str".*\ntyped.py:6: error: .*insrt.*\nFound 2 ')
+        self.assertRegex(done.stdout, r'\Atyped.py:7: .*Range.*\ntyped.py:8: .*"int".*"str".*\ntyped.py:9: .*insrt.*\nFound 3 ')
 
     def test_the_source_says_what_it_lacks(self):
         with tarfile.open(self.source) as source:

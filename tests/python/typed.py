@@ -1,6 +1,6 @@
 """Runs the lines of scripts by calls of Session, and returns what scripts print, as docs/RULES.md says.
 
-A script counts places in bytes. One that is inside of a character has no index, so it stands for one that no text has.
+A script counts offsets in bytes. One that is inside a character has no index, so -1 stands for it.
 """
 
 import re
@@ -8,13 +8,13 @@ from functools import partial
 from pathlib import Path
 
 from lodvarn import (
-    BadPlaceError, BadYankSizeError, Case, Direction, Mode, Movement, NoRoomError, NotReplayingError, Search, Session,
+    BadIndexError, BadYankSizeError, Case, Direction, Mode, Movement, NoRoomError, NotReplayingError, Search, Session,
     Stop, Word,
 )
 
 TOP = Path(__file__).resolve().parents[2]
 MARKS = {"\\": "\\", "n": "\n", "r": "\r", "t": "\t", "s": " "}
-FAULTS = {BadPlaceError: 2, BadYankSizeError: 3, NotReplayingError: 4}
+FAULTS = {BadIndexError: 2, BadYankSizeError: 3, NotReplayingError: 4}
 # The names among the arguments, by the letters of docs/RULES.md, in the order of their enums.
 NAMES = {
     "S": (Word, "big emacs vi"), "P": (Stop, "start before after"), "X": (Search, "f t F T"), "D": (Direction, "f b"),
@@ -52,7 +52,7 @@ MOVEMENTS = table("Movements")
 
 def covered(s, movement):
     """What a movement covers, of which a copy is the same."""
-    return s.slice(*s.covers(movement)) if s.covers(movement) else None
+    return s.slice(*s.movement_range(movement)) if s.movement_range(movement) else None
 
 
 def replied(text):
@@ -61,13 +61,13 @@ def replied(text):
 
 
 def copy(s, movement):
-    """What a movement covers, by both of the calls that tell it."""
+    """What a movement covers, by both of the calls that return it."""
     assert (text := covered(s, movement)) == s.copy(movement)
     return replied(text)
 
 
 def delete(s, n):
-    """What is deleted ahead of the cursor, or none."""
+    """What is deleted after the cursor, or none."""
     text = covered(s, Movement.chars_forward(n))
     assert s.delete(n) == (text is not None)
     return replied(text)
@@ -80,9 +80,9 @@ def yank_pop(s):
 
 
 def move(s, movement):
-    """Moves to where it was said that it would."""
-    place, is_done = s.destination(movement), s.move(movement)
-    assert is_done == (place is not None) and place in (None, s.pos)
+    """Moves to the target."""
+    target, is_done = s.movement_target(movement), s.move(movement)
+    assert is_done == (target is not None) and target in (None, s.pos)
     return is_done
 
 
@@ -93,17 +93,17 @@ WORDS = {
     "dedent": ("KM", lambda s, amount, movement: s.dedent(movement, amount)),
     "update": ("JT", Session.set_text), "pos": ("Q", lambda s, pos: setattr(s, "pos", pos)),
     "str": ("QT", lambda s, at, text: s.insert_at(at, text) or True), "case": ("W", Session.change_case),
-    "yankpop": ("", yank_pop), "begin": ("", lambda s: f"mark:{(s.entries, s.begin_group())[0]}"),
-    "where": ("", lambda s: "at:{}:{}".format(*(setattr(s, "pos", s.pos), s.find_cursor())[1])),
+    "yankpop": ("", yank_pop), "begin": ("", lambda s: f"mark:{(s.record_entries, s.begin_group())[0]}"),
+    "where": ("", lambda s: "at:{}:{}".format(*(setattr(s, "pos", s.pos), s.cursor_position)[1])),
 }
 # The words of an insertion, of which a script prints whether it went to the end of the text.
 INSERTIONS = {"ins", "paste", "str", "yank", "yankpop"}
 
 
-def index_of(text, place):
-    """The index of a place in bytes, or -1 if there is none."""
+def index_of(text, offset):
+    """The index of an offset in bytes, or -1 if there is none."""
     try:
-        return len(text.encode()[:place].decode()) if place <= len(text.encode()) else -1
+        return len(text.encode()[:offset].decode()) if offset <= len(text.encode()) else -1
     except UnicodeDecodeError:
         return -1
 
@@ -187,6 +187,8 @@ def do(session, word, given):
     except NoRoomError:
         return "none"
     except tuple(FAULTS) as fault:
+        if word != "killrange":
+            session.pos = session.pos  # A line that fails is a command too. An index is checked before the call.
         return f"refused:{FAULTS[type(fault)]}"
     if word in INSERTIONS:
         return str(is_at_end).lower() if told else "none"
