@@ -5,5 +5,6 @@ pub mod SwapLemmas
 pub mod SpliceLemmas
 pub mod GatheredLemmas
 pub mod BlankLemmas
+pub mod OccurrenceLemmas
 pub mod LineLemmas
 pub mod SavingLemmas

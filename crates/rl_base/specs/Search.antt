@@ -1,10 +1,13 @@
--- The places of a character in a text, and where searches for it go.
-use Rattle.std.specs.Prelude.{ℕ, ◌+◌, ◌==◌, ◌<◌, ◌≤◌, List, [], ◌∷◌, map, filter, take, drop, reverse, Option, None, unwrap_or}
+-- The places of a character in a text, and where searches for it go; and where a search for a text finds it.
+use Rattle.std.specs.Prelude.{◌≡◌, ℕ, ◌+◌, ◌==◌, ◌<◌, ◌≤◌, Bool, ◌&&◌, nat_le, nat_lt, List, [], ◌∷◌, length, map, filter, take, drop, reverse, slice_range, Option, None, unwrap_or, IsTrue}
 use Rattle.std.specs.Char.{len_utf8}
-use Rattle.std.specs.List.{last_or}
+use Rattle.std.specs.List.{find, last_or, range_with_len}
 use Rattle.std.specs.Option.{option_map, option_and_then}
 use Rattle.std.specs.Str.{chars}
+use Rattle.std.specs.declared.ops.Range.{Range}
 use Rattle.rl_base.specs.Clusters.{next_pos}
+use Rattle.rl_base.specs.Text.{stands_at}
+use Rattle.rl_base.specs.declared.listeners.Direction.{Direction}
 use Rattle.rl_base.specs.declared.motion.CharSearch.{CharSearch}
 use Rattle.rl_base.specs.declared.motion.CharSearch.TheVariants.{Forward, ForwardBefore, Backward, BackwardAfter}
 
@@ -75,3 +78,44 @@ IsOnSide (Backward _) pos place = place ≤ pos
 IsOnSide (BackwardAfter _) pos place = place ≤ pos
 IsOnSide (Forward _) pos place = pos ≤ place
 IsOnSide (ForwardBefore _) pos place = pos ≤ place
+
+-- ---- a text in a text
+-- an occurrence of a text: an offset at which it stands. An empty text has none
+abbrev pub occurs : List ℕ → List ℕ → ℕ → Bool
+occurs text sought at = nat_lt 0 (length sought) && stands_at text at sought
+
+-- the offset of the occurrence that a search finds: ahead the first that begins at `from` or after it, back the last that ends at
+-- `from` or before it
+abbrev pub occurrence : List ℕ → ℕ → List ℕ → Direction → Option ℕ
+occurrence text from sought Direction.Forward = find (λ at. nat_le from at && occurs text sought at) (range_with_len 0 (length text))
+occurrence text from sought Direction.Backward =
+    find (λ at. nat_le (at + length sought) from && occurs text sought at) (reverse (range_with_len 0 (length text)))
+
+-- the range of a text that stands at an offset
+abbrev pub range_at : List ℕ → ℕ → Range ℕ
+range_at sought at = record { start = at; end = at + length sought }
+
+-- the range that a search finds
+abbrev pub find_text : List ℕ → ℕ → List ℕ → Direction → Option (Range ℕ)
+find_text text from sought direction = option_map (range_at sought) (occurrence text from sought direction)
+
+-- a range lies on the side of `from` that a search goes to
+abbrev pub LiesOn : Direction → ℕ → Range ℕ → Type 0
+LiesOn Direction.Forward from r = from ≤ r.start
+LiesOn Direction.Backward from r = r.end ≤ from
+
+-- a search comes to the offset `at` before it comes to `found`
+abbrev pub ComesBefore : Direction → ℕ → ℕ → Type 0
+ComesBefore Direction.Forward at found = at < found
+ComesBefore Direction.Backward at found = found < at
+
+-- the range has the text, lies on the side that the search goes to, and no other occurrence there lies nearer
+pub record IsNearest (text : List ℕ) (from : ℕ) (sought : List ℕ) (direction : Direction) (r : Range ℕ) : Type 0 where
+  pub is_occurrence : IsTrue (occurs text sought r.start)
+  pub is_text : slice_range text r.start r.end ≡ sought
+  pub side : LiesOn direction from r
+  pub nearest : (at : ℕ) → IsTrue (occurs text sought at) → LiesOn direction from (range_at sought at) → ¬ (ComesBefore direction at r.start)
+
+-- no occurrence lies on that side
+abbrev pub HasNone : List ℕ → ℕ → List ℕ → Direction → Type 0
+HasNone text from sought direction = (at : ℕ) → IsTrue (occurs text sought at) → ¬ (LiesOn direction from (range_at sought at))

@@ -1,10 +1,12 @@
 //! Places in a text, in bytes.
-ghost use Rattle.std.specs.Prelude.{◌≡◌, ◌≤◌, IfSome, ℕ, List};
+ghost use Rattle.std.specs.Prelude.{◌≡◌, ◌≤◌, IfSome, MatchOption, ℕ, List};
 ghost use Rattle.std.specs.Str.{IsCharBoundary, trim_start, trim_end};
 ghost use Rattle.rl_base.specs.Clusters.{next_pos, prev_pos};
 ghost use Rattle.std.specs.Char.{is_whitespace};
 ghost use Rattle.ucd_props.specs.Binary.{is_white_space};
 ghost use Rattle.rl_base.specs.Blanks.{without_leading_blanks, without_trailing_blanks};
+ghost use Rattle.rl_base.specs.Search.{HasNone, IsNearest, find_text};
+ghost use Rattle.rl_base.specs.declared.listeners.Direction.{Direction};
 
 use crate::motion::RepeatCount;
 use unicode_segmentation::UnicodeSegmentation;
@@ -14,7 +16,7 @@ mod hits;
 mod words;
 
 pub use classes::{is_alphanumeric, is_word_cluster};
-pub use hits::{find_place, search};
+pub use hits::{find_place, find_text, search};
 pub use words::{first_word_cluster, next_word, prev_word};
 
 /// The byte place past the first `n` grapheme clusters (UAX #29) of what stands from `pos` on, or past
@@ -56,4 +58,12 @@ pub fn blanks_are_white_space()
     ensures same { (c : ℕ) → is_whitespace c ≡ is_white_space c }
     ensures leading { (text : List ℕ) → trim_start text ≡ without_leading_blanks text }
     ensures trailing { (text : List ℕ) → trim_end text ≡ without_trailing_blanks text }
+{}
+
+/// What a search for a text finds has that text, and is the nearest occurrence on the side that it goes to. It finds
+/// none if there is none on that side.
+#[tactic(auto, using(crate::proofs::Texts::OccurrenceLemmas::find_text_nearest))]
+pub fn the_nearest_occurrence_is_found()
+    ensures { (text sought : List ℕ) (from : ℕ) (direction : Direction)
+        → MatchOption (find_text text from sought direction) (HasNone text from sought direction) (IsNearest text from sought direction) }
 {}

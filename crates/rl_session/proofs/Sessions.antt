@@ -13,3 +13,4 @@ pub mod StepLemmas
 pub mod LimitLemmas
 pub mod PerformLemmas
 pub mod WaitingLemmas
+pub mod TypingLemmas

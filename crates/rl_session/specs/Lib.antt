@@ -13,6 +13,7 @@ pub mod Spelling
 pub mod Grammar
 pub mod Parsing
 pub mod Performing
+pub mod Typing
 pub mod Lines
 pub mod Print
 pub mod Writes

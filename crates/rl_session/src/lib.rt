@@ -16,5 +16,6 @@ mod spelling;
 pub use options::{Bound, Options};
 pub use pair::Pair;
 pub use script::{ScriptFault, run_script};
+pub use session::typing::{TypeFault, Typed};
 pub use session::{Command, Fault, Reply, Session};
 pub use settings::Settings;

@@ -22,6 +22,7 @@ mod motions;
 mod opening;
 mod replies;
 mod saved;
+pub mod typing;
 mod yanks;
 
 use crate::options::Options;

@@ -4,7 +4,7 @@ use crate::eraser::Eraser;
 use crate::lex::is_clause;
 
 // Rules that take whole items, with the comments right above them.
-const ITEMS: [&str; 3] = ["law", "model", "module left out"];
+const ITEMS: [&str; 4] = ["law", "model", "module left out", "owned"];
 
 /// The text of a file, with a line for what it uses of the stand-in after its head.
 pub fn write(eraser: &Eraser, prelude: &str) -> String {

@@ -1,12 +1,16 @@
-//! Where searches for a character go.
-ghost use Rattle.std.specs.Prelude.{◌≡◌, ◌+◌, ◌<◌, ◌≤◌, reverse, take, drop, encode_utf8, IfSome, IsTrue};
+//! Where searches for a character go, and where a text is found.
+ghost use Rattle.std.specs.Prelude.{◌≡◌, ◌+◌, ◌<◌, ◌≤◌, length, reverse, take, drop, encode_utf8, IfSome, IsTrue};
 ghost use Rattle.std.specs.Char.{len_utf8};
 ghost use Rattle.std.specs.Str.{IsCharBoundary};
-ghost use Rattle.rl_base.specs.Search.{chosen_hit, hit_ahead, hits, nth_or_last, sought, HitLies, find_place, place_of_last, IsOnSide};
+ghost use Rattle.rl_base.specs.Search.{chosen_hit, hit_ahead, hits, nth_or_last, sought, HitLies, find_place, find_text, place_of_last, IsOnSide};
+ghost use Rattle.rl_base.specs.declared.listeners.Direction.TheVariants.{Forward, Backward};
 ghost use Rattle.rl_base.specs.Text.{stands_at};
 
+use crate::listeners::Direction;
 use crate::motion::{CharSearch, RepeatCount};
 use crate::places::next_pos;
+use memchr::memmem;
+use std::ops::Range;
 
 /// The `n`-th place of the character on the side that `cs` names, or the farthest if there are fewer.
 /// A search ahead begins past the cluster at `pos`. None without a hit and for `n` = 0.
@@ -101,4 +105,45 @@ fn char_before(text: &str, start: usize, end: usize) -> usize
         Some((place, _)) => start + place,
         None => start,
     }
+}
+
+/// The byte range of the nearest occurrence of `sought` on a side of `from`: ahead the first that begins there or after
+/// it, back the last that ends there or before it. None without one; an empty text has none. It takes no memory, and
+/// time of the text that it goes over.
+#[tactic(auto, using(crate::proofs::Texts::OccurrenceLemmas::none_of_empty))]
+pub fn find_text(
+    text: &str,
+    from: usize,
+    sought: &str,
+    direction: Direction,
+) -> Option<Range<usize>>
+    requires { IsCharBoundary text.now from }
+    ensures value { result ≡ find_text text.now from sought.now direction }
+    ensures range { IfSome result (λ r. (r.start ≤ r.end) × IsCharBoundary text.now r.start × IsCharBoundary text.now r.end) }
+{
+    if sought.is_empty() {
+        return None;
+    }
+    match direction {
+        Direction::Forward => find_ahead(text, from, sought),
+        Direction::Backward => find_back(text, from, sought),
+    }
+}
+
+fn find_ahead(text: &str, from: usize, sought: &str) -> Option<Range<usize>>
+    requires some { 0 < length sought.now }
+    requires from { IsCharBoundary text.now from }
+    ensures { result ≡ find_text text.now from sought.now Forward }
+{
+    let start = from + memmem::find(text[from..].as_bytes(), sought.as_bytes())?;
+    Some(start..start + sought.len())
+}
+
+fn find_back(text: &str, from: usize, sought: &str) -> Option<Range<usize>>
+    requires some { 0 < length sought.now }
+    requires from { IsCharBoundary text.now from }
+    ensures { result ≡ find_text text.now from sought.now Backward }
+{
+    let start = memmem::rfind(text[..from].as_bytes(), sought.as_bytes())?;
+    Some(start..start + sought.len())
 }

@@ -1,6 +1,7 @@
-//! Motions, where each leads and what it covers, copying by one, and where the cursor stands.
+//! Motions, where each leads and what it covers, copying by one, where a text is found, and where the cursor stands.
 ghost use Rattle.std.specs.Prelude.{◌≡◌, ◌≤◌, IfOk, IfSome};
 ghost use Rattle.std.specs.Str.{IsCharBoundary};
+ghost use Rattle.rl_base.specs.Search.{find_text};
 ghost use Rattle.rl_line.specs.LineRanges.{IsRange};
 ghost use Rattle.rl_line.specs.Ranges.{covered};
 ghost use Rattle.rl_session.specs.Commands.{AskedFrom, Does, destination, line_place};
@@ -10,7 +11,8 @@ ghost use Rattle.rl_session.specs.declared.session.Command.{Command};
 ghost use Rattle.rl_session.specs.declared.session.Reply.{Reply};
 
 use crate::session::{Fault, Reply, Session};
-use rl_base::{Movement, Unit};
+use rl_base::places::find_text;
+use rl_base::{Direction, Movement, Unit};
 use std::ops::Range;
 
 impl Session {
@@ -86,6 +88,25 @@ impl Session {
         let found = self.destination(movement);
         self.line.set_pos(pos);
         Ok(found)
+    }
+
+    /// The byte range of the nearest occurrence of a text on a side of a byte place: ahead the first that begins there or
+    /// after it, back the last that ends there or before it. None without one, and for an empty text. `BadPlace` if the
+    /// place is no boundary. A run of kills goes on.
+    pub fn find(
+        &self,
+        from: usize,
+        text: &str,
+        direction: Direction,
+    ) -> Result<Option<Range<usize>>, Fault>
+        ensures asked { AskedFrom from (λ (s : State). find_text s.line.text from text.now direction) self.now result }
+        ensures range { IfOk result (λ found. IfSome found (λ r. IsRange self.now.line.text r.start r.end)) }
+    {
+        let line = self.line.as_str();
+        if !line.is_char_boundary(from) {
+            return Err(Fault::BadPlace);
+        }
+        Ok(find_text(line, from, text, direction))
     }
 
     pub(super) fn do_move_by(&mut self, movement: &Movement) -> Result<bool, Fault>
