@@ -60,11 +60,7 @@ impl Field {
                 session.undo_boundary();
                 session.replace(selected, &text)?;
             }
-            "type" => {
-                for c in text.chars() {
-                    session.insert(c, 1)?;
-                }
-            }
+            "type" => session.type_bytes(text.as_bytes()).map(drop)?,
             "paste" => session.paste(&text, 1).map(drop)?,
             "backspace" => session.backspace(1).map(drop)?,
             "delete" => session.delete(1).map(drop)?,

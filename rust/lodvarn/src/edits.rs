@@ -36,6 +36,30 @@ impl Session {
             .map(Inserted::of_core)
     }
 
+    /// Types the bytes that a terminal sends: inserts each whole character at the front of them as
+    /// [`insert`](Session::insert) does with a count of 1, so that a typed word is one undo. Returns how many bytes
+    /// these have, and 0 if there is no whole character. It stops before an incomplete character at the end, before
+    /// bytes that are not UTF-8, and before a character that can't be inserted. Keep the other bytes, and pass them
+    /// again with those that follow.
+    ///
+    /// ```
+    /// # use lodvarn::{Error, Session};
+    /// let mut session = Session::builder().open()?;
+    /// let mut waiting = Vec::new();
+    /// for sent in [&b"caf\xC3"[..], &b"\xA9"[..]] {
+    ///     waiting.extend(sent);
+    ///     let used = session.type_bytes(&waiting)?;
+    ///     waiting.drain(..used);
+    /// }
+    /// assert_eq!((session.text(), waiting.len()), ("café", 0));
+    /// # Ok::<(), Error>(())
+    /// ```
+    /// # Errors
+    /// Only if the first character can't be inserted: [`Error::NotUtf8`], [`Error::NoRoom`], [`Error::NoMemory`].
+    pub fn type_bytes(&mut self, bytes: &[u8]) -> Result<usize, Error> {
+        Ok(self.run(|core| core.type_bytes(bytes))?.len)
+    }
+
     /// Inserts a text n times at the cursor, which goes after it. [`Inserted::Nothing`] if the text is empty.
     /// # Errors
     /// [`Error::NoRoom`], [`Error::NoMemory`].

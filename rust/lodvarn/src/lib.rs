@@ -122,15 +122,15 @@ impl Session {
     /// Does a command, which obeys the options, and then makes the table of lines if a read has looked for lines.
     /// Without memory for the table there is none, which is no error.
     #[inline]
-    fn run<T>(
+    fn run<T, F: Into<Error>>(
         &mut self,
-        command: impl FnOnce(&mut Core) -> Result<T, CoreFault>,
+        command: impl FnOnce(&mut Core) -> Result<T, F>,
     ) -> Result<T, Error> {
         let done = command(&mut self.core);
         if *self.reads_lines.get_mut() {
             self.core.index_lines();
         }
-        Ok(done?)
+        done.map_err(F::into)
     }
 
     /// Does a command that takes a count, by which 0 does nothing.

@@ -3,7 +3,7 @@ use crate::proved::rl_base;
 use crate::proved::rl_line::LineBuffer;
 use crate::proved::stand_in::alloc::Global;
 use crate::texts::{first_cluster, last_cluster};
-use crate::words::{Cluster, Error, Movement, Options, Position, RowTarget, Screen};
+use crate::words::{Cluster, Direction, Error, Movement, Options, Position, RowTarget, Screen};
 use crate::{Core, Session};
 use core::ops::{Bound, Range, RangeBounds};
 use core::sync::atomic::Ordering;
@@ -81,6 +81,28 @@ impl Session {
     pub fn slice(&self, range: impl RangeBounds<usize>) -> Result<&str, Error> {
         let range = self.range_of(range);
         self.text().get(range).ok_or(Error::BadOffset)
+    }
+
+    /// The range of the nearest occurrence of a text on one side of the byte offset `from`: [`Direction::Forward`] the
+    /// first that begins there or later, [`Direction::Backward`] the last that ends there or earlier. `None` if there
+    /// is none, or if the text is empty.
+    ///
+    /// ```
+    /// # use lodvarn::{Direction, Error, Session};
+    /// let session = Session::builder().text("one two one").open()?;
+    /// assert_eq!(session.find(1, "one", Direction::Forward)?, Some(8..11));
+    /// assert_eq!(session.find(8, "one", Direction::Backward)?, Some(0..3));
+    /// # Ok::<(), Error>(())
+    /// ```
+    /// # Errors
+    /// [`Error::BadOffset`].
+    pub fn find(
+        &self,
+        from: usize,
+        text: &str,
+        direction: Direction,
+    ) -> Result<Option<Range<usize>>, Error> {
+        Ok(self.core.find(from, text, direction.to_core())?)
     }
 
     /// The options of the session.

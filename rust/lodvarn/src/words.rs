@@ -2,7 +2,7 @@
 use crate::proved::rl_base::{
     self, GraphemeClusterMode, LoadFault, Refusal, SaveFault, Unit, WatchFault, WordAction,
 };
-use crate::proved::rl_session;
+use crate::proved::rl_session::{self, TypeFault};
 use core::fmt;
 use core::num::NonZeroU16;
 
@@ -442,6 +442,8 @@ pub enum Error {
     /// The text would get longer than the limit, at its end or between the steps of an edit: the whole session is as it
     /// was. Or the session is too long to be saved.
     NoRoom,
+    /// The bytes are not UTF-8.
+    NotUtf8,
     /// The call does not take that number, or that movement.
     NoSuchNumber,
     /// The session keeps reports already.
@@ -460,6 +462,7 @@ impl fmt::Display for Error {
             Error::BadYankSize => "the text before the cursor is not the yanked one",
             Error::NotReplaying => "the entries of the record do not lead to the text",
             Error::NoRoom => "the text would exceed the limit, or is too long to be saved",
+            Error::NotUtf8 => "the bytes are not UTF-8",
             Error::NoSuchNumber => "the call does not take that number or movement",
             Error::IsWatched => "the session keeps reports already",
             Error::UnknownFormat => "the bytes do not begin as this version saves a session",
@@ -470,6 +473,16 @@ impl fmt::Display for Error {
 
 #[cfg(feature = "std")]
 impl std::error::Error for Error {}
+
+#[doc(hidden)]
+impl From<TypeFault> for Error {
+    fn from(fault: TypeFault) -> Error {
+        match fault {
+            TypeFault::NotUtf8 => Error::NotUtf8,
+            TypeFault::Refused(fault) => fault.into(),
+        }
+    }
+}
 
 macro_rules! errors {
     ($($core:ty: $($from:ident => $to:ident),*;)*) => {$(

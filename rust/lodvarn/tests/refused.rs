@@ -51,6 +51,7 @@ fn sessions_say_that_memory_is_refused() {
     let calls: Vec<Call> = calls![
         restart(text),
         insert('漢', 900),
+        type_bytes("漢".as_bytes()),
         paste(text, 3),
         insert_at(3, text),
         replace(0..3, text),

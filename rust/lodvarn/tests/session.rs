@@ -132,6 +132,8 @@ fn what_is_refused_says_why_and_changes_nothing() {
         assert_eq!(session.line_at(offset), Err(Error::BadOffset));
         assert_eq!(session.cluster_at(offset), Err(Error::BadOffset));
         assert_eq!(session.cluster_before(offset), Err(Error::BadOffset));
+        let found = session.find(offset, "a", Direction::Backward);
+        assert_eq!(found, Err(Error::BadOffset));
         let word = Movement::BackwardWord(1, Word::Big);
         assert_eq!(session.movement_range(offset, word), Err(Error::BadOffset));
         assert_eq!(session.movement_target(offset, word), Err(Error::BadOffset));
@@ -325,6 +327,52 @@ fn a_range_may_be_of_any_kind() {
             assert_eq!(session.text(), left, "{bounds:?}");
         }
     }
+}
+
+#[test]
+fn a_text_is_found_on_each_side() {
+    let text = "ab漢aba漢";
+    let session = opened(text);
+    for sought in ["a", "aba", "漢", "漢a", "x", text, ""] {
+        for (from, _) in text.char_indices().chain([(text.len(), ' ')]) {
+            let range = |start| start..start + sought.len();
+            let ahead = text[from..].find(sought).map(|at| range(from + at));
+            let back = text[..from].rfind(sought).map(range);
+            let rows = [(Direction::Forward, ahead), (Direction::Backward, back)];
+            for (direction, wanted) in rows {
+                let wanted = wanted.filter(|it| !it.is_empty());
+                let found = session.find(from, sought, direction);
+                assert_eq!(found, Ok(wanted), "{sought:?} {direction:?} of {from}");
+            }
+        }
+    }
+}
+
+#[test]
+fn bytes_are_typed_by_characters() -> Result<(), Error> {
+    // Bytes, how many are typed, and the text then, which may have 5 bytes.
+    let rows: [(&[u8], _, _); 9] = [
+        (b"", Ok(0), ""),
+        (b"ab", Ok(2), "ab"),
+        (b"a\xE6\xBC", Ok(1), "a"),
+        (b"\xE6\xBC", Ok(0), ""),
+        ("漢é".as_bytes(), Ok(5), "漢é"),
+        ("漢漢".as_bytes(), Ok(3), "漢"),
+        (b"a\xFFb", Ok(1), "a"),
+        (b"\xFFb", Err(Error::NotUtf8), ""),
+        (b"\xE6b", Err(Error::NotUtf8), ""),
+    ];
+    for (bytes, wanted, text) in rows {
+        let mut session = Session::builder().limit(5).open()?;
+        assert_eq!(session.type_bytes(bytes), wanted, "{bytes:?}");
+        stands(&session, text, text.len());
+    }
+    let mut session = Session::builder().limit(5).open()?;
+    session.type_bytes(b"ab")?;
+    session.type_bytes(b"cd")?;
+    assert_eq!(session.type_bytes("漢".as_bytes()), Err(Error::NoRoom));
+    assert_eq!((session.undo(1), session.text()), (Ok(true), ""));
+    Ok(())
 }
 
 #[test]

@@ -94,7 +94,8 @@ pub fn command(s: &mut Session, random: &mut Random) -> Result<(), Error> {
     let (n, text) = (random.count(), s.text().to_string());
     match random.below(44) {
         0..=4 => s.insert(random.letter(), n).map(drop),
-        5..=8 => s.paste(&random.text(), n).map(drop),
+        5..=7 => s.paste(&random.text(), n).map(drop),
+        8 => s.type_bytes(random.text().as_bytes()).map(drop),
         9..=12 => s.kill(random.movement()).map(drop),
         13..=14 => s.yank(n).map(drop),
         15 => s.yank(1).and_then(|_| s.yank_pop()).map(drop),
