@@ -1022,15 +1022,16 @@ class OnChange(Scripts):
         self.assertEqual(seen, [report(ReportKind.CHAR_INSERTED, 2, "", "c", 2, 3)])
 
     def test_what_it_raises_comes_out_of_the_command(self):
-        session, seen = Session("ab"), []
-        session.on_change = mock.Mock(side_effect=KeyError)
-        self.assertRaises(KeyError, session.set_text, 2, "cd")
-        self.stands(session, "cd", 2)
-        session.on_change = seen.append
-        # A read does not call it, though a report waits. It does not get again what it got before.
-        self.assertEqual((session.text, session.movement_range(LINE), seen), ("cd", (0, 2), []))
-        session.pos = 0
-        self.assertEqual(seen, [report(ReportKind.TEXT_INSERTED, 0, "", "cd", 0, 2)])
+        for command in (Session.undo_boundary, lambda it: it.copy(LINE), lambda it: it.type(b"")):
+            session, seen = Session("ab"), []
+            session.on_change = mock.Mock(side_effect=KeyError)
+            self.assertRaises(KeyError, session.set_text, 2, "cd")
+            self.stands(session, "cd", 2)
+            session.on_change = seen.append
+            # A read does not call it, though a report waits. It does not get again what it got before.
+            self.assertEqual((session.text, session.movement_range(LINE), seen), ("cd", (0, 2), []))
+            command(session)
+            self.assertEqual(seen, [report(ReportKind.TEXT_INSERTED, 0, "", "cd", 0, 2)])
         session.on_change = lambda it: session.on_change(it)
         self.assertRaises(RecursionError, session.insert, "e")
 
