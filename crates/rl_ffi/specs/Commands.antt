@@ -86,5 +86,5 @@ deletes_range None = finds_nothing
 deletes_range (Some r) = performs (DeleteRange r.start r.end)
 
 abbrev pub deletes : Reach → Effect
-deletes (By m) = deletes_by m
+deletes (By m) s = deletes_by m s
 deletes (To found) s = deletes_range (spanned s.line.cursor found) s

@@ -4,6 +4,7 @@ use Rattle.std.specs.declared.ops.Range.{Range}
 use Rattle.rl_base.specs.KillRing.{yank_size}
 use Rattle.rl_base.specs.declared.listeners.Direction.TheVariants.{Forward, Backward}
 use Rattle.rl_line.specs.Ranges.{text_in}
+use Rattle.rl_session.specs.declared.session.Command.{Command}
 use Rattle.rl_session.specs.declared.session.Command.TheVariants.{Kill, KillRange, YankPop}
 use Rattle.rl_ffi.specs.Answers.{told_or, truth}
 use Rattle.rl_ffi.specs.Buffers.{put}
@@ -21,12 +22,12 @@ abbrev pub pops : Effect
 pops s = performs_as (told_or (truth (is_some (yank_size s.pair.ring)))) YankPop s
 
 -- a kill: by a movement, or of what lies between the cursor and where a text was found, which is nothing if it was not
-abbrev pub kills_to : ℕ → Effect
-kills_to at s = if nat_lt at s.line.cursor then performs (KillRange at s.line.cursor Backward) s else performs (KillRange s.line.cursor at Forward) s
+abbrev pub kill_to : ℕ → ℕ → Command
+kill_to at cursor = if nat_lt at cursor then KillRange at cursor Backward else KillRange cursor at Forward
 
 abbrev pub kills : Reach → Effect
-kills (By m) = performs (Kill m)
-kills (To found) s = kills_to (unwrap_or found s.line.cursor) s
+kills (By m) s = performs (Kill m) s
+kills (To found) s = performs (kill_to (unwrap_or found s.line.cursor) s.line.cursor) s
 
 -- a text is handed out, if there is one, and a run of kills ends; of one that does not fit only the length is told
 abbrev pub hands_out : Option (List ℕ) → EffectOut (List ℕ × ℕ)

@@ -1,5 +1,5 @@
 -- What a movement of C reaches in a session: it is one of the core, or it leads to a text.
-use Rattle.std.specs.Prelude.{◌≡◌, ◌==◌, ◌<◌, ℕ, nat_lt, List, length, Option, Some, None, option_map, option_and_then, Result, Ok, Err, if◌then◌else◌}
+use Rattle.std.specs.Prelude.{◌≡◌, ◌==◌, ◌<◌, ℕ, nat_lt, List, length, Option, Some, None, option_map, option_and_then, Result, Ok, Err, IfSome, if◌then◌else◌, ⊤}
 use Rattle.std.specs.Str.{IsCharBoundary, IsUtf8}
 use Rattle.std.specs.declared.ops.Range.{Range}
 use Rattle.rl_base.specs.Search.{find_text}
@@ -44,6 +44,11 @@ reaches_by (Some direction) from m s result = Searches from m.text.now direction
 
 abbrev pub Reaches : ℕ → CMovement → State → Result Reach Answer → Type 0
 Reaches from m = reaches_by (direction_by m.kind) from m
+
+-- a search goes from a boundary to a boundary
+abbrev pub IsInText : List ℕ → ℕ → Reach → Type 0
+IsInText text from (By m) = ⊤
+IsInText text from (To found) = IsCharBoundary text from × IfSome found (IsCharBoundary text)
 
 -- what a call does by what a movement reaches from the cursor. No abbreviation, so that it is one fact for the search
 unfoldable pub of_reach : CMovement → (Reach → Effect) → Effect

@@ -50,7 +50,7 @@ fn move_to(session: &mut Session, found: Option<usize>) -> Answer
 
 #[tactic(auto, unfolding(crate::specs::Reach::of_reach, crate::specs::Commands::performs_as))]
 fn move_by(session: &mut Session, movement: CMovement) -> Answer
-    ensures { of_reach movement moves session.old result session.new }
+    ensures { of_reach movement.entry moves session.old result session.new }
 {
     match reach_of(session, session.line().pos(), movement) {
         Ok(Reach::By(m)) => answered(session.move_by(&m)),
@@ -60,7 +60,7 @@ fn move_by(session: &mut Session, movement: CMovement) -> Answer
 }
 
 pub fn lodvarn_move(s: &mut Handle, movement: CMovement) -> i32
-    ensures { Through (of_reach movement moves) s.old result s.new }
+    ensures { Through (of_reach movement.entry moves) s.old result s.new }
 {
     of!(s, session => move_by(session, movement))
 }
@@ -162,7 +162,7 @@ fn delete_to(session: &mut Session, found: Option<usize>) -> Answer
 
 #[tactic(auto, unfolding(crate::specs::Reach::of_reach))]
 fn delete_reached(session: &mut Session, movement: CMovement) -> Answer
-    ensures { of_reach movement deletes session.old result session.new }
+    ensures { of_reach movement.entry deletes session.old result session.new }
 {
     match reach_of(session, session.line().pos(), movement) {
         Ok(Reach::By(m)) => delete_by(session, &m),
@@ -172,7 +172,7 @@ fn delete_reached(session: &mut Session, movement: CMovement) -> Answer
 }
 
 pub fn lodvarn_delete_by(s: &mut Handle, movement: CMovement) -> i32
-    ensures { Through (of_reach movement deletes) s.old result s.new }
+    ensures { Through (of_reach movement.entry deletes) s.old result s.new }
 {
     of!(s, session => delete_reached(session, movement))
 }
@@ -225,7 +225,7 @@ fn indent(session: &mut Session, m: &Movement, amount: u8, dedent: bool) -> Answ
 }
 
 pub fn lodvarn_indent(s: &mut Handle, movement: CMovement, amount: usize, indentation: u32) -> i32
-    ensures { Through (of_named (movement_of movement) (λ m. of_named (amount_of amount) (λ k. of_named (dedents_of indentation) (λ dedent. performs (Command.Indent m k dedent))))) s.old result s.new }
+    ensures { Through (of_named (movement_of movement.entry) (λ m. of_named (amount_of amount) (λ k. of_named (dedents_of indentation) (λ dedent. performs (Command.Indent m k dedent))))) s.old result s.new }
 {
     of!(s, session, m = movement_of(movement), k = amount_of(amount), dedent = dedents_of(indentation) => indent(session, &m, k, dedent))
 }

@@ -40,7 +40,7 @@ fn kill_to(session: &mut Session, found: Option<usize>) -> Answer
 
 #[tactic(auto, unfolding(crate::specs::Reach::of_reach, crate::specs::Commands::performs_as))]
 fn kill(session: &mut Session, movement: CMovement) -> Answer
-    ensures { of_reach movement kills session.old result session.new }
+    ensures { of_reach movement.entry kills session.old result session.new }
 {
     match reach_of(session, session.line().pos(), movement) {
         Ok(Reach::By(m)) => answered(session.kill(&m)),
@@ -50,7 +50,7 @@ fn kill(session: &mut Session, movement: CMovement) -> Answer
 }
 
 pub fn lodvarn_kill(s: &mut Handle, movement: CMovement) -> i32
-    ensures { Through (of_reach movement kills) s.old result s.new }
+    ensures { Through (of_reach movement.entry kills) s.old result s.new }
 {
     of!(s, session => kill(session, movement))
 }
@@ -146,7 +146,7 @@ fn copy(session: &mut Session, covered: Option<Range<usize>>, out: &mut [u8], le
 }
 
 pub fn lodvarn_copy(s: &mut Handle, movement: CMovement, out: &mut [u8], len: &mut usize) -> i32
-    ensures { ThroughOut (copies movement) s.old result s.new (out.old, len.old) (out.new, len.new) }
+    ensures { ThroughOut (copies movement.entry) s.old result s.new (out.old, len.old) (out.new, len.new) }
 {
     of!(s, session => {
         let pos = session.line().pos();

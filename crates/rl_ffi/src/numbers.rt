@@ -164,7 +164,7 @@ fn movement_by(kind: u32, n: RepeatCount, c: u32) -> Result<Movement, Answer>
 
 // The movement of the core. One to a text is none.
 pub(crate) fn movement_of(movement: CMovement) -> Result<Movement, Answer>
-    ensures { result ≡ movement_of movement }
+    ensures { result ≡ movement_of movement.entry }
 {
     let n = if matches!(movement.kind, 110..=131) {
         count_of(movement.n)?

@@ -1,7 +1,8 @@
 //! What a movement of C reaches in a session: it is one of the core, or it leads to a text that is searched.
-ghost use Rattle.std.specs.Prelude.{◌≡◌, IfOk, IfSome};
+ghost use Rattle.std.specs.Prelude.{◌≡◌, ℕ, List, IfOk, IfSome};
+ghost use Rattle.std.specs.Str.{IsCharBoundary};
 ghost use Rattle.rl_line.specs.LineRanges.{IsRange};
-ghost use Rattle.rl_ffi.specs.Reach.{Covers, Reaches, direction_by, is_in_text, spanned};
+ghost use Rattle.rl_ffi.specs.Reach.{Covers, Reaches, direction_by, IsInText, spanned};
 
 use crate::answers::Answer;
 use crate::numbers::movement_of;
@@ -33,8 +34,8 @@ fn direction_by(kind: u32) -> Option<Direction>
 
 // What a movement reaches from an offset, or why it reaches nothing. Only a search looks at the offset.
 pub(crate) fn reach_of(session: &Session, from: usize, movement: CMovement) -> Result<Reach, Answer>
-    ensures reached { Reaches from movement session.now result }
-    ensures boundary { IfOk result (is_in_text session.now.line.text) }
+    ensures reached { Reaches from movement.entry session.now result }
+    ensures inside { IfOk result (IsInText session.now.line.text from) }
 {
     let Some(direction) = direction_by(movement.kind) else {
         return Ok(Reach::By(movement_of(movement)?));
@@ -53,6 +54,7 @@ pub(crate) fn reach_of(session: &Session, from: usize, movement: CMovement) -> R
 // What lies between an offset and where a text was found, if there is anything.
 pub(crate) fn span(from: usize, found: Option<usize>) -> Option<Range<usize>>
     ensures value { result ≡ spanned from found }
+    ensures range { (text : List ℕ) → IsCharBoundary text from → IfSome found (IsCharBoundary text) → IfSome result (λ r. IsRange text r.start r.end) }
 {
     let at = found?;
     if at < from {
@@ -67,7 +69,7 @@ pub(crate) fn span(from: usize, found: Option<usize>) -> Option<Range<usize>>
 // What a movement covers from an offset.
 #[tactic(auto, unfolding(crate::specs::Reach::Covers))]
 pub(crate) fn covers(session: &mut Session, from: usize, movement: CMovement) -> Result<Option<Range<usize>>, Answer>
-    ensures asked { Covers from movement session.old result }
+    ensures asked { Covers from movement.entry session.old result }
     ensures range { IfOk result (λ found. IfSome found (λ r. IsRange session.old.line.text r.start r.end)) }
     ensures kept { session.new ≡ session.old }
 {

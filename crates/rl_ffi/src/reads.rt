@@ -52,6 +52,7 @@ pub fn lodvarn_slice(s: &mut Handle, range: CRange, out: &mut View) -> i32
 }
 
 // Writes the text to a buffer, and a NUL after it.
+#[tactic(auto, using(crate::proofs::BufferLemmas::put_ended))]
 fn copy_text(text: &[u8], out: &mut [u8], len: &mut usize) -> Answer
     ensures { CopiesText text.now result (out.old, len.old) (out.new, len.new) }
 {
@@ -185,7 +186,7 @@ pub fn lodvarn_cursor_position(s: &mut Handle, at: &mut CPosition) -> i32
 }
 
 pub fn lodvarn_movement_range(s: &mut Handle, from: usize, movement: CMovement, range: &mut CRange) -> i32
-    ensures { Tells (TellsCovers from movement) s.old result s.new range.old range.new }
+    ensures { Tells (TellsCovers from movement.entry) s.old result s.new range.old range.new }
 {
     of!(s, session => match covers(session, from, movement) {
         Ok(found) => write_range(found, range),
@@ -209,7 +210,7 @@ fn write_place(found: Option<usize>, place: &mut usize) -> Answer
 // Where a movement leads from an offset.
 #[tactic(auto, unfolding(crate::specs::Reach::Leads))]
 fn leads(session: &mut Session, from: usize, movement: CMovement) -> Result<Option<usize>, Answer>
-    ensures asked { Leads from movement session.old result }
+    ensures asked { Leads from movement.entry session.old result }
     ensures kept { session.new ≡ session.old }
 {
     match reach_of(session, from, movement)? {
@@ -222,7 +223,7 @@ fn leads(session: &mut Session, from: usize, movement: CMovement) -> Result<Opti
 }
 
 pub fn lodvarn_movement_target(s: &mut Handle, from: usize, movement: CMovement, to: &mut usize) -> i32
-    ensures { Tells (TellsTarget from movement) s.old result s.new to.old to.new }
+    ensures { Tells (TellsTarget from movement.entry) s.old result s.new to.old to.new }
 {
     of!(s, session => match leads(session, from, movement) {
         Ok(found) => write_place(found, to),

@@ -1,9 +1,9 @@
 //! The calls that lay a text out on a screen.
-ghost use Rattle.std.specs.Prelude.{◌≡◌, ◌<◌, ◌≤◌, length, None, IfSome};
+ghost use Rattle.std.specs.Prelude.{◌≡◌};
 ghost use Rattle.rl_base.specs.Screen.{rows};
 ghost use Rattle.rl_line.specs.Rows.{Above, Below};
 ghost use Rattle.rl_ffi.specs.Answers.{merged};
-ghost use Rattle.rl_ffi.specs.Calls.{Answers, Tells, Writes};
+ghost use Rattle.rl_ffi.specs.Calls.{Answers, Fills, Tells, Writes};
 ghost use Rattle.rl_ffi.specs.Screen.{TellsCell, TellsPlace, TellsRow, TellsRows, column_of, screen_of};
 
 use crate::answers::{Answer, Outcome, merged};
@@ -65,19 +65,21 @@ pub fn lodvarn_offset_at(screen: &CScreen, at: CPosition, text: &[u8], place: &m
     merged(find_place(screen, at, text, place)).number()
 }
 
-// How many rows a text has, if they do not fit. It has at most two more than bytes.
-fn too_many(screen: &Screen, text: &str, room: usize) -> Option<usize>
-    ensures some { IfSome result (λ n. (n ≡ length (rows screen.now text.now)) × (room < n)) }
-    ensures none { result ≡ None → length (rows screen.now text.now) ≤ room }
+// Writes the places where rows begin to `starts`, of which there are at most two more than bytes, unless there are too many.
+#[tactic(auto, using(crate::proofs::BufferLemmas::filled_fits))]
+fn fill(screen: &Screen, text: &str, starts: &mut [usize], count: &mut usize) -> Answer
+    ensures { Fills (rows screen.now text.now) result (starts.old, count.old) (starts.new, count.new) }
 {
-    if room > text.len() + 1 {
-        return None;
+    if starts.len() > text.len() + 1 {
+        *count = screen.rows(text, starts);
+        return Answer::Done;
     }
-    let needed = screen.rows(text, &mut []);
-    if needed <= room {
-        return None;
+    *count = screen.rows(text, &mut []);
+    if *count > starts.len() {
+        return Answer::TooSmall;
     }
-    Some(needed)
+    screen.rows(text, starts);
+    Answer::Done
 }
 
 fn find_rows(screen: &CScreen, text: &[u8], starts: &mut [usize], count: &mut usize) -> Outcome
@@ -85,12 +87,7 @@ fn find_rows(screen: &CScreen, text: &[u8], starts: &mut [usize], count: &mut us
 {
     let screen = screen_of(screen)?;
     let text = text_of(text)?;
-    if let Some(needed) = too_many(&screen, text, starts.len()) {
-        *count = needed;
-        return Ok(Answer::TooSmall);
-    }
-    *count = screen.rows(text, starts);
-    Ok(Answer::Done)
+    Ok(fill(&screen, text, starts, count))
 }
 
 pub fn lodvarn_rows(screen: &CScreen, text: &[u8], starts: &mut [usize], count: &mut usize) -> i32

@@ -1,10 +1,10 @@
 //! The calls that need no session.
-ghost use Rattle.std.specs.Prelude.{◌≡◌, ◌<◌, ◌≤◌, length, None, IfOk, IfErr, IfSome};
+ghost use Rattle.std.specs.Prelude.{◌≡◌, ◌≤◌, length, IfOk, IfErr};
 ghost use Rattle.std.specs.Str.{IsUtf8};
 ghost use Rattle.rl_base.specs.Clusters.{clusters};
 ghost use Rattle.rl_base.specs.Screen.{filled};
 ghost use Rattle.rl_ffi.specs.Answers.{merged};
-ghost use Rattle.rl_ffi.specs.Calls.{Answers};
+ghost use Rattle.rl_ffi.specs.Calls.{Answers, Fills};
 ghost use Rattle.rl_ffi.specs.Texts.{Prints, TellsClusters, TellsFirst, TellsLast, TellsMoved, TellsWidth, measured, version};
 ghost use Rattle.rl_ffi.specs.declared.answers.Answer.TheVariants.{NotUtf8};
 
@@ -95,6 +95,7 @@ pub fn lodvarn_last_cluster(text: &[u8], bytes: &mut usize) -> i32
 fn cut(mode: GraphemeClusterMode, text: &str, out: &mut [CCluster]) -> usize
     ensures written { out.new ≡ filled (measured mode 0 (clusters text.now)) out.old }
     ensures count { result ≡ length (measured mode 0 (clusters text.now)) }
+    ensures few { result ≤ length text.now }
 {
     let mut count: usize = 0;
     let mut from: usize = 0;
@@ -110,19 +111,21 @@ fn cut(mode: GraphemeClusterMode, text: &str, out: &mut [CCluster]) -> usize
     count
 }
 
-// How many clusters a text has, if they do not fit. It has no more than bytes.
-fn too_many(mode: GraphemeClusterMode, text: &str, room: usize) -> Option<usize>
-    ensures some { IfSome result (λ n. (n ≡ length (clusters text.now)) × (room < n)) }
-    ensures none { result ≡ None → length (clusters text.now) ≤ room }
+// Writes the clusters to `out`, of which a text has no more than bytes, unless there are too many.
+#[tactic(auto, using(crate::proofs::BufferLemmas::filled_fits))]
+fn fill(mode: GraphemeClusterMode, text: &str, out: &mut [CCluster], count: &mut usize) -> Answer
+    ensures { Fills (measured mode 0 (clusters text.now)) result (out.old, count.old) (out.new, count.new) }
 {
-    if room >= text.len() {
-        return None;
+    if out.len() >= text.len() {
+        *count = cut(mode, text, out);
+        return Answer::Done;
     }
-    let needed = cut(mode, text, &mut []);
-    if needed <= room {
-        return None;
+    *count = cut(mode, text, &mut []);
+    if *count > out.len() {
+        return Answer::TooSmall;
     }
-    Some(needed)
+    cut(mode, text, out);
+    Answer::Done
 }
 
 fn find_clusters(mode: u32, text: &[u8], out: &mut [CCluster], count: &mut usize) -> Outcome
@@ -130,12 +133,7 @@ fn find_clusters(mode: u32, text: &[u8], out: &mut [CCluster], count: &mut usize
 {
     let mode = mode_of(mode)?;
     let text = text_of(text)?;
-    if let Some(needed) = too_many(mode, text, out.len()) {
-        *count = needed;
-        return Ok(Answer::TooSmall);
-    }
-    *count = cut(mode, text, out);
-    Ok(Answer::Done)
+    Ok(fill(mode, text, out, count))
 }
 
 pub fn lodvarn_clusters(mode: u32, text: &[u8], out: &mut [CCluster], count: &mut usize) -> i32

@@ -1,6 +1,6 @@
 //! The laws of commands that obey a session's options (`Session::perform`, and the call of each command's name): so
 //! what is said of runs holds of them.
-ghost use Rattle.std.specs.Prelude.{◌≡◌, ◌+◌, ◌++◌, ◌∷◌, [], ◌<◌, ◌≤◌, List, String, drop, length, suc, true, ℕ, Some, false};
+ghost use Rattle.std.specs.Prelude.{◌≡◌, ◌+◌, ◌++◌, ◌∷◌, [], ◌<◌, ◌≤◌, List, Result, String, drop, length, suc, true, ℕ, Some, false};
 ghost use Rattle.std.specs.String.{string_bytes};
 ghost use Rattle.std.specs.declared.alloc.Global.{Global};
 ghost use Rattle.rl_line.specs.Record.{Begin, is_saved, replay_entries};
@@ -11,10 +11,19 @@ ghost use Rattle.rl_session.specs.Options.{no_bound};
 ghost use Rattle.rl_session.specs.Performing.{AllCallsStandInGroup, AllKilled, Calls, HoldsFrom, MadeUnit, NoneUnites, Performed, PerformedWith, before_unit, put_in, replies_in, rows_of, EndsLast, is_empty_group};
 ghost use Rattle.rl_session.specs.Run.{Leads, held_of};
 ghost use Rattle.rl_session.specs.State.{ChangedFrom, KeepsLimit, ReportedFrom, Stands, State, saved_now};
+ghost use Rattle.rl_session.specs.Typing.{TypesBytes};
 ghost use Rattle.rl_session.specs.declared.session.Command.{Command};
 ghost use Rattle.rl_session.specs.declared.session.Command.TheVariants.{Undo, Yank};
 ghost use Rattle.rl_session.specs.declared.session.Reply.TheVariants.{Mark};
 ghost use Rattle.rl_session.specs.declared.session.Reply.{Reply};
+ghost use Rattle.rl_session.specs.declared.session.typing.TypeFault.{TypeFault};
+ghost use Rattle.rl_session.specs.declared.session.typing.Typed.{Typed};
+
+/// What is typed (`Session::type_bytes`) is performed, command after command: so the laws below hold of it.
+#[tactic(auto, using(crate::proofs::Sessions::TypingLemmas::typing_calls))]
+pub fn typing_is_performed()
+    ensures { (bytes : List ℕ) (old new : State) (result : Result Typed TypeFault) → TypesBytes bytes old result new → Calls old new }
+{}
 
 /// Commands of one step on a session without a bound make a run, since nothing is forgotten after them, and their changes
 /// are units as they are; none leaves something waiting, as the begin of a group may. Its rows are those of the commands,

@@ -34,4 +34,6 @@ mod session;
 #[cfg(test)]
 mod transpositions;
 #[cfg(test)]
+mod typing;
+#[cfg(test)]
 mod watch;

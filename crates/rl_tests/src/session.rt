@@ -1,6 +1,6 @@
 //! Rows of sessions.
 use crate::script::is_so;
-use rl_base::{At, GraphemeClusterMode, Movement, NewKill, Unit, Word};
+use rl_base::{At, Direction, GraphemeClusterMode, Movement, NewKill, Unit, Word};
 use rl_session::{Command, Fault, Reply, Session, Settings};
 use std::alloc::Global;
 use std::process::Abort;
@@ -561,5 +561,19 @@ fn sent<S: Send>(it: S) -> S {
 fn a_session_may_be_sent(rt: HostRuntime) -> Result<(), Fail> {
     let session = session_of(rt.alloc(), "ab", 1, 9)?;
     shows(&rt, &sent(session), "ab", 1);
+    Ok(())
+}
+
+#[test]
+fn a_text_is_found_from_a_place(rt: HostRuntime) -> Result<(), Fail> {
+    let session = limited_to(rt.alloc(), "\u{e9}a\u{e9}", 9)?;
+    let (ahead, back) = (Direction::Forward, Direction::Backward);
+    let found = session.find(2, "\u{e9}", ahead) == Ok(Some(3..5));
+    is_so(&rt, found, "ahead");
+    let found = session.find(4, "a", back) == Err(Fault::BadPlace);
+    is_so(&rt, found, "inside a character");
+    let found = session.find(3, "\u{e9}", back) == Ok(Some(0..2));
+    is_so(&rt, found, "back");
+    is_so(&rt, session.find(5, "", back) == Ok(None), "an empty text");
     Ok(())
 }
