@@ -7,6 +7,7 @@ import signal
 import sys
 import termios
 import tty
+from contextlib import suppress
 from typing import Any, Callable, Iterator
 
 from lodvarn import NotUtf8Error, Session
@@ -29,7 +30,6 @@ class RawTerminal:
     def __init__(self, has_screen: bool = False) -> None:
         self.has_screen = has_screen
         self.left = b""  # What was read and is no key yet.
-        self.is_cut = False  # Whether that is the start of a character.
 
     def __enter__(self) -> "RawTerminal":
         signal.signal(signal.SIGTERM, lambda number, _: sys.exit(128 + number))  # So that the `with` ends.
@@ -48,27 +48,26 @@ class RawTerminal:
     def keys(self, draw: Callable[[], None]) -> Iterator[bytes]:
         """The keys up to the end of input. It draws when it has to wait, once for all that was sent together."""
         while True:
-            if not self.left or self.is_cut:
-                draw()
-                ready, _, _ = select.select([0, self.woken], [], [])
-                if self.woken in ready:
-                    os.read(self.woken, 4096)
-                    continue
-                if not (data := os.read(0, 4096)):
-                    return
-                self.left, self.is_cut = self.left + data, False
-            if found := KEY.match(self.left):
-                self.left = self.left[found.end() :]
-                yield found[0]
+            draw()
+            ready, _, _ = select.select([0, self.woken], [], [])
+            if self.woken in ready:
+                os.read(self.woken, 4096)
+            elif data := os.read(0, 4096):
+                self.left, before = self.left + data, b""
+                # If a key was put back, it is the start of a character.
+                while self.left != before and (key := KEY.match(self.left)):
+                    before, self.left = self.left, self.left[key.end() :]
+                    yield key[0]
+            else:
+                return
 
     def type(self, session: Session, key: bytes) -> bool:
         """Types a key into a session, with the text that follows it. Returns False if it is no text."""
         data = key + self.left
-        try:
-            used = session.type(text[0]) if (text := TEXT.match(data)) else 0
-        except NotUtf8Error:
-            return False
-        if not text or (not used and text.end() < len(data)):
-            return False
-        self.left, self.is_cut = data[used:], not used
-        return True
+        text = TEXT.match(data)
+        with suppress(NotUtf8Error):
+            used = session.type(text[0]) if text else 0
+            if text and (used or text.end() == len(data)):
+                self.left = data[used:]
+                return True
+        return False

@@ -59,8 +59,7 @@ class NoMemoryError(LodvarnError, MemoryError):
 
 
 class BadIndexError(LodvarnError, ValueError):
-    """An index is outside the text, or a range ends before it starts. So it is no IndexError: that is of an index only.
-    """
+    """An index is outside the text, or a range ends before it starts. No IndexError, which means an index alone."""
 
 
 class BadYankSizeError(LodvarnError):
@@ -882,7 +881,10 @@ class Session:
 
     def copy(self, movement: Movement) -> Optional[str]:
         """Returns the text that a movement covers, or None if it covers nothing. A command: it ends a run of kills."""
-        return _copied(lib.py_copy, self._it, _of(Movement, movement)._in_c)
+        text = _copied(lib.py_copy, self._it, _of(Movement, movement)._in_c)
+        if self._on_change is not None:
+            self._finish(lib.py_copy, lib.LODVARN_DONE)
+        return text
 
     def undo(self, n: int = 1) -> bool:
         """Undoes the last n changes and groups, or all if there are fewer; while a group is open, at most those in the

@@ -27,13 +27,13 @@ class Refused(test_lodvarn.Mirrors):
     seed = SEED
 
     def leads_to_the_text(self, session, patience, kinds):
-        """The copies hold also if memory is refused, by which many commands are refused, some of them halfway."""
-        self.refused = self.halfway = 0
+        """The copies hold also if memory is refused, for which many commands fail, some of them halfway."""
+        self.failed = self.halfway = 0
         self.addCleanup(refuse, 0)
         refuse(12)
         super().leads_to_the_text(session, patience, kinds)
         refuse(0)
-        self.assertGreater(self.refused, 500)
+        self.assertGreater(self.failed, 500)
         self.assertGreater(self.halfway, 5)
 
     def test_a_session_is_saved_and_loaded_or_finds_no_memory(self):

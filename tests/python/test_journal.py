@@ -37,7 +37,7 @@ class Journals(unittest.TestCase):
         self.path = Path(folder.name, "journal")
 
     def held(self, lines):
-        """Returns what tells the text of the records in so many bytes: within a command by what came, in characters."""
+        """Returns a function for the text of the records in so many bytes, also within a command."""
         ends, texts = [0], [""]
         with Session() as session:
             session.watch()
@@ -92,29 +92,29 @@ class Journals(unittest.TestCase):
             longer, text = self.go_on("x")
             self.assertEqual((text, recover(longer)), (held(i) + "x", (text, len(longer))))
 
-    def test_a_place_past_the_text_is_damaged(self):
+    def test_an_offset_past_the_text_is_damaged(self):
         for numbers in ((1, 0, 1), (0, 1, 1)):
             record = NUMBERS.pack(*numbers) + b"a"
             self.assertEqual(recover(record + SUM.pack(zlib.crc32(record))), ("", 0))
 
-    def test_what_a_full_disk_refuses_is_written_later(self):
+    def test_what_does_not_fit_on_the_disk_is_written_later(self):
         _, most = limits = resource.getrlimit(resource.RLIMIT_FSIZE)
         self.addCleanup(resource.setrlimit, resource.RLIMIT_FSIZE, limits)
         for room in range(200):
             self.path.write_bytes(b"")
-            journal, refused = Journal(self.path), 0
+            journal, failed = Journal(self.path), 0
             resource.setrlimit(resource.RLIMIT_FSIZE, (room, most))
             for line in lines_of(100):
                 try:
                     press(journal.session, line)
                 except OSError:
-                    refused += 1
+                    failed += 1
             resource.setrlimit(resource.RLIMIT_FSIZE, limits)
             journal.session.paste("\n" * 100)
             journal.session.indent(Movement.whole_text(), 1)  # Its changes are folded.
             journal.file.close()
             data = self.path.read_bytes()
-            self.assertGreater(refused, 0)
+            self.assertGreater(failed, 0)
             self.assertEqual(recover(data), (journal.session.text, len(data)))
 
 

@@ -278,9 +278,9 @@ class Typing(Scripts):
 
         for call, kind in product((Session().type, Session.load), (bytes, bytearray, memoryview)):
             self.assertFalse(fail(call, kind(b"\xff")))
-            with mock.patch.object(sys, "unraisablehook") as told:
+            with mock.patch.object(sys, "unraisablehook") as hook:
                 gc.collect()
-            self.assertEqual(told.mock_calls, [])
+            self.assertEqual(hook.mock_calls, [])
 
     def test_no_more_is_typed_than_has_room(self):
         session = Session("ab", limit_bytes=4)
@@ -587,7 +587,7 @@ class Saved(Scripts):
         for saved in (session.save(), bytearray(session.save()), memoryview(session.save())):
             self.are_equal(Session.load(saved), session)
 
-    def test_what_is_none_is_refused(self):
+    def test_other_bytes_raise(self):
         saved = edited().save()
         other = saved[:-16].replace("日本é".encode(), "本日é".encode(), 1)  # The record does not lead to that text.
         self.assertRaises(lodvarn.DamagedError, Session.load, other + hashlib.md5(other).digest())
@@ -629,7 +629,7 @@ class Saved(Scripts):
             said = subprocess.run(program, stdout=subprocess.PIPE, check=True, env={"PYTHONIOENCODING": "utf-8"}).stdout
         self.assertEqual(said.decode(), PRINTED)
 
-    def test_what_is_read_is_what_the_library_tells(self):
+    def test_what_is_read_is_what_the_library_returns(self):
         session = edited()
         (_, text), (_, cursor), *parts = read(session.save())
         self.assertEqual((text, cursor), (session.text, len(session.before.encode())))
@@ -637,8 +637,8 @@ class Saved(Scripts):
         entries = [it for it in parts if it[0] != "slot"]
         undone = [it for it in entries if it[0].startswith("undone")]
         self.assertEqual(len(entries) - len(undone), session.record_entries)
-        changes = [(session.redo, at, went, came, pos) for _, at, _, pos, went, came in undone]
-        changes += [(session.undo, at, came, went, pos) for _, at, pos, _, went, came in reversed(entries)]
+        changes = [(session.redo, at, old, new, pos) for _, at, _, pos, old, new in undone]
+        changes += [(session.undo, at, new, old, pos) for _, at, pos, _, old, new in reversed(entries)]
         given = text.encode()
         for call, at, old, new, pos in changes:
             is_mark = not old and not new
@@ -703,7 +703,7 @@ def asked(session):
 
 
 class Faults(Scripts):
-    def refuses(self, fault, session, call, *given, says=".", **named):
+    def fails(self, fault, session, call, *given, says=".", **named):
         """The call raises the fault, in words that have this pattern and none of cffi's, and leaves the session."""
         before = (session.text, session.pos, session.record_entries)
         with self.subTest(call=call, given=given, named=named), self.assertRaises(fault) as raised:
@@ -718,19 +718,19 @@ class Faults(Scripts):
     def test_what_fails_raises_and_says_why(self):
         session, room = opened("aé", 2, limit_bytes=3), "^the text would exceed the limit of 3 bytes$"
         session.kill(START)
-        self.refuses(lodvarn.NotReplayingError, session, session.truncate, 0)
+        self.fails(lodvarn.NotReplayingError, session, session.truncate, 0)
         session.yank()
         for call, *given in [
             (session.insert, "é"), (session.type, b"b"), (session.paste, "c", 2), (session.yank,),
             (session.set_text, 0, "é漢"), (session.insert_at, 2, "x"), (session.replace, 0, 1, "é"),
             (session.indent, LINE, 1), (session.restart, "éé"), (partial(Session, limit_bytes=3), "éé"),
         ]:
-            self.refuses(lodvarn.NoRoomError, session, call, *given, says=room)
-        self.refuses(lodvarn.NoRoomError, session, setattr, session, "limit_bytes", 2, says="limit of 2 bytes$")
+            self.fails(lodvarn.NoRoomError, session, call, *given, says=room)
+        self.fails(lodvarn.NoRoomError, session, setattr, session, "limit_bytes", 2, says="limit of 2 bytes$")
         for given in [(2**63,), (1, 2**63)]:
-            self.refuses(lodvarn.NoMemoryError, session, session.watch, *given)
+            self.fails(lodvarn.NoMemoryError, session, session.watch, *given)
         session.watch()
-        self.refuses(lodvarn.IsWatchedError, session, session.watch)
+        self.fails(lodvarn.IsWatchedError, session, session.watch)
         for says, call, *given in [
             ("^index 3 is outside the text, whose length is 2$", session.insert_at, 3, "x"),
             ("^index -1 is outside", session.cluster_at, -1), ("^index 3 is", session.cluster_before, 3),
@@ -741,7 +741,7 @@ class Faults(Scripts):
             ("^the range ends at 1, before its start 2$", session.replace, 2, 1, "x"),
             ("^the cursor.* would be inside a character$", opened("aé", 1, limit_bytes=9).insert_at, 0, "é"),
         ]:
-            self.refuses(lodvarn.BadIndexError, session, call, *given, says=says)
+            self.fails(lodvarn.BadIndexError, session, call, *given, says=says)
         self.assertTrue(issubclass(lodvarn.NoMemoryError, MemoryError) and issubclass(lodvarn.ClosedError, ValueError))
         self.assertFalse(issubclass(lodvarn.BadIndexError, IndexError))
 
@@ -761,7 +761,7 @@ class Faults(Scripts):
             ("^a movement to a text has no lines", session.dedent, Movement.to_match("a"), 1),
             ("^the text of a movement is not empty$", Movement.to_match, ""),
         ]:
-            self.refuses(lodvarn.NoSuchNumberError, session, call, *given, says=says)
+            self.fails(lodvarn.NoSuchNumberError, session, call, *given, says=says)
 
     def test_a_lone_surrogate_is_one_error_everywhere(self):
         session = Session("ab")
@@ -771,8 +771,8 @@ class Faults(Scripts):
             (session.ring_add, "\ud800"), (session.restart, "a\udc00"), (lodvarn.width, "\ud800"),
             (lodvarn.clusters, "\ud800"),
         ]:
-            self.refuses(UnicodeEncodeError, session, call, *given, says="surrogates not allowed")
-        self.refuses(lodvarn.NotUtf8Error, session, session.type, "\ud800".encode("utf-8", "surrogatepass"))
+            self.fails(UnicodeEncodeError, session, call, *given, says="surrogates not allowed")
+        self.fails(lodvarn.NotUtf8Error, session, session.type, "\ud800".encode("utf-8", "surrogatepass"))
 
     def test_an_argument_of_another_type_raises(self):
         session = Session("ab")
@@ -787,8 +787,8 @@ class Faults(Scripts):
             ("a bytes-like object is required, not 'str'$", session.type, "a"),
             ("^expected Mode, not 10$", lodvarn.cell, Screen(9, mode=10), 0, ""),
         ]:
-            self.refuses(TypeError, session, call, *given, says=says)
-        self.refuses(TypeError, session, Session, "ab", 9)
+            self.fails(TypeError, session, call, *given, says=says)
+        self.fails(TypeError, session, Session, "ab", 9)
 
     def test_an_error_has_its_number_and_its_name(self):
         for error in lodvarn.LodvarnError.__subclasses__():
@@ -808,7 +808,7 @@ class Faults(Scripts):
         self.assertNotEqual(str(fault), "")
         self.assertEqual(lodvarn.NoRoomError.code, lib.LODVARN_NO_ROOM)
 
-    def test_wrong_arguments_are_refused(self):
+    def test_wrong_arguments_raise(self):
         session = Session("ab")
         names = [name for name, it in vars(Session).items() if inspect.isfunction(it) and name[0] != "_"]
         self.assertLess({"type", "find", "copy", "ring_add"}, {*names})
@@ -818,16 +818,16 @@ class Faults(Scripts):
         for call in calls:
             for name, kind in kinds(call).items():
                 for it, fault in wrong(kind):
-                    self.refuses(fault, session, call, **{**right(call), name: it})
+                    self.fails(fault, session, call, **{**right(call), name: it})
 
-    def test_wrong_options_are_refused(self):
+    def test_wrong_options_raise(self):
         session = Session("ab")
         for name in sorted(set(SET) - {"pos", "on_change"}):
             before = getattr(session, name)
             for it, fault in wrong(Session.__annotations__[name]):
-                self.refuses(fault, session, setattr, session, name, it)
+                self.fails(fault, session, setattr, session, name, it)
             self.assertEqual(getattr(session, name), before)
-        self.refuses(ValueError, session, setattr, session, "prompt", 65536)
+        self.fails(ValueError, session, setattr, session, "prompt", 65536)
 
     def test_a_closed_session_says_so(self):
         session, names = Session("ab"), set()
@@ -865,7 +865,7 @@ STOPPED = report(ReportKind.KILL_STOPPED, 0, "", "", 0, 0)
 
 
 class Changes(Scripts):
-    def tells(self, session, *wanted):
+    def waits(self, session, *wanted):
         """Those reports wait, and no others."""
         self.assertEqual(session.report_count, len(wanted))
         self.assertEqual(list(session.changes()), list(wanted))
@@ -879,14 +879,14 @@ class Changes(Scripts):
         session.replace(0, 2, "x")
         self.assertEqual(session.take_change(), Splice(0, 3, 1))
 
-    def test_a_place_moves_by_a_change(self):
+    def test_an_index_is_mapped_by_a_change(self):
         for change, *rows in [
             (Splice(1, 1, 3), (0, 0, 0), (1, 1, 3), (2, 4, 4)),
             (Splice(1, 4, 1), (1, 1, 1), (2, 1, 1), (5, 2, 2)),
             (Splice(1, 4, 3), (1, 1, 1), (2, 1, 3), (4, 3, 3)),
         ]:
-            for place, *wanted in rows:
-                self.assertEqual([change.map_index(place, it) for it in Side], wanted, (change, place))
+            for index, *wanted in rows:
+                self.assertEqual([change.map_index(index, it) for it in Side], wanted, (change, index))
         session, mark = opened("é漢字é", 1), 3
         session.watch()
         for wanted, call, *given in [
@@ -897,12 +897,12 @@ class Changes(Scripts):
             for it in session.changes():
                 mark = it.map_index(mark)
             self.assertEqual(mark, wanted)
-        for refused, change, *given in [
+        for fault, change, *given in [
             (lodvarn.BadIndexError, Splice(2, 1, 2), 0), (lodvarn.BadIndexError, Splice(2, 2, 1), 0),
             (lodvarn.BadIndexError, Splice(0, 0, 1), 2**64 - 1), (lodvarn.NoSuchNumberError, Splice(0, 0, 1), -1),
             (TypeError, Splice(0, 0, 1), 0, Direction.FORWARD),
         ]:
-            self.assertRaises(refused, change.map_index, *given)
+            self.assertRaises(fault, change.map_index, *given)
 
     def test_reports_count_characters(self):
         kind, session = ReportKind, opened("éb", 1)
@@ -924,7 +924,7 @@ class Changes(Scripts):
         ]:
             with self.subTest(call=call, given=given):
                 call(*given)
-                self.tells(session, *wanted)
+                self.waits(session, *wanted)
 
     def test_several_that_wait_count_in_the_texts_then(self):
         kind, session = ReportKind, Session("日本")
@@ -932,7 +932,7 @@ class Changes(Scripts):
         session.insert_at(0, "漢字x")
         session.delete_range(1, 3)
         session.set_text(1, "éé")
-        self.tells(
+        self.waits(
             session,
             report(kind.TEXT_INSERTED, 0, "", "漢字x", 2, 2), report(kind.DELETED_FORWARD, 1, "字x", "", 2, 1),
             report(kind.DELETED_FORWARD, 0, "漢日本", "", 1, 0), report(kind.TEXT_INSERTED, 0, "", "éé", 0, 1),
@@ -947,7 +947,7 @@ class Changes(Scripts):
             (session.set_text, (1, "abc"), (kind.FOLDED, 0, 2, 3, 2, 1)),
         ]:
             call(*given)
-            self.tells(session, Report(*wanted, None, None))
+            self.waits(session, Report(*wanted, None, None))
 
     def test_a_watch_ends_and_begins(self):
         session = Session("")
@@ -955,7 +955,7 @@ class Changes(Scripts):
             session.watch(number)
             session.insert("é")
             session.unwatch()
-            self.tells(session)
+            self.waits(session)
         session.watch(2)
         waiting = session.changes()
         session.insert("d")
@@ -994,7 +994,7 @@ def disturbed(at, call, by=interrupt):
 
 
 class OnChange(Scripts):
-    def test_each_command_tells(self):
+    def test_it_is_called_after_each_command(self):
         session, seen = opened("ab", 1), []
         self.assertIsNone(session.on_change)
         session.on_change = call = seen.append
@@ -1008,7 +1008,7 @@ class OnChange(Scripts):
         session.insert("d")
         self.assertEqual((len(seen), len(list(session.changes()))), (4, 1))
 
-    def test_it_tells_of_a_command_that_is_refused_halfway(self):
+    def test_it_gets_the_changes_of_a_command_that_fails_halfway(self):
         session, seen = Session("ab"), []
         session.on_change = seen.append
 
@@ -1022,20 +1022,21 @@ class OnChange(Scripts):
         self.assertEqual(seen, [report(ReportKind.CHAR_INSERTED, 2, "", "c", 2, 3)])
 
     def test_what_it_raises_comes_out_of_the_command(self):
-        session, seen = Session("ab"), []
-        session.on_change = mock.Mock(side_effect=KeyError)
-        self.assertRaises(KeyError, session.set_text, 2, "cd")
-        self.stands(session, "cd", 2)
-        session.on_change = seen.append
-        # A read tells nothing, though a report waits. What it was given before is not given again.
-        self.assertEqual((session.text, session.movement_range(LINE), seen), ("cd", (0, 2), []))
-        session.pos = 0
-        self.assertEqual(seen, [report(ReportKind.TEXT_INSERTED, 0, "", "cd", 0, 2)])
+        for command in (Session.undo_boundary, lambda it: it.copy(LINE), lambda it: it.type(b"")):
+            session, seen = Session("ab"), []
+            session.on_change = mock.Mock(side_effect=KeyError)
+            self.assertRaises(KeyError, session.set_text, 2, "cd")
+            self.stands(session, "cd", 2)
+            session.on_change = seen.append
+            # A read does not call it, though a report waits. It does not get again what it got before.
+            self.assertEqual((session.text, session.movement_range(LINE), seen), ("cd", (0, 2), []))
+            command(session)
+            self.assertEqual(seen, [report(ReportKind.TEXT_INSERTED, 0, "", "cd", 0, 2)])
         session.on_change = lambda it: session.on_change(it)
         self.assertRaises(RecursionError, session.insert, "e")
 
     def loses_none(self, is_through, at, session, seen):
-        """What was told leads from the text of before to that of the session, each change once."""
+        """The reports lead from the text before them to that of the session, each change once."""
         text = "é"
         for it in seen:
             text = text[: it.at] + it.new_text + text[it.at + it.old_len :]
@@ -1059,14 +1060,34 @@ class OnChange(Scripts):
         seen.extend(session.changes())
         return self.loses_none(is_through, at, session, seen)
 
+    def by_folding(self, at):
+        """Stops at a step what asks for a report without texts, and then edits. Whether it was through by then."""
+        session, mirror, seen = Session("é"), ["é"], []
+        session.watch(2, 0)
+
+        def follow(reports):
+            """Makes the changes of reports whose new text is in the present text."""
+            for it in reports:
+                mirror[it.at : it.at + it.old_len] = session.slice(it.at, it.at + it.new_len)
+
+        session.paste("漢字")
+        is_through = not disturbed(at, lambda: seen.extend(session.changes()))
+        follow(seen)
+        for start, end, text in [(1, 3, "b"), (0, 1, "日本"), (2, 3, ""), (1, 1, "é")]:
+            session.replace(start, end, text)
+        self.assertEqual(session.report_count, 1)
+        follow(session.changes())
+        self.assertEqual("".join(mirror), session.text, f"at step {at}")
+        return is_through
+
     def test_a_signal_loses_no_report(self):
-        for stop in (self.by_on_change, self.by_changes):
+        for stop in (self.by_on_change, self.by_changes, self.by_folding):
             self.assertGreater(next(at for at in range(9999) if stop(at)), 50)
 
-    def by_a_finalizer(self, size, takes, at):
+    def by_a_finalizer(self, size, takes, text_bytes, at):
         """Edits at a step of what edits and reads, and takes some reports. Whether all was through by then."""
-        session, grown, come = Session(), [], "z" * size
-        session.watch()
+        session, grown, pasted = Session(), [], "z" * size
+        session.watch(64, text_bytes)
 
         def take(most=None):
             """Takes reports, and notes by how much each made the text longer."""
@@ -1076,16 +1097,16 @@ class OnChange(Scripts):
             """Edits, and takes and reads what there is."""
             session.insert("a")
             take()
-            self.assertTrue(session.text in ("a", "a" + come, come + "a"), f"at step {at}")
+            self.assertTrue(session.text in ("a", "a" + pasted, pasted + "a"), f"at step {at}")
 
-        is_through = not disturbed(at, use, lambda: (session.paste(come), take(takes)))
+        is_through = not disturbed(at, use, lambda: (session.paste(pasted), take(takes)))
         take()
         self.assertEqual(sum(grown), len(session), f"at step {at}")
         return is_through
 
     def test_a_finalizer_may_edit_between_any_two_steps(self):
-        for size, takes in product((2, 100000), (0, 1)):
-            self.assertGreater(next(at for at in range(9999) if self.by_a_finalizer(size, takes, at)), 50)
+        for given in product((2, 100000), (0, 1), (65536, 0)):
+            self.assertGreater(next(at for at in range(9999) if self.by_a_finalizer(*given, at)), 50)
 
     def test_it_may_do_commands(self):
         for reports in (1, 64):
@@ -1130,7 +1151,7 @@ PIECES = ["", "a", "é", "漢字", "one two", FAMILY, "e\u0301", "\n", "  x\n\ty
 
 
 def some(rng, session, letter):
-    """An argument for a letter of the words: now and then a place that may be none."""
+    """An argument for a letter of the words: now and then an index that may be outside the text."""
     if letter == "M":
         letters, make = MOVEMENTS[rng.choice(list(MOVEMENTS))]
         return make(*(some(rng, session, it) for it in letters))
@@ -1145,32 +1166,32 @@ def some(rng, session, letter):
 
 class Mirrors(Scripts):
     # The seed of the commands, and how many found no memory, and of these had changed the text.
-    seed, refused, halfway = 7, 0, 0
+    seed, failed, halfway = 7, 0, 0
 
     def follow_reports(self, mirror, session):
-        """Makes the changes of all reports in a text, which is the session's then. The kinds, and where the cursor went
-        by the last of a change."""
-        told = []
+        """Makes the changes of all reports in a text, which is the session's then. Their kinds, and the cursor after
+        the last change."""
+        seen = []
         while session.report_count:
             try:
-                told.extend(session.changes())
+                seen.extend(session.changes())
             except lodvarn.NoMemoryError:
-                self.refused += 1
-        for it in told:
-            come = session.slice(it.at, it.at + it.new_len) if it.new_text is None else it.new_text
+                self.failed += 1
+        for it in seen:
+            new = session.slice(it.at, it.at + it.new_len) if it.new_text is None else it.new_text
             self.assertIn(it.old_text, ("".join(mirror[it.at : it.at + it.old_len]), None))
-            mirror[it.at : it.at + it.old_len] = come
+            mirror[it.at : it.at + it.old_len] = new
         self.assertEqual("".join(mirror), session.text)
-        return {it.kind for it in told}, [it.pos_after for it in told if it.old_len or it.new_len][-1:]
+        return {it.kind for it in seen}, [it.pos_after for it in seen if it.old_len or it.new_len][-1:]
 
     def follow_splice(self, mirror, session):
-        """Makes the change that `take_change` tells in a text, which is the session's then."""
+        """Makes the change that `take_change` returns in a text, which is the session's then."""
         if splice := session.take_change():
             mirror[splice.start : splice.old_end] = session.slice(splice.start, splice.new_end)
         self.assertEqual("".join(mirror), session.text)
 
     def do(self, rng, session):
-        """Does a random command, which may be refused for what it is given, or for want of memory."""
+        """Does a random command, which may fail for its arguments, or for want of memory."""
         before = session.text
         word = rng.choice([*WORDS, "ins", "ins", "ins", "paste", "str", "yank", "undo", "redo"])
         try:
@@ -1180,32 +1201,32 @@ class Mirrors(Scripts):
                 session.keep_undone = rng.random() < 0.5
                 session.restart(rng.choice(PIECES))
         except (lodvarn.NoSuchNumberError, lodvarn.NoMemoryError) as fault:
-            self.refused += isinstance(fault, MemoryError)
+            self.failed += isinstance(fault, MemoryError)
             self.halfway += isinstance(fault, MemoryError) and session.text != before
 
     def leads_to_the_text(self, session, patience, kinds):
         """Two texts follow the reports, read every `patience` commands or sooner, and what changed, over random
-        commands. These kinds of reports are told."""
-        by_reports, by_splices, told, wait, rng = [], [], set(), 1, random.Random(self.seed)
+        commands. There are these kinds of reports."""
+        by_reports, by_splices, seen, wait, rng = [], [], set(), 1, random.Random(self.seed)
         for _ in range(20000):
             self.do(rng, session)
             wait -= 1
             if not wait:
-                new, places = self.follow_reports(by_reports, session)
-                told |= new
+                new, last = self.follow_reports(by_reports, session)
+                seen |= new
                 if patience == 1:
-                    self.assertIn(session.pos, places or [session.pos])
+                    self.assertIn(session.pos, last or [session.pos])
                 wait = rng.randint(1, patience)
             if rng.random() < 0.5:
                 self.follow_splice(by_splices, session)
-        self.assertEqual(told, kinds)
+        self.assertEqual(seen, kinds)
 
     def test_queues_of_one_of_four_with_short_texts_and_of_many_reports(self):
-        told = set(ReportKind)
+        every = set(ReportKind)
         for room, patience, kinds in [
-            ((1,), 1, told - {ReportKind.KILL_STARTED, ReportKind.KILL_STOPPED}),
-            ((4, 64), 3, told),
-            ((1000,), 30, told - {ReportKind.FOLDED}),
+            ((1,), 1, every - {ReportKind.KILL_STARTED, ReportKind.KILL_STOPPED}),
+            ((4, 64), 3, every),
+            ((1000,), 30, every - {ReportKind.FOLDED}),
         ]:
             session = Session("", limit_bytes=200)
             session.watch(*room)

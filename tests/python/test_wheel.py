@@ -38,11 +38,11 @@ class Own(lodvarn.Session):
     note = 1
 with Own("one") as session:
     note: int = session.note + session.line_count + session.type(b"a") + session.cursor_position.line
-    where: lodvarn.Range = session.find("o", 0) or session.movement_range(lodvarn.Movement.to_match("n")) or (0, 0)
+    found: lodvarn.Range = session.find("o", 0) or (0, 0)
     text: str = session.pos
     session.insrt("a")
 """
-# A module, what its link is told, and the tag that its needs lead to, or none.
+# A module, the options of its link, and the tag that its needs lead to, or none.
 NEEDS = [
     ("#include <stdlib.h>\nvoid *f(void) { return malloc(1); }", "", OLDEST),
     ("#include <pthread.h>\nint f(pthread_t t) { return pthread_join(t, 0); }", "", f"manylinux_2_34_{MACHINE}"),
@@ -119,7 +119,8 @@ class Wheel(unittest.TestCase):
         (self.room / "typed.py").write_text(TYPED)
         own = f"--python-executable={self.python}"
         done = run("mypy", "--strict", "--cache-dir=/dev/null", own, "typed.py", cwd=self.room)
-        self.assertRegex(done.stdout, r'\Atyped.py:7: .*Range.*\ntyped.py:8: .*"int".*"str".*\ntyped.py:9: .*insrt.*\nFound 3 ')
+        errors = r'\Atyped.py:7: .*Range.*\ntyped.py:8: .*"int".*"str".*\ntyped.py:9: .*insrt.*\nFound 3 '
+        self.assertRegex(done.stdout, errors)
 
     def test_the_source_says_what_it_lacks(self):
         with tarfile.open(self.source) as source:

@@ -28,7 +28,7 @@ CALL = re.compile(r"lodvarn_(\w+)\(([^()]*)\)")
 
 
 def called(call, names, *given):
-    """Makes a call of a row, and before it one that stands in it, by what has the same name in Python."""
+    """Makes a call of a row, and before it one that is an argument of it, by what has the same name in Python."""
     values = dict(zip(names, given))
     while found := CALL.search(call):
         owner = Movement if hasattr(Movement, found[1]) else Session
@@ -74,7 +74,7 @@ def delete(s, n):
 
 
 def yank_pop(s):
-    """A script says that nothing went in also if the text is empty that came in the place of the other."""
+    """A script says that nothing was inserted also if the text that replaced the other is empty."""
     older = s.ring_text(s.ring_count > 1)
     return s.yank_pop() and bool(older)
 
@@ -96,7 +96,7 @@ WORDS = {
     "yankpop": ("", yank_pop), "begin": ("", lambda s: f"mark:{(s.record_entries, s.begin_group())[0]}"),
     "where": ("", lambda s: "at:{}:{}".format(*(setattr(s, "pos", s.pos), s.cursor_position)[1])),
 }
-# The words of an insertion, of which a script prints whether it went to the end of the text.
+# The words of an insertion, of which a script prints whether it was at the end of the text.
 INSERTIONS = {"ins", "paste", "str", "yank", "yankpop"}
 
 
@@ -163,8 +163,9 @@ class Typed:
 
 
 def done(session, word, given):
-    """What the call of a word returns. If the limit refuses it, this does what a script does: it puts nothing in at the
-    cursor, and ends a run of kills; it cuts the text of an update; and for all else it raises the limit as needed."""
+    """What the call of a word returns. If the text would exceed the limit, this does what a script does: it inserts
+    nothing at the cursor, and ends a run of kills; it cuts the text of an update; and for all else it raises the limit
+    as needed."""
     while True:
         try:
             return WORDS[word][1](session, *given)
@@ -183,7 +184,7 @@ def do(session, word, given):
     """Does what a word says. What it replies."""
     is_at_end = session.pos == len(session) if word != "str" else given[0] == len(session)
     try:
-        told = done(session, word, given)
+        reply = done(session, word, given)
     except NoRoomError:
         return "none"
     except tuple(FAULTS) as fault:
@@ -191,7 +192,7 @@ def do(session, word, given):
             session.pos = session.pos  # A line that fails is a command too. An index is checked before the call.
         return f"refused:{FAULTS[type(fault)]}"
     if word in INSERTIONS:
-        return str(is_at_end).lower() if told else "none"
-    if isinstance(told, bool):
-        return str(told).lower()
-    return "ok" if told is None else told
+        return str(is_at_end).lower() if reply else "none"
+    if isinstance(reply, bool):
+        return str(reply).lower()
+    return "ok" if reply is None else reply
