@@ -18,12 +18,12 @@ CONSTANT = re.compile(rf"const (\w+): &str = ({TEXT});")
 ESCAPE = re.compile(rb"\\(?:x(..)|u\{(\w+)\}|(.))")
 LETTERS = {b"n": b"\n", b"r": b"\r", b"t": b"\t", b"\\": b"\\", b'"': b'"'}
 # A line without a call prints bad, since it means nothing, or has a count of 0, by which a call does nothing, or one of
-# two words that only a script has.
+# two words that only a script has. Of an indent by 0 a script says that it is done.
 NO_TIMES = re.compile(
     rb"^(?:(?:move|kill|copy|(?:in|de)dent \d+) )?(?:ins|paste|yank|del|back|twords|undo|prevword|nextword|to|bword"
     rb"|fword|find|bchar|fchar|up|down) 0+(?: |$)", re.M,
 )
-NO_CALL = re.compile(rb"^(?:keepundone$|(?:move|kill|copy|(?:in|de)dent \d+) first$)", re.M)
+NO_CALL = re.compile(rb"^(?:keepundone$|(?:in|de)dent 0 |(?:move|kill|copy|(?:in|de)dent \d+) first$)", re.M)
 # An undo that goes otherwise by a call: soon after a command of several steps, which is one unit then; or in a group.
 OTHER_UNDO = re.compile(
     rb"^(?:(?:update|tchars|twords|case|indent|dedent|yankpop)\b.*\n(?:.*\n){0,2}|begin\n(?:(?!end|abandon).*\n)*)undo",

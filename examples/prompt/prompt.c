@@ -117,20 +117,25 @@ static int run_line(void) {
     return begin_line();
 }
 
-/* Types a character, and reads its other bytes as long as lodvarn_type waits for them. All that is typed with no other
- * key between is one undo, as in GNU readline. */
-static int type(int first, bool goes_on) {
-    char bytes[4] = {first};
-    size_t len = 1, used;
-    int byte = first;
+/* Types a character. All that is typed with no other key between is one undo, as in GNU readline. */
+static int type(const char *bytes, size_t len, bool goes_on) {
+    size_t used;
     if (!goes_on || lodvarn_reopen_group(s) <= 0) lodvarn_begin_group(s);
     int answer = lodvarn_type(s, bytes, len, &used);
-    while (answer == LODVARN_NOTHING && (byte = getchar()) != EOF) {
-        bytes[len++] = byte;
-        if (first == 0xc2 && 0x80 <= byte && byte < 0xa0) break; /* a control character */
-        answer = lodvarn_type(s, bytes, len, &used);
-    }
     lodvarn_end_group(s);
+    return answer;
+}
+
+/* Types the character that begins with a byte. Its other bytes are read as long as lodvarn_type finds it incomplete. */
+static int type_from(int first, bool goes_on) {
+    char bytes[4];
+    size_t len = 0;
+    int byte = first, answer;
+    do {
+        bytes[len++] = byte;
+        if (first == 0xc2 && 0x80 <= byte && byte < 0xa0) return LODVARN_NOTHING; /* a control character */
+        answer = type(bytes, len, goes_on);
+    } while (answer == LODVARN_NOTHING && (byte = getchar()) != EOF);
     if (answer == LODVARN_NOT_UTF8 && len > 1) ungetc(byte, stdin); /* it begins another key */
     return answer;
 }
@@ -209,7 +214,7 @@ static int press(int key) {
     was_text = is_text(key);
     if (key == CONTROL('g')) return lodvarn_abandon_group(s);
     if (key != '\t' && lodvarn_group_level(s) > 0) lodvarn_end_group(s); /* other keys keep the name that is tried */
-    if (is_text(key)) return type(key, goes_on);
+    if (is_text(key)) return type_from(key, goes_on);
     switch (key) {
     case CONTROL('a'): return lodvarn_move(s, lodvarn_to_line_start());
     case CONTROL('e'): return lodvarn_move(s, lodvarn_to_line_end());

@@ -189,6 +189,24 @@ static void hand_on(FILE *printed, FILE *to) {
     fclose(printed);
 }
 
+/* Whether the line is an indent or a dedent that changes nothing, of which a script says that it is done. It is a motion
+ * that leads nowhere, which is tried in a twin. */
+static int is_idle(struct typed *t, int *agrees) {
+    if (strncmp(line, "indent ", 7) && strncmp(line, "dedent ", 7)) return 0;
+    struct typed twin = *t;
+    FILE *said = tmpfile();
+    must(said != NULL);
+    twin.s = twin_of(t->s);
+    typed_line(&twin, line, said);
+    rewind(said);
+    int is = getc(said) == 'f';
+    fclose(said);
+    lodvarn *moved = twin_of(t->s);
+    *agrees = !is || (lodvarn_set_pos(moved, lodvarn_pos(moved)) > 0 && are_same(moved, twin.s));
+    lodvarn_close(&moved), lodvarn_close(&twin.s);
+    return is;
+}
+
 /* Runs the line, and writes it and what it prints. If a call made a group of its changes, they stand in one in the
  * script, and one that stands alone is parted there from what was before. */
 static void run_line(struct typed *t, FILE *script, FILE *answers) {
@@ -341,7 +359,11 @@ int main(int argc, char **argv) {
     for (long i = 0; i < lines; i++) {
         unsigned which = popped ? 2 : below(24);
         int agrees = which == 0 ? type_beside(&t, script, answers) : which == 1 ? find_beside(&t, script, answers) : 1;
-        if (which > 1) make_line(&t), run_line(&t, script, answers);
+        if (which > 1) {
+            make_line(&t);
+            if (is_idle(&t, &agrees)) strcpy(line, "where");
+            run_line(&t, script, answers);
+        }
         if (agrees && typed_reads_agree(&t)) continue;
         printf("calls disagree with each other after line %ld: %s\n", i + 1, which == 0 ? "typed bytes" : line);
         disagree++;
