@@ -152,8 +152,10 @@ def numbers_of_crate(source):
 
 
 def movements_of_header(numbers):
-    """The functions of the header that make movements: their arguments, and what makes the movement but for its text."""
-    given = {it.name: ", ".join(f"{one.name}: {in_crate(one.kind)}" for one in it.arguments) for it in header.functions()}
+    """The functions of the header that make movements: their arguments, and what makes a movement but its text."""
+    given = {
+        it.name: ", ".join(f"{one.name}: {in_crate(one.kind)}" for one in it.arguments) for it in header.functions()
+    }
     found = {}
     for name, made in MADE_BY_HEADER.findall(header.code()):
         made = re.sub(r"LODVARN_(\w+)", lambda it: str(numbers[it[1]]), made)
@@ -193,7 +195,7 @@ def main():
     made = {name: f"({given}) -> {' '.join(of.split())}" for name, given, of in MADE.findall(movements)}
     sums = [
         see("a call", {it.name: form_of(it) for it in header.calls()}, exports),
-        see("a struct", {in_crate(name): fields for name, fields in structs.items()}, structs_of_crate(crate + movements)),
+        see("a struct", {in_crate(name): its for name, its in structs.items()}, structs_of_crate(crate + movements)),
         see("a movement", movements_of_header(numbers), made),
         see("a number", kinds_of(numbers), numbers_of_crate(crate)),
         see("the enums that calls take", {"values": len(taken)}, {"values": len(set(taken))}),

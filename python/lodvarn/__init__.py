@@ -683,8 +683,8 @@ class Session:
         """Returns what hands out the oldest report, or None if none waits.
 
         It drops and hands out in one step of C, in which no signal handler runs. So a report waits until it is handed
-        out. If another call was made after it was read, as by a finalizer, it hands out nothing, and the report is to be
-        read again.
+        out. If another call was made after it was read, as by a finalizer, it hands out nothing, and the report is read
+        again.
         """
         report, turn = _new(_REPORT), _new(_SIZE)
         answer, texts, _ = _filled(_CHARS, lib.py_next_report, self._it, report, turn)
