@@ -11,6 +11,7 @@ ghost use Rattle.rl_base.specs.declared.listeners.Direction.{Direction};
 use crate::motion::RepeatCount;
 use unicode_segmentation::UnicodeSegmentation;
 
+mod bytes;
 mod classes;
 mod hits;
 mod words;

@@ -1,10 +1,11 @@
 -- What a search for a text finds is its nearest occurrence, and is what a search of bytes finds.
-use Rattle.rl_base.proofs.Common.{◌≡◌, ℕ, zero, suc, ◌+◌, ◌-◌, ◌<◌, ◌≤◌, ◌⊎◌, inl, inr, Bool, true, false, ◌&&◌, nat_le, nat_lt, cond, List, [], ◌∷◌, ◌++◌, length, reverse, reverse-append, take, drop, get_or, get_or-drop, get_or-take, length-drop, length-take-le, slice_range, Option, Some, None, option_map, MatchOption, IfSome, find, refl, sym, ap, subst, ◌∙◌, arith, eq-or-lt_of_le, and_parts, leb-true, ltb-true, IsUtf8, IsCharBoundary, IsCharBoundary-from_drop, IsCharBoundary-start, IsUtf8-drop, stands_at, Direction}
+use Rattle.rl_base.proofs.Common.{◌≡◌, ℕ, zero, suc, ◌+◌, ◌-◌, ◌<◌, ◌≤◌, ◌⊎◌, inl, inr, Bool, true, false, ◌&&◌, nat_le, nat_lt, cond, List, [], ◌∷◌, ◌++◌, length, reverse, reverse-append, take, take_all, drop, get_or, get_or-drop, get_or-take, length-drop, length-take-le, slice_range, Option, Some, None, option_map, MatchOption, IfSome, find, refl, sym, ap, subst, ◌∙◌, arith, eq-eqb, eq-or-lt_of_le, and_parts, leb-true, ltb-true, IsUtf8, IsCharBoundary, IsCharBoundary-from_drop, IsCharBoundary-start, IsUtf8-drop, stands_at, Direction}
 use Rattle.std.specs.declared.ops.Range.{Range}
 use Rattle.std.proofs.lemmas.Bool.{and_from, le-leb, lt-ltb, false≢true}
 use Rattle.std.specs.List.{range_with_len}
 use Rattle.unicode_segmentation.proofs.TextLemmas.{IsUtf8-after}
-use Rattle.memchr.specs.Find.{IsFirst, IsLast, OccursAt, FindsNeedle, FindsLastNeedle}
+use Rattle.memchr.specs.Find.{IsFirst, IsFirstByte, IsLast, NoneBefore, Nowhere, OccursAt, FindsNeedle, FindsLastNeedle, Passes, is_byte}
+use Rattle.memchr.proofs.lemmas.FindLemmas.{Nowhere-then}
 use Rattle.memchr.proofs.lemmas.MatchLemmas.{OccursAt-part, OccursAt-from_part, OccursAt-split}
 use Rattle.rl_base.specs.Search.{occurs, occurrence, range_at, find_text, IsNearest, HasNone}
 use Rattle.rl_base.specs.declared.listeners.Direction.TheVariants.{Forward, Backward}
@@ -287,3 +288,66 @@ module _ (text sought : List ℕ) (from : ℕ) where
         → find_text text from sought Backward ≡ option_map (range_at sought) r
     last_of_bytes hay needle r e n h =
         ap (option_map (range_at sought)) (last_at r (subst (λ l. FindsLastNeedle l sought r) (e ∙ ap (λ k. take k text) {x = from - 0} {y = from} (omega arith)) (subst (λ l. FindsLastNeedle hay l r) n h)))
+
+-- ---- a search of bytes by parts
+pub rest_is : (hay : List ℕ) (start : ℕ) → slice_range hay start (length hay) ≡ drop start hay
+rest_is hay start = take_all (length hay - start) (drop start hay) (omega (arith, length-drop start hay))
+
+module _ (hay needle : List ℕ) where
+  pub occurs_here : (at : ℕ) (rest : List ℕ) → rest ≡ drop at hay → at ≤ length hay → OccursAt rest needle 0 → OccursAt hay needle at
+  occurs_here at rest e within h = let same : at + 0 ≡ at = omega arith in subst (OccursAt hay needle) same (occurs_past hay needle at 0 within (subst (λ l. OccursAt l needle 0) e h))
+
+  pub here_occurs : (at : ℕ) (rest : List ℕ) → rest ≡ drop at hay → OccursAt hay needle at → OccursAt rest needle 0
+  here_occurs at rest e h =
+      let same : at - at ≡ 0 = omega arith in
+      subst (λ l. OccursAt l needle 0) (sym e) (subst (OccursAt (drop at hay) needle) same (past_occurs hay needle at at (omega arith) h))
+
+  -- what follows `start` was searched
+  pub finds_after : (start : ℕ) (rest : List ℕ) (r : Option ℕ) → rest ≡ drop start hay → start ≤ length hay → FindsNeedle rest needle 0 r → FindsNeedle hay needle start (option_map (λ at. start + at) r)
+  finds_after start rest r e within h = by r (subst (λ l. FindsNeedle l needle 0 r) e h)
+    where
+      by : (r : Option ℕ) → FindsNeedle (drop start hay) needle 0 r → FindsNeedle hay needle start (option_map (λ at. start + at) r)
+      by None h = λ k low high o.
+          let there = past_occurs hay needle start k low o in h (k - start) (omega arith) (omega (arith, there.fits)) there
+      by (Some at) h = (
+        record {
+          low = omega arith;
+          high = omega (arith, h.1.fits, length-drop start hay);
+          before = λ k low high o. h.0.before (k - start) (omega arith) (omega arith) (past_occurs hay needle start k low o);
+        },
+        occurs_past hay needle start at within h.1,
+      )
+
+  -- nothing was found before it
+  pub finds_from_front : (start : ℕ) (r : Option ℕ) → Nowhere (OccursAt hay needle) 0 start → FindsNeedle hay needle start r → FindsNeedle hay needle 0 r
+  finds_from_front start None front h = Nowhere-then front h
+  finds_from_front start (Some at) front h = (record { low = omega arith; high = h.0.high; before = Nowhere-then front h.0.before }, h.1)
+
+  -- by one byte of the needle
+  pub next_place : (index start b : ℕ) (rest : List ℕ) (r : Option ℕ) → rest ≡ drop (start + index) hay → b ≡ get_or needle index 0 → index < length needle → start + index < length hay
+      → IsFirstByte (is_byte b) rest r
+      → MatchOption (option_map (λ at. start + at) r) (Nowhere (OccursAt hay needle) start (length hay + 1)) (λ at. (start ≤ at) × (at < length hay) × Nowhere (OccursAt hay needle) start at)
+  next_place index start b rest r e byte inside within h = by r (subst (λ l. IsFirstByte (is_byte b) l r) e h)
+    where
+      passes : (k : ℕ) → start ≤ k → OccursAt hay needle k → Passes (is_byte b) (drop (start + index) hay) (k - start)
+      passes k low o =
+          let same : start + index + (k - start) ≡ k + index = omega arith in
+          eq-eqb _ _ (get_or-drop (start + index) hay (k - start) 0 ∙ ap (λ n. get_or hay n 0) same ∙ o.reads index inside ∙ sym byte)
+
+      by : (r : Option ℕ) → IsFirstByte (is_byte b) (drop (start + index) hay) r
+          → MatchOption (option_map (λ at. start + at) r) (Nowhere (OccursAt hay needle) start (length hay + 1)) (λ at. (start ≤ at) × (at < length hay) × Nowhere (OccursAt hay needle) start at)
+      by None h = λ k low high o. h (k - start) (omega arith) (omega (arith, o.fits, length-drop (start + index) hay)) (passes k low o)
+      by (Some at) h = (omega arith, omega (arith, h.0.high, length-drop (start + index) hay), λ k low high o. h.0.before (k - start) (omega arith) (omega arith) (passes k low o))
+
+  -- where the needle may stand next, if anywhere
+  module _ (start : ℕ) (next : Option ℕ) (front : Nowhere (OccursAt hay needle) 0 start)
+      (is_next : MatchOption next (Nowhere (OccursAt hay needle) start (length hay + 1)) (λ at. (start ≤ at) × (at < length hay) × Nowhere (OccursAt hay needle) start at)) where
+    pub nowhere_next : (r : Option ℕ) → next ≡ None → r ≡ None → FindsNeedle hay needle 0 r
+    nowhere_next r none same =
+        subst (FindsNeedle hay needle 0) (sym same)
+        (Nowhere-then front (subst (λ o. MatchOption o (Nowhere (OccursAt hay needle) start (length hay + 1)) (λ at. (start ≤ at) × (at < length hay) × Nowhere (OccursAt hay needle) start at)) none is_next))
+
+    pub next_at : (at : ℕ) → next ≡ Some at → NoneBefore (OccursAt hay needle) 0 (length hay) at × (start ≤ at)
+    next_at at some =
+        let here = subst (λ o. MatchOption o (Nowhere (OccursAt hay needle) start (length hay + 1)) (λ at. (start ≤ at) × (at < length hay) × Nowhere (OccursAt hay needle) start at)) some is_next in
+        (record { low = omega arith; high = here.1; before = Nowhere-then front here.2 }, here.0)

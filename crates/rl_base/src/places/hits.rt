@@ -8,6 +8,7 @@ ghost use Rattle.rl_base.specs.Text.{stands_at};
 
 use crate::listeners::Direction;
 use crate::motion::{CharSearch, RepeatCount};
+use crate::places::bytes::first_occurrence;
 use crate::places::next_pos;
 use memchr::memmem;
 use std::ops::Range;
@@ -135,7 +136,7 @@ fn find_ahead(text: &str, from: usize, sought: &str) -> Option<Range<usize>>
     requires from { IsCharBoundary text.now from }
     ensures { result ≡ find_text text.now from sought.now Forward }
 {
-    let start = from + memmem::find(text[from..].as_bytes(), sought.as_bytes())?;
+    let start = from + first_occurrence(text[from..].as_bytes(), sought.as_bytes())?;
     Some(start..start + sought.len())
 }
 
