@@ -1,5 +1,5 @@
 -- What stands whole at the front of some bytes, and typing as performed commands.
-use Rattle.rl_session.proofs.Common.{◌≡◌, ◌<◌, ℕ, Bool, List, [], ◌∷◌, ◌++◌, drop, take, length, slice_index, Option, None, Some, Result, nil_from_length, refl, sym, ap, subst, ◌∙◌, arith, inl, inr, IsUtf8, encode_utf8, State}
+use Rattle.rl_session.proofs.Common.{◌≡◌, ◌<◌, ℕ, Bool, List, [], ◌∷◌, ◌++◌, take, length, slice_index, Option, None, Some, Result, Ok, Err, replied, nil_from_length, refl, sym, ap, subst, ◌∙◌, arith, inl, inr, IsUtf8, encode_utf8, State}
 use Rattle.std.proofs.lemmas.List.{take_all, drop_all}
 use Rattle.std.proofs.lemmas.Str.{IsUtf8-from_ascii, chars-IsAscii, chars-nil, chars_past_char, utf8_valid_len-IsUtf8}
 use Rattle.std.proofs.lemmas.Str.Ascii.{IsAscii-cons, IsAscii-nil}
@@ -47,15 +47,17 @@ module _ (fault : Option TypeFault) (text : List ℕ) (typed : Typed) (old : Sta
   types_none none is = subst (λ cs. Types fault cs typed old result old) (sym (ap chars (nil_from_length text none) ∙ chars-nil)) (is, refl)
 
   module _ (rest : List ℕ) (c : ℕ) (new : State) (u : IsUtf8 text) (begins : text ≡ encode_utf8 c ++ rest) where
-    pub types_more : (at_end : Option Bool) (more : Typed) (mid : State) → more ≡ typed_more typed c at_end → Performed old (Insert c 1) (says.Inserted at_end) mid
-        → Types fault (chars rest) more mid result new → Types fault (chars text) typed old result new
-    types_more at_end more mid is performed types =
+    pub types_more : (done : Result (Option Bool) Fault) (at_end : Option Bool) (more : Typed) (mid : State) → Performed old (Insert c 1) (replied says.Inserted done) mid
+        → done ≡ Ok at_end → more ≡ typed_more typed c at_end → Types fault (chars rest) more mid result new → Types fault (chars text) typed old result new
+    types_more done at_end more mid performed ok is types =
         subst (λ cs. Types fault cs typed old result new) (sym (chars_past_char text rest c u begins))
-        (inr (at_end, mid, performed, subst (λ t. Types fault (chars rest) t mid result new) is types))
+        (inr (at_end, mid, subst (λ r. Performed old (Insert c 1) (replied says.Inserted r) mid) ok performed, subst (λ t. Types fault (chars rest) t mid result new) is types))
 
-    pub types_refused : (refusal : Fault) → Performed old (Insert c 1) (says.Refused refusal) new → result ≡ typed_until typed (Some (why.Refused refusal)) → Types fault (chars text) typed old result new
-    types_refused refusal performed is =
-        subst (λ cs. Types fault cs typed old result new) (sym (chars_past_char text rest c u begins)) (inl (refusal, performed, is))
+    pub types_refused : (done : Result (Option Bool) Fault) (refusal : Fault) → Performed old (Insert c 1) (replied says.Inserted done) new
+        → done ≡ Err refusal → result ≡ typed_until typed (Some (why.Refused refusal)) → Types fault (chars text) typed old result new
+    types_refused done refusal performed err is =
+        subst (λ cs. Types fault cs typed old result new) (sym (chars_past_char text rest c u begins))
+        (inl (refusal, subst (λ r. Performed old (Insert c 1) (replied says.Inserted r) new) err performed, is))
 
 -- typing is a run of calls
 types_calls : (fault : Option TypeFault) (cs : List ℕ) (typed : Typed) (old new : State) (result : Result Typed TypeFault) → Types fault cs typed old result new → Calls old new

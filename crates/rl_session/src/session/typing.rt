@@ -2,8 +2,6 @@
 ghost use Rattle.std.specs.Prelude.{◌≡◌, ◌∷◌, [], None, take};
 ghost use Rattle.std.specs.Str.{chars};
 ghost use Rattle.std.specs.Str.Lossy.{utf8_valid_len};
-ghost use Rattle.rl_session.specs.Performing.{Calls};
-ghost use Rattle.rl_session.specs.State.{State};
 ghost use Rattle.rl_session.specs.Typing.{Types, TypesBytes, fault_after, fault_in, nothing_typed, typed_until};
 
 use crate::session::{Fault, Session};
@@ -34,18 +32,24 @@ impl Session {
     /// Types what a terminal sent: inserts the characters that stand whole at the front of the bytes, each as `insert`
     /// does with n = 1. It stops before a part of a character at the end of the bytes, before bytes that are no UTF-8,
     /// and at a character whose insertion returns an error. Returns how many bytes were typed; the error only if it
-    /// stopped at the first character. `NotUtf8` leaves the session as it was, `Refused` as `insert` leaves it.
+    /// stopped at the first character. `NotUtf8` leaves the session as it was, `Refused` as `insert` leaves it. Inlined, as
+    /// `insert` is, for a single ASCII character, which is what most keys send.
+    #[inline(always)]
     pub fn type_bytes(&mut self, bytes: &[u8]) -> Result<Typed, TypeFault>
         ensures { TypesBytes bytes.now self.old result self.new }
     {
-        // A key mostly sends one ASCII character, which is found to be whole faster by itself.
         match bytes {
             [byte] if byte.is_ascii() => self.type_char(char::from(*byte)),
-            _ => {
-                let (text, fault) = whole_text(bytes);
-                self.type_text(text, fault)
-            }
+            _ => self.type_all(bytes),
         }
+    }
+
+    #[inline(never)]
+    fn type_all(&mut self, bytes: &[u8]) -> Result<Typed, TypeFault>
+        ensures { TypesBytes bytes.now self.old result self.new }
+    {
+        let (text, fault) = whole_text(bytes);
+        self.type_text(text, fault)
     }
 
     #[inline(always)]
@@ -117,9 +121,3 @@ fn fault_of(error_len: Option<usize>) -> Option<TypeFault>
         None => None,
     }
 }
-
-/// Typing is a run of performed commands: so the laws of these (`performing`) hold of it.
-#[tactic(auto, using(crate::proofs::Sessions::TypingLemmas::typing_calls))]
-pub fn typing_is_performed()
-    ensures { (bytes : List ℕ) (old new : State) (result : Result Typed TypeFault) → TypesBytes bytes old result new → Calls old new }
-{}
