@@ -275,10 +275,14 @@ impl Session {
     }
 
     /// Indents the lines of a movement by a number of spaces, or dedents them by at most that many bytes of blanks.
-    /// Answers true. `NoMemory` leaves it after the steps that it took.
+    /// Answers whether a byte goes in or out. If none does, it only counts as a motion that leads nowhere: what was undone
+    /// stays, and nothing is recorded or reported. `NoMemory` leaves it after the steps that it took.
     pub fn indent(&mut self, movement: &Movement, amount: u8, dedent: bool) -> Result<bool, Fault>
         ensures { Performed self.old (Command.Indent movement.now amount dedent) (replied Reply.Answer result) self.new }
     {
+        if !self.line.indent_changes(movement, amount, dedent) {
+            return self.move_by(&Movement::WholeBuffer);
+        }
         if !self.line.indent_fits(movement, amount, dedent) {
             return Err(Fault::TooLong);
         }
