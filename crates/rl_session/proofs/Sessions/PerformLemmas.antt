@@ -180,6 +180,26 @@ redo_done old left ended new reply forgets does resets free =
     let here = subst (λ s. Does (anew old) Redo reply s) (sym resets) (redo-anew old left reply does) in
     done Redo old old (anew old) ended ended new reply forgets here refl refl (says.Answer false, (refl, refl), λ w. w) free refl refl
 
+-- a motion that leads nowhere resets the ring alone
+stays : (kept left : State) (reply : Reply) → Step kept (Move WholeBuffer) reply left → (reply ≡ says.Answer false) × (left ≡ anew kept)
+stays kept left (says.Answer a) s = (ap says.Answer s.does.0.0, s.settles ∙ s.does.1 ∙ ap (λ l. record (anew kept) { line = l }) s.does.0.1)
+stays kept left _ s = absurd s.does
+
+pub idle : (old new : State) (m : Movement) (n : ℕ) (dedent : Bool) (reply : Reply) → indent_changes old.line m n dedent ≡ false → Performed old (Indent m n dedent) reply new
+    → (reply ≡ says.Answer false) × Forgets (anew old) new
+idle old new m n dedent reply none p = from reply (subst (λ c. Obeyed old c reply new) (ap (λ b. cond b (Indent m n dedent) (Move WholeBuffer)) none) p)
+  where
+    stops_not : (reply : Reply) → Stops old (Move WholeBuffer) reply → ⊥
+    stops_not (says.Refused TooLong) s = s
+    stops_not _ s = s
+
+    from : (reply : Reply) → Obeyed old (Move WholeBuffer) reply new → (reply ≡ says.Answer false) × Forgets (anew old) new
+    from reply (inl stopped) = absurd (stops_not reply stopped.0)
+    from reply (inr (inl unkept)) = absurd (subst WasRefused unkept.2.0 unkept.1)
+    from reply (inr (inr done)) =
+        let (said, left) = stays done.kept done.left reply done.step in
+        (said, subst (λ s. Forgets s new) (done.unites ∙ left ∙ ap anew done.keeps.1.1) done.forgets)
+
 -- an undo or a redo that the limit may bar: the record leads to the text again
 Walks-same : (r now : Record) (old new : Line) → now ≡ r → new ≡ old → Walks r old.text → Walks now new.text
 Walks-same r now old new e f w = subst (λ k. Walks k new.text) (sym e) (subst (λ (l : Line). Walks r l.text) (sym f) w)

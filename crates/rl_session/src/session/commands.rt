@@ -7,7 +7,7 @@
 ghost use Rattle.std.specs.Prelude.{◌≡◌, false, true, IfErr, MatchOption, OnOk, Some};
 ghost use Rattle.rl_line.specs.Deletions.{CanDeleteBy};
 ghost use Rattle.rl_session.specs.Commands.{deletion_of, with_changes};
-ghost use Rattle.rl_session.specs.Performing.{BarsWith, HasKept, Keeps, Performed, PerformedWith, Unites, carried, leaves_waiting, made_in_group, put_in};
+ghost use Rattle.rl_session.specs.Performing.{BarsWith, HasKept, Keeps, Obeyed, Performed, PerformedWith, Unites, carried, leaves_waiting, made_in_group, put_in};
 ghost use Rattle.rl_session.specs.State.{Ends};
 ghost use Rattle.rl_line.specs.Record.{freshness_told, parted};
 ghost use Rattle.rl_line.specs.Units.{end_times, still_waiting, unit_start};
@@ -283,6 +283,12 @@ impl Session {
         if !self.line.indent_changes(movement, amount, dedent) {
             return self.move_by(&Movement::WholeBuffer);
         }
+        self.indent_lines(movement, amount, dedent)
+    }
+
+    fn indent_lines(&mut self, movement: &Movement, amount: u8, dedent: bool) -> Result<bool, Fault>
+        ensures { Obeyed self.old (Command.Indent movement.now amount dedent) (replied Reply.Answer result) self.new }
+    {
         if !self.line.indent_fits(movement, amount, dedent) {
             return Err(Fault::TooLong);
         }
