@@ -17,9 +17,9 @@ TEXT = r'"(?:[^"\\]|\\.)*"'
 CONSTANT = re.compile(rf"const (\w+): &str = ({TEXT});")
 ESCAPE = re.compile(rb"\\(?:x(..)|u\{(\w+)\}|(.))")
 LETTERS = {b"n": b"\n", b"r": b"\r", b"t": b"\t", b"\\": b"\\", b'"': b'"'}
-# A line without a call prints bad, since it means nothing, or has a count of 0, by which a call does nothing.
+# A line without a call prints bad, since it means nothing, or has a count or an amount of 0, by which a call does nothing.
 NO_TIMES = re.compile(
-    rb"^(?:(?:move|kill|copy|(?:in|de)dent \d+) )?(?:ins|paste|yank|del|back|twords|undo|prevword|nextword|to|bword"
+    rb"^(?:(?:move|kill|copy|(?:in|de)dent \d+) )?(?:(?:in|de)dent|ins|paste|yank|del|back|twords|undo|prevword|nextword|to|bword"
     rb"|fword|find|bchar|fchar|up|down) 0+(?: |$)", re.M,
 )
 # An undo that goes otherwise by a call: soon after a command of several steps, which is one unit then; or in a group.

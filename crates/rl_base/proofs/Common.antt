@@ -40,7 +40,7 @@ pub use Rattle.rl_base.specs.KillGroups.{AllKills, Clears, Doing, Groups, Hears,
 pub use Rattle.rl_base.specs.KillRing.{IsRing, Ring, after_deletion, back_from, behind, cleared, cut_to, fitting, goes_after, in_new_slot, index_before, join_at, killed, killed_as, left_with, lent, new_index, new_ring, newest_first, next_index, popped_ring, put_at, raised, resized, ring_step, ruled, side_mode, size_of, text_back, turned, with_newest, within_bytes, yank, yank_popped, yank_size, yanked}
 pub use Rattle.rl_base.specs.Lines.{bytes_of, end_of_line, is_newline, last_line, line_number, lines, start_of_line, text_of_line}
 pub use Rattle.rl_base.specs.Notes.{Cuts, KeepsRoom, Notes, bytes_kept, notes}
-pub use Rattle.rl_base.specs.Reports.{AsOne, HasTexts, IsChange, IsLineText, IsQueue, LacksTexts, Leads, LeadsBy, Noted, Queue, ReadsTexts, ReadsWhole, Stand, Tells, WaitLeads, Waiting, Whole, after_texts, apart, as_one, forgotten, has_room_in, is_change, joined_cursors, kept, new_queue, noted, nothing_joined, noting, oldest, on_last, queue_step, reports_of, splice_of, taken_in, text_bytes, told_cursors, told_note, told_whole, waiting_of, with_cursors, with_note}
+pub use Rattle.rl_base.specs.Reports.{AsOne, HasTexts, IsChange, IsLineText, IsQueue, LacksTexts, Leads, LeadsBy, Noted, Queue, ReadsTexts, ReadsWhole, Stand, Tells, WaitLeads, Waiting, Whole, after_texts, apart, as_one, has_room_in, is_change, joined_cursors, kept, new_queue, noted, nothing_joined, noting, oldest, on_last, past_oldest, queue_step, reports_of, splice_of, taken_in, text_bytes, texts_of, told_cursors, told_note, told_whole, waiting_of, with_cursors, with_note}
 pub use Rattle.rl_base.specs.Search.{HitLies, char_places, chosen_hit, hit_ahead, hit_back, hits, nth_or_last, place_of_last, places_of, sought}
 pub use Rattle.rl_base.specs.Splice.{Covers, Outlasts, Splices, capped, folded, inverse, moved, spliced, told, untouched}
 pub use Rattle.rl_base.specs.Text.{fits_at, greatest_boundary, stands_at}

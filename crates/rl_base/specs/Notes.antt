@@ -7,11 +7,12 @@ use Rattle.rl_base.specs.declared.listeners.Refusal.{Refusal}
 use Rattle.rl_base.specs.declared.listeners.Refusal.TheVariants.{NoMemory}
 use Rattle.rl_base.specs.Reports.{Noted, kept, text_bytes}
 
--- what waits, the oldest first; how many bytes of texts may wait, of which none are kept if that is 0; and for how many
--- reports and bytes of texts there is memory
+-- what waits, the oldest first; the texts of the report that was taken last, until there is another; how many bytes of texts
+-- may wait, of which none are kept if that is 0; and for how many reports and bytes of texts there is memory
 pub record Notes : Type 0 where
   pub text_room : ℕ
   pub waiting : List Noted
+  pub taken : List ℕ
   pub places : ℕ
   pub bytes : ℕ
 
@@ -21,7 +22,7 @@ pub record KeepsRoom (old new : Notes) : Type 0 where
   pub places : old.places ≤ new.places
   pub bytes : old.bytes ≤ new.bytes
 
--- texts are kept, and there is no memory for them after those that wait and as many that are forgotten
+-- texts are kept, and there is no memory for them after those that wait and as many that are spent
 abbrev pub Lacks : List ℕ → Notes → Type 0
 Lacks texts n =
     (0 < length (kept n.text_room texts)) × (n.bytes < text_bytes n.waiting + text_bytes n.waiting + length (kept n.text_room texts))

@@ -22,15 +22,17 @@ pub data Waiting : Type 0 where
   Whole : (notes : List Noted) → Waiting
   AsOne : (all : Joined) → Waiting
 
--- room for so many reports and for so many bytes of their texts, of which none are kept if that is 0; and what waits
+-- room for so many reports and for so many bytes of their texts, of which none are kept if that is 0; what waits; and the
+-- texts of the report that was taken last, until there is another
 pub record Queue : Type 0 where
   pub room : ℕ
   pub text_room : ℕ
   pub waiting : Waiting
+  pub taken : List ℕ
 
 -- nothing waits; without texts there is room for one report, so that what came is always in the present text
 abbrev pub new_queue : ℕ → ℕ → Queue
-new_queue room text_room = record { room = if text_room == 0 then min room 1 else room; text_room = text_room; waiting = Whole [] }
+new_queue room text_room = record { room = if text_room == 0 then min room 1 else room; text_room = text_room; waiting = Whole []; taken = [] }
 
 -- a report of this kind is of a change of the text; the other two are marks
 abbrev pub is_change : ReportKind → Bool
@@ -129,7 +131,7 @@ with_cursors before after (AsOne all) =
 
 -- the queue with one more note
 abbrev pub queue_with : Noted → Queue → Queue
-queue_with n q = record q { waiting = with_note q.room q.text_room n q.waiting }
+queue_with n q = record q { waiting = with_note q.room q.text_room n q.waiting; taken = [] }
 
 -- the queue once it was noted that at a place what went gave way to what came
 abbrev pub noting : ReportKind → ℕ → List ℕ → List ℕ → Queue → Queue
@@ -172,14 +174,14 @@ abbrev pub without_oldest : Waiting → Waiting
 without_oldest (Whole ns) = Whole (drop 1 ns)
 without_oldest (AsOne all) = Whole []
 
--- the queue without its oldest
-abbrev pub forgotten : Queue → Queue
-forgotten q = record q { waiting = without_oldest q.waiting }
-
 -- the texts of a note, if there is one
 abbrev pub texts_of : Option Noted → List ℕ
 texts_of None = []
 texts_of (Some n) = n.texts
+
+-- the queue once its oldest was taken
+abbrev pub past_oldest : Queue → Queue
+past_oldest q = record q { waiting = without_oldest q.waiting; taken = texts_of (oldest q.waiting) }
 
 -- an event changes a text: it is no start or stop of a kill, and no telling of cursors
 abbrev pub IsChange : Event → Type 0
@@ -261,14 +263,14 @@ pub record ReadsTexts (placed : Bool) (q : Queue) (n : Noted) (old new : List �
   pub text : IsLineText (after_texts n old)
   pub tells : TellsByTexts n old
   pub cursors : OnTrue placed (Stand n.report.cursors old (after_texts n old))
-  pub rest : Leads placed (forgotten q) (after_texts n old) new
+  pub rest : Leads placed (past_oldest q) (after_texts n old) new
 
 -- the oldest note, which has no texts, is all that waits: what came stands in the present text, which it leads to
 pub record ReadsWhole (placed : Bool) (q : Queue) (n : Noted) (old new : List ℕ) : Type 0 where
-  pub all : oldest (forgotten q).waiting ≡ None
+  pub all : oldest (past_oldest q).waiting ≡ None
   pub tells : after_numbers n.report new old ≡ new
   pub cursors : OnTrue placed (Stand n.report.cursors old new)
-  pub rest : Leads placed (forgotten q) new new
+  pub rest : Leads placed (past_oldest q) new new
 
 -- all as one if it was folded, and else the notes
 abbrev pub waiting_of : Option Joined → List Noted → Waiting

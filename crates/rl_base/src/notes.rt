@@ -1,5 +1,5 @@
 //! Reports in order, with their texts one after another in one text.
-ghost use Rattle.std.specs.Prelude.{◌≡◌, ◌+◌, ◌-◌, ◌^◌, ◌<◌, ◌≤◌, ◌⊎◌, ◌++◌, ◌∷◌, [], None, IfErr, IfOk, OnOk, drop, encode_utf8, is_some, length, option_map};
+ghost use Rattle.std.specs.Prelude.{◌≡◌, ◌+◌, ◌-◌, ◌^◌, ◌<◌, ◌≤◌, ◌⊎◌, ◌++◌, ◌∷◌, [], None, IfErr, IfOk, OnOk, drop, encode_utf8, length, option_map};
 ghost use Rattle.std.specs.Str.{IsCharBoundary};
 ghost use Rattle.std.specs.String.{string_bytes, string_capacity};
 ghost use Rattle.std.specs.VecDeque.{deque_len, deque_capacity};
@@ -14,22 +14,25 @@ use std::alloc::Global;
 use std::collections::VecDeque;
 use std::marker::Model;
 
-/// Reports that wait, the oldest first, each with its texts: what went, and right after it what came. What is forgotten costs
-/// no more than what was put in.
+/// Reports that wait, the oldest first, each with its texts: what went, and right after it what came; and the texts of the
+/// report that was taken last. What is taken costs no more than what was put in.
 #[derive(Drop)]
 pub(crate) struct Notes {
     // How many bytes of texts may wait; 0 if none are kept.
     text_room: usize,
     waiting: VecDeque<Report>,
-    // The texts of the reports that wait, one after another. Before them stand those of reports that are forgotten, which are
-    // never more, so that not all move where one is.
+    // The texts of the reports that wait, one after another. Before them stand those of reports that were taken. If these
+    // are more, they are dropped before another is put in, so that not all move then.
     texts: String,
-    // How many bytes of the texts are of forgotten reports.
+    // How many bytes of the texts are of reports that were taken.
     spent: usize,
+    // Where among them those of the report begin that was taken last.
+    taken_at: usize,
 }
 
 impl Model for Notes {
-    ghost use Rattle.std.specs.Prelude.{◌+◌, ◌≤◌, drop, length};
+    ghost use Rattle.std.specs.Prelude.{◌≤◌, drop, length, slice_range};
+    ghost use Rattle.std.specs.Str.{IsCharBoundary};
     ghost use Rattle.std.specs.String.{string_bytes, string_capacity};
     ghost use Rattle.std.specs.VecDeque.{deque_capacity};
     ghost use Rattle.rl_base.specs.Notes.{Cuts, Notes, notes};
@@ -39,18 +42,20 @@ impl Model for Notes {
     ghost view = { λ n. record {
       text_room = n.text_room;
       waiting = notes n.text_room n.waiting.items (drop n.spent (string_bytes n.texts));
+      taken = slice_range (string_bytes n.texts) n.taken_at n.spent;
       places = deque_capacity n.waiting;
       bytes = string_capacity n.texts;
     } };
 
-    ghost invariant = { λ n. (n.spent + n.spent ≤ length (string_bytes n.texts)) × Cuts n.text_room n.waiting.items (drop n.spent (string_bytes n.texts)) };
+    ghost invariant = { λ n. (n.taken_at ≤ n.spent) × (n.spent ≤ length (string_bytes n.texts)) × IsCharBoundary (string_bytes n.texts) n.taken_at
+        × Cuts n.text_room n.waiting.items (drop n.spent (string_bytes n.texts)) };
 }
 
 impl Notes {
-    /// Nothing waits, and there is memory for so many reports and, with forgotten ones before them, for so many bytes of texts.
+    /// Nothing waits, and there is memory for so many reports and, with taken ones before them, for so many bytes of texts.
     /// Refused only if memory is out, and never if it needs none.
     pub(crate) fn with_room(alloc: Global, room: usize, text_room: usize) -> Result<Self, Refusal>
-        ensures ok { IfOk result (λ n. (n.text_room ≡ text_room) × (n.waiting ≡ []) × (room ≤ n.places) × (text_room + text_room ≤ n.bytes)) }
+        ensures ok { IfOk result (λ n. (n.text_room ≡ text_room) × (n.waiting ≡ []) × (n.taken ≡ []) × (room ≤ n.places) × (text_room + text_room ≤ n.bytes)) }
         ensures err { IfErr result (λ r. (r ≡ NoMemory) × ((0 < room) ⊎ (0 < text_room))) }
     {
         let Some(bytes) = text_room.checked_add(text_room) else {
@@ -63,6 +68,7 @@ impl Notes {
             waiting,
             texts,
             spent: 0,
+            taken_at: 0,
         })
     }
 
@@ -92,25 +98,6 @@ impl Notes {
         self.texts.len() - self.spent
     }
 
-    /// The oldest report that waits, None if none does.
-    pub(crate) fn oldest(&self) -> Option<Report>
-        ensures { result ≡ option_map (λ n. n.report) (oldest (Whole self.now.waiting)) }
-    {
-        self.waiting.front().copied()
-    }
-
-    /// Its texts: what went, and right after it what came. Empty if none are kept, and if none waits.
-    #[tactic(auto, using(crate::proofs::Queue::QueueLemmas::cutting))]
-    pub(crate) fn oldest_texts(&self) -> &str
-        ensures { result.now ≡ texts_of (oldest (Whole self.now.waiting)) }
-    {
-        let Some(oldest) = self.waiting.front() else {
-            return "";
-        };
-        let texts = &self.texts.as_str()[self.spent..];
-        &texts[..bytes_kept(self.text_room, oldest)]
-    }
-
     // All that wait as one.
     #[tactic(auto, using(crate::proofs::Queue::QueueLemmas::joining))]
     pub(crate) fn as_one(&self) -> Joined
@@ -123,33 +110,36 @@ impl Notes {
         all
     }
 
-    /// Forgets the oldest report, so that the next becomes the oldest. Answers whether a report waited.
-    pub(crate) fn forget(&mut self) -> bool
-        ensures waited { result ≡ is_some (oldest (Whole self.old.waiting)) }
+    /// Takes the oldest report off those that wait; None if none does. `taken_texts` lends its texts.
+    pub(crate) fn take(&mut self) -> Option<Report>
+        ensures taken { result ≡ option_map (λ n. n.report) (oldest (Whole self.old.waiting)) }
         ensures waiting { self.new.waiting ≡ drop 1 self.old.waiting }
+        ensures texts { self.new.taken ≡ texts_of (oldest (Whole self.old.waiting)) }
         ensures room { KeepsRoom self.old self.new }
     {
-        let Some(oldest) = self.waiting.pop_front() else {
-            return false;
-        };
-        // Mostly it is the only one.
-        if self.waiting.is_empty() {
-            self.texts.clear();
-            self.spent = 0;
-            return true;
-        }
-        let spent = self.spent + bytes_kept(self.text_room, &oldest);
-        self.spent = drop_spent(&mut self.texts, spent);
-        true
+        self.taken_at = self.spent;
+        let oldest = self.waiting.pop_front()?;
+        self.spent += bytes_kept(self.text_room, &oldest);
+        Some(oldest)
+    }
+
+    /// The texts of the report that was taken last: what went, and right after it what came. Empty if none are kept, if none
+    /// waited then, and once another is put in.
+    #[tactic(auto, using(crate::proofs::Queue::QueueLemmas::at_spent))]
+    pub(crate) fn taken_texts(&self) -> &str
+        ensures { result.now ≡ self.now.taken }
+    {
+        &self.texts.as_str()[self.taken_at..self.spent]
     }
 
     /// Forgets all.
     pub(crate) fn clear(&mut self)
-        ensures { self.new ≡ record self.old { waiting = [] } }
+        ensures { self.new ≡ record self.old { waiting = []; taken = [] } }
     {
         self.waiting.clear();
         self.texts.clear();
         self.spent = 0;
+        self.taken_at = 0;
     }
 
     /// Puts a report at the end: at a place what went gave way to what came. There is memory for one more. Refused only where memory
@@ -165,8 +155,11 @@ impl Notes {
         requires { length self.old.waiting < self.old.places }
         ensures done { OnOk result (self.new.waiting ≡ self.old.waiting ++ noted self.old.text_room kind at gone.now come.now ∷ []) }
         ensures err { IfErr result (λ r. (r ≡ NoMemory) × (self.new.waiting ≡ self.old.waiting) × Lacks (gone.now ++ come.now) self.old) }
+        ensures texts { self.new.taken ≡ [] }
         ensures room { KeepsRoom self.old self.new }
     {
+        self.spent = drop_spent(&mut self.texts, self.spent);
+        self.taken_at = self.spent;
         keep_texts(&mut self.texts, self.text_room, gone, come)?;
         let report = report_of(kind, at, gone.len(), come.len());
         self.waiting.push_back_reserved(report);
@@ -181,8 +174,11 @@ impl Notes {
         requires place { length self.old.waiting < self.old.places }
         ensures done { OnOk result (self.new.waiting ≡ self.old.waiting ++ noted self.old.text_room CharInserted at [] (encode_utf8 c) ∷ []) }
         ensures err { IfErr result (λ r. (r ≡ NoMemory) × (self.new.waiting ≡ self.old.waiting) × Lacks (encode_utf8 c) self.old) }
+        ensures texts { self.new.taken ≡ [] }
         ensures room { KeepsRoom self.old self.new }
     {
+        self.spent = drop_spent(&mut self.texts, self.spent);
+        self.taken_at = self.spent;
         self.texts.push(c)?;
         let report = report_of(ReportKind::CharInserted, at, 0, c.len_utf8());
         self.waiting.push_back_reserved(report);
@@ -195,8 +191,9 @@ impl Notes {
     pub(crate) fn push_numbers(&mut self, report: Report)
         requires none { self.old.text_room ≡ 0 }
         requires place { length self.old.waiting < self.old.places }
-        ensures { self.new ≡ record self.old { waiting = self.old.waiting ++ record { report = report; texts = [] } ∷ [] } }
+        ensures { self.new ≡ record self.old { waiting = self.old.waiting ++ record { report = report; texts = [] } ∷ []; taken = [] } }
     {
+        self.taken_at = self.spent;
         self.waiting.push_back_reserved(report);
     }
 
@@ -226,14 +223,20 @@ fn tell_last(waiting: &mut VecDeque<Report>, before: usize, after: usize)
     }
 }
 
-// Drops the spent texts once they are more than those that wait, so that a byte moves at most once for each that is forgotten.
+// Drops the spent texts if they are more than those that wait, so that a byte moves at most once for each that was taken.
 fn drop_spent(texts: &mut String, spent: usize) -> usize
     requires { IsCharBoundary (string_bytes texts.old) spent }
     ensures left { drop result (string_bytes texts.new) ≡ drop spent (string_bytes texts.old) }
     ensures less { result + result ≤ length (string_bytes texts.new) }
     ensures capacity { string_capacity texts.old ≤ string_capacity texts.new }
 {
-    if spent <= texts.len() - spent {
+    let waiting = texts.len() - spent;
+    // Mostly none waits.
+    if waiting == 0 {
+        texts.clear();
+        return 0;
+    }
+    if spent <= waiting {
         return spent;
     }
     if texts.replace_range(..spent, "").is_err() {

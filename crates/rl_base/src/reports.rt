@@ -1,10 +1,10 @@
 //! A queue of reports of changes, for who reads late.
-ghost use Rattle.std.specs.Prelude.{◌≡◌, ℕ, ◌^◌, ◌<◌, ◌⊎◌, [], Bool, List, None, Some, encode_utf8, false, fold, is_some, true, length, option_map, IfErr, IfOk};
+ghost use Rattle.std.specs.Prelude.{◌≡◌, ℕ, ◌^◌, ◌<◌, ◌⊎◌, [], Bool, List, None, Some, encode_utf8, false, fold, true, length, option_map, IfErr, IfOk};
 ghost use Rattle.std.specs.Str.{IsCharBoundary};
 ghost use Rattle.rl_base.specs.declared.listeners.Refusal.TheVariants.{NoMemory};
 ghost use Rattle.rl_base.specs.declared.reports.ReportKind.TheVariants.{CharInserted};
 ghost use Rattle.rl_base.specs.Event.{Event, Cursors, Start, Stop, apply};
-ghost use Rattle.rl_base.specs.Reports.{AsOne, HasTexts, IsChange, IsLineText, LacksTexts, Leads, Noted, Queue, ReadsTexts, ReadsWhole, as_one, count_of, forgotten, has_room_in, is_change, joined_cursors, new_queue, noting, oldest, queue_step, queue_with, taken_in, texts_of, told_whole};
+ghost use Rattle.rl_base.specs.Reports.{AsOne, HasTexts, IsChange, IsLineText, LacksTexts, Leads, Noted, Queue, ReadsTexts, ReadsWhole, as_one, count_of, has_room_in, is_change, joined_cursors, new_queue, noting, oldest, past_oldest, queue_step, queue_with, taken_in, told_whole};
 
 use crate::listeners::{ChangeListener, DeleteListener, Direction, Refusal};
 use crate::notes::{Notes, bytes_kept, report_of};
@@ -157,9 +157,9 @@ fn join_cursors(
 }
 
 /// A queue of reports of changes, for a late reader: what it hears as a listener becomes a report, which waits until it
-/// is forgotten. It refuses nothing, and takes no memory once it is made. If there is no room for one more report,
+/// is taken. It refuses nothing, and takes no memory once it is made. If there is no room for one more report,
 /// or for its texts, all that waits and the new one become one report of the kind `Folded`, which takes in each later
-/// change too, until it is forgotten. A late reader loses detail, but never gets out of step. Without texts at most one report waits: a
+/// change too, until it is taken. A late reader loses detail, but never gets out of step. Without texts at most one report waits: a
 /// change that comes before it was read is folded into it, so what came is always in the present text.
 #[derive(Drop)]
 pub struct Reports {
@@ -174,7 +174,7 @@ impl Model for Reports {
 
     ghost Value = { Queue };
 
-    ghost view = { λ r. record { room = r.room; text_room = r.notes.text_room; waiting = waiting_of r.folded r.notes.waiting } };
+    ghost view = { λ r. record { room = r.room; text_room = r.notes.text_room; waiting = waiting_of r.folded r.notes.waiting; taken = r.notes.taken } };
 
     ghost invariant = { λ r. IsQueue r.room r.notes.text_room r.notes.places r.notes.bytes r.notes.waiting r.folded };
 }
@@ -206,36 +206,25 @@ impl Reports {
         self.notes.len()
     }
 
-    /// The oldest report that waits, None if nothing does.
-    pub fn oldest(&self) -> Option<Report>
-        ensures { result ≡ option_map (λ n. n.report) (oldest self.now.waiting) }
+    /// Takes the oldest report that waits; None if none does. `taken_texts` lends its texts.
+    pub fn take(&mut self) -> Option<Report>
+        ensures taken { result ≡ option_map (λ n. n.report) (oldest self.old.waiting) }
+        ensures left { self.new ≡ past_oldest self.old }
     {
-        if let Some(all) = self.folded {
-            return Some(all.report());
-        }
-        self.notes.oldest()
+        let Some(all) = self.folded else {
+            return self.notes.take();
+        };
+        self.folded = None;
+        self.notes.clear();
+        Some(all.report())
     }
 
-    /// The texts of the oldest report: what went, and right after it what came. Empty where no texts are kept, where
-    /// nothing waits, and of a folded report.
-    pub fn oldest_texts(&self) -> &str
-        ensures { result.now ≡ texts_of (oldest self.now.waiting) }
+    /// The texts of the report that was taken last, until it hears of another change or mark: what went, and right after
+    /// it what came. Empty if no texts are kept, of a folded report, and if none waited.
+    pub fn taken_texts(&self) -> &str
+        ensures { result.now ≡ self.now.taken }
     {
-        self.notes.oldest_texts()
-    }
-
-    /// Forgets the oldest report, so that the next becomes the oldest. Answers whether a report waited. Where a change
-    /// was heard since the oldest was read, it may by now stand folded with that change, which is then forgotten too:
-    /// so read and forget with no edit between.
-    pub fn forget(&mut self) -> bool
-        ensures waited { result ≡ is_some (oldest self.old.waiting) }
-        ensures forgotten { self.new ≡ forgotten self.old }
-    {
-        if self.folded.is_some() {
-            self.folded = None;
-            return true;
-        }
-        self.notes.forget()
+        self.notes.taken_texts()
     }
 
     // Whether one more report would find room, with so many bytes of texts.
@@ -262,7 +251,7 @@ impl Reports {
     #[cold]
     #[inline(never)]
     fn fold_in(&mut self, report: Report)
-        ensures { self.new ≡ record self.old { waiting = AsOne (taken_in (as_one self.old.waiting) report) } }
+        ensures { self.new ≡ record self.old { waiting = AsOne (taken_in (as_one self.old.waiting) report); taken = [] } }
     {
         let mut all = self.as_one();
         all.take_in(report);

@@ -1,9 +1,9 @@
 //! What changed in a text since it was asked last, and a queue of reports for who wants each change.
-ghost use Rattle.std.specs.Prelude.{◌≡◌, ◌<◌, None, Some, IfErr, OnOk, is_some};
+ghost use Rattle.std.specs.Prelude.{◌≡◌, ◌<◌, None, Some, IfErr, OnOk};
 ghost use Rattle.std.specs.Option.{option_map};
-ghost use Rattle.rl_base.specs.Reports.{new_queue, texts_of};
+ghost use Rattle.rl_base.specs.Reports.{new_queue};
 ghost use Rattle.rl_base.specs.Splice.{told, untouched};
-ghost use Rattle.rl_base.specs.Watch.{RefusesQueue, new_watch, next_note, past_next, waiting_count};
+ghost use Rattle.rl_base.specs.Watch.{RefusesQueue, new_watch, next_note, past_next, taken_texts, waiting_count};
 
 use crate::listeners::{ChangeListener, DeleteListener, Direction, Refusal};
 use crate::reports::{Report, Reports};
@@ -116,34 +116,25 @@ impl Watch {
         }
     }
 
-    /// The oldest report that waits; None if none does, or none are kept.
-    pub fn next_report(&self) -> Option<Report>
-        ensures { result ≡ option_map (λ n. n.report) (next_note self.now) }
+    /// Takes the oldest report that waits; None if none does, or none are kept. `taken_texts` lends its texts.
+    pub fn take_report(&mut self) -> Option<Report>
+        ensures taken { result ≡ option_map (λ n. n.report) (next_note self.old) }
+        ensures left { self.new ≡ past_next self.old }
     {
-        match &self.reports {
-            Some(reports) => reports.oldest(),
+        match &mut self.reports {
+            Some(reports) => reports.take(),
             None => None,
         }
     }
 
-    /// Its texts: what went, and right after it what came. Empty if there is no such report, and if it has none.
-    pub fn next_texts(&self) -> &str
-        ensures { result.now ≡ texts_of (next_note self.now) }
+    /// The texts of the report that was taken last, until the watch hears of another change or mark: what went, and right
+    /// after it what came. Empty if no texts are kept, of a folded report, and if none waited.
+    pub fn taken_texts(&self) -> &str
+        ensures { result.now ≡ taken_texts self.now }
     {
         match &self.reports {
-            Some(reports) => reports.oldest_texts(),
+            Some(reports) => reports.taken_texts(),
             None => "",
-        }
-    }
-
-    /// Forgets the oldest report, so that the next becomes the oldest. Answers whether a report waited.
-    pub fn forget_report(&mut self) -> bool
-        ensures waited { result ≡ is_some (next_note self.old) }
-        ensures forgotten { self.new ≡ past_next self.old }
-    {
-        match &mut self.reports {
-            Some(reports) => reports.forget(),
-            None => false,
         }
     }
 }

@@ -60,9 +60,8 @@ fn reads_often(session: &mut Session, command: &Command, count: usize) -> usize 
     let mut came: usize = 0;
     for _ in 0..count {
         let _ = session.apply(command);
-        if let Some(report) = session.watch().next_report() {
+        if let Some(report) = session.take_report() {
             came = came.saturating_add(report.new_len);
-            session.forget_report();
         }
     }
     came

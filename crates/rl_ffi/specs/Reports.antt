@@ -1,5 +1,5 @@
 -- What the calls do that tell what changed in a session's text.
-use Rattle.std.specs.Prelude.{◌≡◌, ◌⊎◌, ℕ, ◌<◌, ◌-◌, List, length, min, Option, Some, None, is_some, option_map}
+use Rattle.std.specs.Prelude.{◌≡◌, ◌⊎◌, ℕ, ◌<◌, ◌-◌, List, length, min, Option, Some, None, option_map}
 use Rattle.std.specs.Option.{option_map_or}
 use Rattle.rl_base.specs.declared.reports.Report.{Report}
 use Rattle.rl_base.specs.declared.splice.Splice.{Splice}
@@ -8,7 +8,7 @@ use Rattle.rl_base.specs.Reports.{Noted, new_queue, texts_of}
 use Rattle.rl_base.specs.Splice.{told, untouched}
 use Rattle.rl_base.specs.Watch.{RefusesQueue, next_note, past_next}
 use Rattle.rl_session.specs.State.{State, with_watch}
-use Rattle.rl_ffi.specs.Answers.{of_watch_fault, truth}
+use Rattle.rl_ffi.specs.Answers.{of_watch_fault}
 use Rattle.rl_ffi.specs.Calls.{Effect, EffectOut, Writes}
 use Rattle.rl_ffi.specs.Numbers.{kind_number}
 use Rattle.rl_ffi.specs.declared.answers.Answer.{Answer}
@@ -46,9 +46,8 @@ abbrev pub TellsReport : Option Report → List ℕ → Answer → CReport → C
 TellsReport None texts n out out' = (n ≡ Nothing) × (out' ≡ out)
 TellsReport (Some r) texts n out out' = (n ≡ Done) × IsShapeOf r texts out'
 
-abbrev pub TellsNote : Option Noted → Answer → CReport → CReport → Type 0
-TellsNote note = TellsReport (option_map (λ (n : Noted). n.report) note) (texts_of note)
-
--- the oldest report is forgotten, if one waits
-abbrev pub Forgets : Effect
-Forgets s n new = (n ≡ truth (is_some (next_note s.pair.watch))) × (new ≡ with_watch (past_next s.pair.watch) s)
+-- the oldest report is taken and told, if one waits
+abbrev pub TakesReport : EffectOut CReport
+TakesReport s n new out out' =
+    TellsReport (option_map (λ (r : Noted). r.report) (next_note s.pair.watch)) (texts_of (next_note s.pair.watch)) n out out'
+    × (new ≡ with_watch (past_next s.pair.watch) s)

@@ -1,11 +1,11 @@
 //! The calls that tell what changed in a session's text.
 ghost use Rattle.std.specs.Prelude.{None};
-ghost use Rattle.rl_base.specs.Watch.{next_note, waiting_count};
+ghost use Rattle.rl_base.specs.Watch.{waiting_count};
 ghost use Rattle.rl_session.specs.State.{State, with_watch};
-ghost use Rattle.rl_ffi.specs.Calls.{Finds, Tells, Through, ThroughOut, becomes};
-ghost use Rattle.rl_ffi.specs.Reports.{Forgets, TakesChange, TellsNote, TellsReport, Watches};
+ghost use Rattle.rl_ffi.specs.Calls.{Finds, Through, ThroughOut, becomes};
+ghost use Rattle.rl_ffi.specs.Reports.{TakesChange, TakesReport, TellsReport, Watches};
 
-use crate::answers::{Answer, of_watch_fault, truth};
+use crate::answers::{Answer, of_watch_fault};
 use crate::handle::{Handle, of};
 use crate::numbers::kind_number;
 use crate::shapes::{CReport, CSplice};
@@ -75,14 +75,11 @@ fn write_report(found: Option<Report>, texts: &str, report: &mut CReport) -> Ans
     Answer::Done
 }
 
-pub fn lodvarn_next_report(s: &mut Handle, report: &mut CReport) -> i32
-    ensures { Tells (λ (s : State). TellsNote (next_note s.pair.watch)) s.old result s.new report.old report.new }
+pub fn lodvarn_take_report(s: &mut Handle, report: &mut CReport) -> i32
+    ensures { ThroughOut TakesReport s.old result s.new report.old report.new }
 {
-    of!(s, session => write_report(session.watch().next_report(), session.watch().next_texts(), report))
-}
-
-pub fn lodvarn_forget_report(s: &mut Handle) -> i32
-    ensures { Through Forgets s.old result s.new }
-{
-    of!(s, session => truth(session.forget_report()))
+    of!(s, session => {
+        let found = session.take_report();
+        write_report(found, session.watch().taken_texts(), report)
+    })
 }

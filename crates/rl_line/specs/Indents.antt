@@ -9,7 +9,7 @@ use Rattle.rl_base.specs.Text.{greatest_boundary}
 use Rattle.rl_base.specs.declared.listeners.Direction.TheVariants.{Forward}
 use Rattle.rl_base.specs.declared.motion.Movement.{Movement}
 use Rattle.rl_line.specs.Line.{Line}
-use Rattle.rl_line.specs.Plan.{Step, Plan, after_steps, single}
+use Rattle.rl_line.specs.Plan.{Step, Plan, after_steps, bytes_of, single}
 use Rattle.rl_line.specs.Ranges.{indented, text_in}
 
 -- the first line that holds a byte of a range, and the last; an empty range counts as a byte of the line that it lies in
@@ -66,3 +66,7 @@ indent_plan line mvt n dedent =
     let r = indented line mvt in
     let first = first_line line.text r in
     lines_plan dedent n (slice_range (lines line.text) first (final_line line.text r + 1)) (start_of_line line.text first) line.cursor
+
+-- whether a byte goes in or out then
+abbrev pub indent_changes : Line → Movement → ℕ → Bool → Bool
+indent_changes line mvt n dedent = nat_lt 0 (bytes_of (indent_plan line mvt n dedent).steps)

@@ -7,7 +7,7 @@ use Rattle.std.specs.declared.alloc.Global.{Global}
 use Rattle.rl_base.specs.KillRing.{yank, yank_pop, yank_size}
 use Rattle.rl_line.specs.Change.{greatest_ahead_over, greatest_back_over}
 use Rattle.rl_line.specs.Edits.{CanInsertStr, insert_str_plan, replace_plan, too_long}
-use Rattle.rl_line.specs.Indents.{indent_plan}
+use Rattle.rl_line.specs.Indents.{indent_changes, indent_plan}
 use Rattle.rl_line.specs.LetterCase.{edit_word_plan}
 use Rattle.rl_line.specs.Line.{Line}
 use Rattle.rl_line.specs.LineRanges.{IsRange}
@@ -24,6 +24,7 @@ use Rattle.rl_session.specs.Options.{no_bound}
 use Rattle.rl_session.specs.Replies.{replied}
 use Rattle.rl_session.specs.Run.{Row}
 use Rattle.rl_session.specs.State.{State}
+use Rattle.rl_base.specs.declared.motion.Movement.TheVariants.{WholeBuffer}
 use Rattle.rl_session.specs.declared.session.Command.{Command}
 use Rattle.rl_session.specs.declared.session.Command.TheVariants.{Abandon, Copy, EditWord, Indent, Insert, InsertStr, Keep, KeepUndone, LinePlace, Move, Part, Paste, Redo, Reopen, Replace, SetPos, TransposeChars, TransposeWords, Truncate, Undo, Update, Yank, YankPop, Begin, End, EndOne}
 use Rattle.rl_session.specs.declared.session.Fault.{Fault}
@@ -195,10 +196,19 @@ pub record Carried (old : State) (command : Command) (reply : Reply) (new : Stat
 abbrev pub Unkept : State → Command → Reply → State → Type 0
 Unkept old command reply new = ¬ (IsStopped old command) × WasRefused reply × Keeps (asks_to_keep old command) old reply new
 
--- from old, the command may have this reply and lead to new: nothing was done; or it was not begun; or it was done
-abbrev pub Performed : State → Command → Reply → State → Type 0
-Performed old command reply new =
+-- nothing was done; or it was not begun; or it was done
+abbrev pub Obeyed : State → Command → Reply → State → Type 0
+Obeyed old command reply new =
     (Stops old command reply × (new ≡ old)) ⊎ (Unkept old command reply new ⊎ Carried old command reply new)
+
+-- what a command counts as: an indent by which no byte would go in or out, as a motion that leads nowhere
+abbrev pub counted_as : State → Command → Command
+counted_as s (Indent m amount dedent) = if indent_changes s.line m amount dedent then Indent m amount dedent else Move WholeBuffer
+counted_as s command = command
+
+-- from old, the command may have this reply and lead to new
+abbrev pub Performed : State → Command → Reply → State → Type 0
+Performed old command reply new = Obeyed old (counted_as old command) reply new
 
 -- the same of a command with a text, whichever value of these bytes the text is
 abbrev pub PerformedWith : List ℕ → (String Global → Command) → State → Reply → State → Type 0
@@ -216,7 +226,7 @@ keeping true old reply kept keeps = record { before = old; command = KeepUndone;
 
 -- the rows of a command: none if nothing was done; else that which keeps what was undone, if that was asked for, and its own,
 -- unless it was not begun
-abbrev pub rows_in : {old : State} (command : Command) (reply : Reply) {new : State} → Performed old command reply new → List Row
+abbrev pub rows_in : {old : State} (command : Command) (reply : Reply) {new : State} → Obeyed old command reply new → List Row
 rows_in command reply (inl stopped) = []
 rows_in {old} command reply {new} (inr (inl unkept)) = keeping (asks_to_keep old command) old reply new unkept.2
 rows_in {old} command reply (inr (inr done)) =
@@ -225,7 +235,7 @@ rows_in {old} command reply (inr (inr done)) =
 
 abbrev pub rows_of : {old new : State} → Calls old new → List Row
 rows_of no_call = []
-rows_of (call command reply performed calls) = rows_in command reply performed ++ rows_of calls
+rows_of (call {old} command reply performed calls) = rows_in (counted_as old command) reply performed ++ rows_of calls
 
 -- what was replied to them
 abbrev pub replies_in : {old new : State} → Calls old new → List Reply
@@ -246,7 +256,8 @@ AllCallsStandInGroup below (call {mid = mid} command reply performed calls) =
 -- none is a command of several steps, or leaves something that waits to be redone
 abbrev pub NoneUnites : {old new : State} → Calls old new → Type 0
 NoneUnites no_call = Unit {0}
-NoneUnites (call {old} command reply performed calls) = (is_one_unit command ≡ false) × (leaves_waiting old command ≡ false) × NoneUnites calls
+NoneUnites (call {old} command reply performed calls) =
+    (is_one_unit (counted_as old command) ≡ false) × (leaves_waiting old (counted_as old command) ≡ false) × NoneUnites calls
 
 -- the record leads to the present text from one of the texts that were held, and is placed among those from there on
 pub record HoldsFrom (held : List (List ℕ)) (s : State) : Type 0 where

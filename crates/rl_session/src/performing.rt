@@ -1,20 +1,24 @@
 //! The laws of commands that obey a session's options (`Session::perform`, and the call of each command's name): so
 //! what is said of runs holds of them.
-ghost use Rattle.std.specs.Prelude.{◌≡◌, ◌+◌, ◌++◌, ◌∷◌, [], ◌<◌, ◌≤◌, List, Result, String, drop, length, suc, true, ℕ, Some, false};
+ghost use Rattle.std.specs.Prelude.{◌≡◌, ◌+◌, ◌++◌, ◌∷◌, [], ◌<◌, ◌≤◌, List, Result, String, drop, length, suc, true, ℕ, Some, Bool, false};
 ghost use Rattle.std.specs.String.{string_bytes};
 ghost use Rattle.std.specs.declared.alloc.Global.{Global};
+ghost use Rattle.rl_base.specs.KillRing.{reset};
+ghost use Rattle.rl_base.specs.declared.motion.Movement.{Movement};
+ghost use Rattle.rl_line.specs.Indents.{indent_changes};
 ghost use Rattle.rl_line.specs.Record.{Begin, is_saved, replay_entries};
 ghost use Rattle.rl_line.specs.Units.{BothMatched, has_change, level};
+ghost use Rattle.rl_session.specs.Forgetting.{Forgets};
 ghost use Rattle.rl_session.specs.History.{ClosesGroup, Holds, WasHeld, WasRefused};
 ghost use Rattle.rl_session.specs.KillRuns.{AnyTook, GivenBack, IsNoKill, NoneRefused};
 ghost use Rattle.rl_session.specs.Options.{no_bound};
 ghost use Rattle.rl_session.specs.Performing.{AllCallsStandInGroup, AllKilled, Calls, HoldsFrom, MadeUnit, NoneUnites, Performed, PerformedWith, before_unit, put_in, replies_in, rows_of, EndsLast, is_empty_group};
 ghost use Rattle.rl_session.specs.Run.{Leads, held_of};
-ghost use Rattle.rl_session.specs.State.{ChangedFrom, KeepsLimit, ReportedFrom, Stands, State, saved_now};
+ghost use Rattle.rl_session.specs.State.{ChangedFrom, KeepsLimit, ReportedFrom, Stands, State, saved_now, with_ring};
 ghost use Rattle.rl_session.specs.Typing.{TypesBytes};
 ghost use Rattle.rl_session.specs.declared.session.Command.{Command};
-ghost use Rattle.rl_session.specs.declared.session.Command.TheVariants.{Undo, Yank};
-ghost use Rattle.rl_session.specs.declared.session.Reply.TheVariants.{Mark};
+ghost use Rattle.rl_session.specs.declared.session.Command.TheVariants.{Indent, Undo, Yank};
+ghost use Rattle.rl_session.specs.declared.session.Reply.TheVariants.{Answer, Mark};
 ghost use Rattle.rl_session.specs.declared.session.Reply.{Reply};
 ghost use Rattle.rl_session.specs.declared.session.typing.TypeFault.{TypeFault};
 ghost use Rattle.rl_session.specs.declared.session.typing.Typed.{Typed};
@@ -96,6 +100,13 @@ pub fn a_saved_text_comes_back()
     ensures { (start : List ℕ) (held : List (List ℕ)) (old new : State) (calls : Calls (saved_now old) new)
         → Holds start held old → old.options.bound ≡ no_bound → is_saved new.pair.changes ≡ true
         → new.line.text ≡ old.line.text }
+{}
+
+/// An indent or a dedent by which no byte goes in or out answers false, and only ends a run of kills. Text, cursor, record,
+/// with what was undone, and watch stay, but for what is beyond the bounds.
+pub fn an_indent_that_changes_nothing_only_ends_a_run_of_kills()
+    ensures { (old new : State) (m : Movement) (amount : ℕ) (dedent : Bool) (reply : Reply) → indent_changes old.line m amount dedent ≡ false
+        → Performed old (Indent m amount dedent) reply new → (reply ≡ Answer false) × Forgets (with_ring (reset old.pair.ring) old) new }
 {}
 
 /// What tells of changes tells of those of every command.

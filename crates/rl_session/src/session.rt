@@ -1,12 +1,12 @@
 //! A session: a line with its kill ring and the record of its changes, which takes commands one after another.
-ghost use Rattle.std.specs.Prelude.{is_some, ◌≡◌, ◌<◌, ◌++◌, ◌∷◌, [], List, ℕ, length, IsSome, Some, IfOk, IfErr, MatchOption, None, OnErr, OnOk};
+ghost use Rattle.std.specs.Prelude.{is_some, ◌≡◌, ◌<◌, ◌++◌, ◌∷◌, [], List, ℕ, length, IsSome, Some, IfOk, IfErr, MatchOption, None, OnErr, OnOk, option_map};
 ghost use Rattle.rl_base.specs.Event.{replay};
 ghost use Rattle.rl_line.specs.Line.{Line};
 ghost use Rattle.rl_line.specs.Record.{Record, replay_entries, unwind};
 ghost use Rattle.rl_base.specs.KillRing.{reset};
-ghost use Rattle.rl_base.specs.Reports.{HasTexts, LacksTexts, Noted, Stand, TellsByTexts, after_numbers, after_texts, new_queue};
+ghost use Rattle.rl_base.specs.Reports.{HasTexts, LacksTexts, Noted, Stand, TellsByTexts, after_numbers, after_texts, new_queue, texts_of};
 ghost use Rattle.rl_base.specs.Splice.{Splices, told, untouched};
-ghost use Rattle.rl_base.specs.Watch.{RefusesQueue, next_note, past_next, text_room};
+ghost use Rattle.rl_base.specs.Watch.{RefusesQueue, next_note, past_next, taken_texts, text_room};
 ghost use Rattle.rl_session.specs.State.{State, ChangedFrom, Follows, IsBounded, ReportedFrom, Ends, Stands, with_ring, with_watch, Replays, origin};
 ghost use Rattle.rl_session.specs.Commands.{Does, Step, readied, settled};
 ghost use Rattle.rl_session.specs.Run.{Row, Run, AfterEach, commands_of, held_of, replies_of, reports, reports_of};
@@ -29,8 +29,8 @@ use crate::options::Options;
 use crate::pair::Pair;
 use crate::session::replies::{answered, done, handed_out, inserted, marked};
 use rl_base::{
-    At, CharSearch, Direction, KillRing, Movement, Refusal, RepeatCount, Splice, Unit, Watch,
-    WatchFault, Word, WordAction,
+    At, CharSearch, Direction, KillRing, Movement, Refusal, RepeatCount, Report, Splice, Unit,
+    Watch, WatchFault, Word, WordAction,
 };
 use rl_line::{Changeset, LineBuffer};
 use std::alloc::Global;
@@ -231,7 +231,7 @@ impl Session {
         &self.options
     }
 
-    /// The watch, which tells what changed in the text: how many reports wait, and the oldest with its texts.
+    /// The watch, which tells how many reports wait, and the texts of the one that was taken last.
     pub fn watch(&self) -> &Watch
         ensures { result.now ≡ self.now.pair.watch }
     {
@@ -281,15 +281,16 @@ impl Session {
         self.pair.watch.stop_reports();
     }
 
-    /// Forgets the oldest report, so that the next becomes the oldest. The report told how the text at which reading
-    /// left off goes on. With texts, what went gave way to the end of its texts, and from the text so made the reports that still
-    /// wait lead to the present one. Without texts, or folded, it was all that waited, and what came stands in the present text.
-    /// The cursors of a report stand between two characters, the first in the text before it, the second in that after it. Where
-    /// no report waited, the text at which reading left off is the present one.
-    /// Returns whether one waited.
-    pub fn forget_report(&mut self) -> bool
-        ensures waited { result ≡ is_some (next_note self.old.pair.watch) }
-        ensures forgotten { self.new ≡ with_watch (past_next self.old.pair.watch) self.old }
+    /// Takes the oldest report; None if none waits. Its texts are the watch's `taken_texts`, until the next call that changes
+    /// something. The report tells how the text at which reading left off goes on. With texts, what went gave way to the end of
+    /// its texts, and from the text so made the reports that still wait lead to the present one. Without texts, or folded, it was
+    /// all that waited, and what came stands in the present text. The cursors of a report stand between two characters, the first
+    /// in the text before it, the second in that after it. Where no report waited, the text at which reading left off is the
+    /// present one.
+    pub fn take_report(&mut self) -> Option<Report>
+        ensures taken { result ≡ option_map (λ n. n.report) (next_note self.old.pair.watch) }
+        ensures texts { taken_texts self.new.pair.watch ≡ texts_of (next_note self.old.pair.watch) }
+        ensures left { self.new ≡ with_watch (past_next self.old.pair.watch) self.old }
         ensures nothing { (read : List ℕ) → ReportedFrom read self.old → next_note self.old.pair.watch ≡ None → self.old.line.text ≡ read }
         ensures with_texts { (read : List ℕ) (note : Noted) → ReportedFrom read self.old → next_note self.old.pair.watch ≡ Some note
             → HasTexts (text_room self.old.pair.watch) note.report
@@ -299,7 +300,7 @@ impl Session {
             → (next_note self.new.pair.watch ≡ None) × (after_numbers note.report self.old.line.text read ≡ self.old.line.text)
             × Stand note.report.cursors read self.old.line.text × ReportedFrom self.old.line.text self.new }
     {
-        self.pair.watch.forget_report()
+        self.pair.watch.take_report()
     }
 
     // States the invariants of a session's parts, and that no kill is on, for the proofs that rely on them.

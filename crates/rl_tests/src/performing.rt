@@ -209,7 +209,7 @@ fn edits(alloc: Global) -> Result<[Kept; 28], Fail> {
 }
 
 // What keeps nothing by itself.
-fn no_edits(alloc: Global) -> Result<[Kept; 11], Fail> {
+fn no_edits(alloc: Global) -> Result<[Kept; 13], Fail> {
     let text = String::from_str(alloc, "x")?;
     Ok([
         (Command::SetPos(2), 2, true),
@@ -223,6 +223,8 @@ fn no_edits(alloc: Global) -> Result<[Kept; 11], Fail> {
         (Command::Redo, 3, false),
         (Command::Abandon, 0, false),
         (Command::Truncate(2), 2, false),
+        (Command::Indent(Movement::WholeBuffer, 0, false), 2, true),
+        (Command::Indent(Movement::WholeBuffer, 9, true), 2, true),
     ])
 }
 

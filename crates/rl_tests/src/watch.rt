@@ -10,7 +10,7 @@ use std::alloc::Global;
 use std::process::Abort;
 use std::test::Fail;
 
-// The oldest report of a queue has these numbers and texts. It is forgotten.
+// The oldest report of a queue has these numbers and texts. It is taken.
 fn tells(
     rt: &impl Abort,
     queue: &mut Reports,
@@ -27,9 +27,8 @@ fn tells(
         new_len,
         cursors,
     };
-    is_so(rt, queue.oldest() == Some(wanted), "the oldest report");
-    is_so(rt, queue.oldest_texts() == texts, "its texts");
-    is_so(rt, queue.forget(), "it waited");
+    is_so(rt, queue.take() == Some(wanted), "the oldest report");
+    is_so(rt, queue.taken_texts() == texts, "its texts");
 }
 
 #[test]
@@ -64,8 +63,8 @@ fn a_queue_tells_each_change(rt: HostRuntime) -> Result<(), Fail> {
         Some((2, 4)),
         "bé!",
     );
-    is_so(&rt, queue.oldest().is_none(), "nothing waits");
-    is_so(&rt, !queue.forget(), "nothing waited");
+    is_so(&rt, queue.take().is_none(), "nothing waits");
+    is_so(&rt, queue.taken_texts().is_empty(), "no texts");
     Ok(())
 }
 
@@ -83,7 +82,7 @@ fn folds(rt: &impl Abort, queue: &mut Reports) -> Result<(), Fail> {
     tells(rt, queue, ReportKind::Folded, (0, 2, 5), cursors, "");
     queue.insert_str(0, "12345678901")?;
     tells(rt, queue, ReportKind::Folded, (0, 0, 11), None, "");
-    is_so(rt, queue.oldest().is_none(), "nothing waits");
+    is_so(rt, queue.take().is_none(), "nothing waits");
     Ok(())
 }
 
@@ -146,13 +145,11 @@ fn reads(rt: &impl Abort, session: &mut Session, at: usize, text: &str) {
         new_len: text.len(),
         cursors: Some((at, at.saturating_add(text.len()))),
     };
-    let watch = session.watch();
-    is_so(rt, watch.next_report() == Some(wanted), "the next report");
-    is_so(rt, watch.next_texts() == text, "its texts");
-    is_so(rt, session.forget_report(), "it waited");
-    let watch = session.watch();
-    is_so(rt, watch.next_report().is_none(), "no report waits");
-    is_so(rt, !session.forget_report(), "none waited");
+    let taken = session.take_report();
+    is_so(rt, taken == Some(wanted), "the oldest report");
+    is_so(rt, session.watch().taken_texts() == text, "its texts");
+    is_so(rt, session.take_report().is_none(), "no report waits");
+    is_so(rt, session.watch().taken_texts().is_empty(), "no texts");
 }
 
 // A session with no limit on its text keeps reports in a queue with so much room.
@@ -160,8 +157,7 @@ fn keeps(rt: &impl Abort, alloc: Global, room: usize, text_room: usize) -> Resul
     let mut session = limited_to(alloc, "a", usize::MAX)?;
     is_so(rt, session.keep_reports(room, text_room).is_ok(), "a queue");
     let _ = session.apply(&Command::Insert('b', 1));
-    let watch = session.watch();
-    is_so(rt, watch.next_report().is_some(), "a report waits");
+    is_so(rt, session.take_report().is_some(), "a report waits");
     Ok(())
 }
 

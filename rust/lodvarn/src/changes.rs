@@ -124,7 +124,7 @@ impl<'s> Report<'s> {
 #[derive(Clone, Copy, Debug, PartialEq, Eq, Hash)]
 #[non_exhaustive]
 pub enum Untold {
-    /// The queue had no room for all changes, and has made one of them, whose texts are not kept. It is forgotten now: the
+    /// The queue had no room for all changes, and has made one of them, whose texts are not kept. It is taken now: the
     /// text between `from` and `old_to` was replaced by the text between `from` and `new_to` of the present text. So apply
     /// that to the text that the listener knew, or take the whole text anew; later changes are reported again.
     Folded(Splice),
@@ -175,17 +175,17 @@ impl Session {
 
     /// Keeps a report of each change of the text from now on, and none of a motion, in a queue with room for so many
     /// reports and for `text_bytes` bytes of their texts, removed and inserted. If `text_bytes` is 0, reports have no
-    /// texts, and at most one waits: a change that comes before it was forgotten is folded into it, so the inserted text
-    /// is always in the present text. [`next_report`] lends them, and [`tell`] calls a listener for each.
+    /// texts, and at most one waits: a change that comes before it was taken is folded into it, so the inserted text is
+    /// always in the present text. [`take_report`] takes them, and [`tell`] calls a listener for each.
     ///
     /// All room is reserved here, and nothing else is ever refused because of the queue: if a report or its texts find no
     /// room, all that waits and the new one become one report, of the kind `Folded`. It takes in each later change
-    /// until it is forgotten.
+    /// until it is taken.
     /// # Errors
     /// [`Fault::IsWatched`] if the session has a queue, which stays as it is; [`Fault::NoSuchNumber`] if `reports` is 0;
     /// [`Fault::NoMemory`].
     ///
-    /// [`next_report`]: Session::next_report
+    /// [`take_report`]: Session::take_report
     /// [`tell`]: Session::tell
     pub fn watch(&mut self, reports: usize, text_bytes: usize) -> Result<(), Fault> {
         self.core.keep_reports(reports, text_bytes)?;
@@ -193,16 +193,16 @@ impl Session {
         Ok(())
     }
 
-    /// Keeps no reports any more, and forgets those that wait.
+    /// Keeps no reports any more, and drops those that wait.
     pub fn unwatch(&mut self) {
         self.keeps_texts = false;
         self.core.stop_reports();
     }
 
-    /// The oldest report that waits. It stays the oldest until [`forget_report`](Session::forget_report).
+    /// Takes the oldest report out of the queue. None if none waits. A kill after it still goes on from the kill before it.
     ///
     /// Apply all in order to your copy of the text, and it equals the session's. The inserted text of one that has no texts
-    /// is in the present text: apply it, and forget it, before the next command.
+    /// is in the present text: apply it before the next command.
     ///
     /// ```
     /// # use lodvarn::{Fault, Session};
@@ -211,23 +211,15 @@ impl Session {
     /// let mut copy = session.text().to_string();
     /// session.insert('é', 1)?;
     /// session.replace(0..3, "caf")?;
-    /// while let Some(report) = session.next_report() {
+    /// while let Some(report) = session.take_report() {
     ///     copy.replace_range(report.at..report.at + report.old_len, report.new_text);
-    ///     session.forget_report();
     /// }
     /// assert_eq!((copy.as_str(), session.count_reports()), ("café", 0));
     /// # Ok::<(), Fault>(())
     /// ```
-    #[must_use]
-    pub fn next_report(&self) -> Option<Report<'_>> {
-        let watch = self.core.watch();
-        Some(Report::of_core(watch.next_report()?, watch.next_texts()))
-    }
-
-    /// Forgets the oldest report. False if none waits. A command between [`next_report`](Session::next_report) and this
-    /// may have folded its change into the report. A kill after it still goes on from the kill before it.
-    pub fn forget_report(&mut self) -> bool {
-        self.core.forget_report()
+    pub fn take_report(&mut self) -> Option<Report<'_>> {
+        let report = self.core.take_report()?;
+        Some(Report::of_core(report, self.core.watch().taken_texts()))
     }
 
     /// How many reports wait; a folded one is one.
@@ -236,13 +228,13 @@ impl Session {
         self.core.watch().waiting_reports()
     }
 
-    /// Calls a listener for all reports that wait, the oldest first, each by the method of its kind. Each is forgotten
-    /// after its call, so one in which the listener panics waits on.
+    /// Calls a listener for all reports that wait, the oldest first, each by the method of its kind. Each is taken before
+    /// its call, so one in which the listener panics is lost, and those after it wait on.
     /// The places that it gets are in bytes, and of the text that the changes before have led to; the session already
     /// has the present text. A kill after it still goes on from the kill before it.
     /// # Errors
     /// No method of the listener was called then. `Folded` if all that waited is one change without its texts, which is
-    /// forgotten then and returned: the listener gets later changes only. `NoTexts` if no queue was asked for, or
+    /// taken then and returned: the listener gets later changes only. `NoTexts` if no queue was asked for, or
     /// one without texts.
     ///
     /// ```
@@ -286,12 +278,10 @@ impl Session {
         if !self.keeps_texts {
             return Err(Untold::NoTexts);
         }
-        while let Some(report) = self.next_report() {
+        while let Some(report) = self.take_report() {
             report.tell(listener);
-            let folded = (report.kind == ReportKind::Folded).then(|| report.splice());
-            self.forget_report();
-            if let Some(splice) = folded {
-                return Err(Untold::Folded(splice));
+            if report.kind == ReportKind::Folded {
+                return Err(Untold::Folded(report.splice()));
             }
         }
         Ok(())

@@ -26,23 +26,21 @@ fn splice(from: usize, old_to: usize, new_to: usize) -> Splice {
     }
 }
 
-/// These reports wait, which are forgotten, and no more. Each has its kind, its place, the removed and the inserted text,
+/// These reports wait, which are taken, and no more. Each has its kind, its place, the removed and the inserted text,
 /// their lengths, and where the cursor was and is.
 #[track_caller]
 fn reports(session: &mut Session, wanted: &[&str]) {
     assert_eq!(session.count_reports(), wanted.len());
     for wanted in wanted {
-        let it = session.next_report().expect("a report waits");
+        let it = session.take_report().expect("a report waits");
         let (texts, lengths) = ((it.old_text, it.new_text), (it.old_len, it.new_len));
         let cursors = (it.pos_before, it.pos_after);
         let shown = format!("{:?} {} {texts:?} {lengths:?} {cursors:?}", it.kind, it.at);
         assert_eq!(shown, wanted.replace('\'', "\""));
         let whole = splice(it.at, it.at + it.old_len, it.at + it.new_len);
         assert_eq!(it.splice(), whole);
-        assert!(session.forget_report());
     }
-    assert_eq!((session.next_report(), session.count_reports()), (None, 0));
-    assert!(!session.forget_report());
+    assert_eq!(session.take_report(), None);
 }
 
 #[test]
@@ -141,12 +139,13 @@ fn a_listener_hears_each_change() -> Result<(), Fault> {
     ];
     assert_eq!(heard.told, wanted);
     assert_eq!((heard.copy.as_str(), s.text()), ("2é", "2é"));
-    // One report at which it panics waits on.
+    // One report at which it panics is lost, and those after it wait on.
     s.insert('c', 1)?;
     s.backspace(2)?;
+    s.insert('d', 1)?;
     heard.left = 1;
     panic_of(|| s.tell(&mut heard));
-    reports(&mut s, &["DeletedBackward 0 ('2c', '') (2, 0) (2, 0)"]);
+    reports(&mut s, &["CharInserted 0 ('', 'd') (0, 1) (0, 1)"]);
     Ok(())
 }
 

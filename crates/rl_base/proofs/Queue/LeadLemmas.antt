@@ -1,5 +1,5 @@
 -- What reports lead to.
-use Rattle.rl_base.proofs.Common.{◌≡◌, ℕ, ◌+◌, ◌-◌, ◌^◌, ◌<◌, ◌≤◌, ◌⊎◌, inl, inr, Bool, true, false, min, List, [], ◌∷◌, ◌++◌, length, take, drop, fold, encode_utf8, slice_range, Option, Some, None, if◌then◌else◌, refl, sym, ap, subst, ◌∙◌, arith, length-append, take_at, drop_at, OnTrue_at, OnTrue_from, length-take-le, length-drop, IsCharBoundary-start, OnFalse, OnTrue, replace_range, IsCharBoundary, IsUtf8, Joined, Report, ReportKind, Splice, Event, InsertChar, InsertStr, Delete, Replace, Stop, Cursors, AsOne, HasTexts, IsChange, IsLineText, LacksTexts, Leads, LeadsBy, Noted, Queue, ReadsTexts, ReadsWhole, Stand, Tells, WaitLeads, Waiting, Whole, after_texts, apart, as_one, forgotten, has_room_in, is_change, joined_cursors, kept, new_queue, noted, noting, nothing_joined, oldest, on_last, queue_step, reports_of, splice_of, taken_in, told_cursors, told_whole, with_cursors, with_note, Covers, Splices, folded, untouched, told_note, cond_both, ap₂}
+use Rattle.rl_base.proofs.Common.{◌≡◌, ℕ, ◌+◌, ◌-◌, ◌^◌, ◌<◌, ◌≤◌, ◌⊎◌, inl, inr, Bool, true, false, min, List, [], ◌∷◌, ◌++◌, length, take, drop, fold, encode_utf8, slice_range, Option, Some, None, if◌then◌else◌, refl, sym, ap, subst, ◌∙◌, arith, length-append, take_at, drop_at, OnTrue_at, OnTrue_from, length-take-le, length-drop, IsCharBoundary-start, OnFalse, OnTrue, replace_range, IsCharBoundary, IsUtf8, Joined, Report, ReportKind, Splice, Event, InsertChar, InsertStr, Delete, Replace, Stop, Cursors, AsOne, HasTexts, IsChange, IsLineText, LacksTexts, Leads, LeadsBy, Noted, Queue, ReadsTexts, ReadsWhole, Stand, Tells, WaitLeads, Waiting, Whole, after_texts, apart, as_one, has_room_in, is_change, joined_cursors, kept, new_queue, noted, noting, nothing_joined, oldest, past_oldest, on_last, queue_step, reports_of, splice_of, taken_in, told_cursors, told_whole, with_cursors, with_note, Covers, Splices, folded, untouched, told_note, cond_both, ap₂}
 use Rattle.rl_base.specs.declared.listeners.Direction.TheVariants.{Forward, Backward}
 use Rattle.rl_base.specs.declared.reports.ReportKind.TheVariants as kind
 use Rattle.rl_base.specs.Event.{Start, apply}
@@ -63,11 +63,11 @@ Leads-note : (placed : Bool) (later : Waiting → Waiting) (q : Queue) (n told :
     → ((all : Joined) → later (AsOne (taken_in all n.report)) ≡ AsOne (taken_in all told.report))
     → Leads placed q old text → Tells q.text_room told text new → OnTrue placed (Stand told.report.cursors text new) → IsLineText old → IsLineText text
     → IsLineText new
-    → Leads placed (record q { waiting = later (with_note q.room q.text_room n q.waiting) }) old new
+    → Leads placed (record q { waiting = later (with_note q.room q.text_room n q.waiting); taken = [] }) old new
 Leads-note placed later q n told old text new put taken l t c u v w = from q.waiting l
   where
     folds : (waiting : Waiting) → Leads placed (record q { waiting = waiting }) old text
-        → Leads placed (record q { waiting = later (AsOne (taken_in (as_one waiting) n.report)) }) old new
+        → Leads placed (record q { waiting = later (AsOne (taken_in (as_one waiting) n.report)); taken = [] }) old new
     folds waiting l = rw (taken (as_one waiting)) record {
       leads = joined-note placed (as_one waiting) q.text_room told old text new (leads-as_one placed q.text_room waiting old text l.leads u) t c v w;
       within = omega arith;
@@ -75,11 +75,11 @@ Leads-note placed later q n told old text new put taken l t c u v w = from q.wai
     }
 
     from : (waiting : Waiting) → Leads placed (record q { waiting = waiting }) old text
-        → Leads placed (record q { waiting = later (with_note q.room q.text_room n waiting) }) old new
+        → Leads placed (record q { waiting = later (with_note q.room q.text_room n waiting); taken = [] }) old new
     from (AsOne all) l = folds (AsOne all) l
     from (Whole ns) l =
         cond_both (has_room_in q.room q.text_room (length n.texts) (Whole ns)) (Whole (ns ++ n ∷ [])) _
-        (λ waiting. Leads placed (record q { waiting = later waiting }) old new)
+        (λ waiting. Leads placed (record q { waiting = later waiting; taken = [] }) old new)
         (λ room. rw (put ns) record {
           leads = LeadsBy-push placed q.text_room told ns old text new l.leads t w c;
           within = omega (arith, (has_room-means q.room q.text_room (length n.texts) ns None room).place, length-append ns (told ∷ []));
@@ -256,12 +256,12 @@ pub whole : (placed : Bool) (q : Queue) (note : Noted) (old new : List ℕ) → 
     → ReadsWhole placed q note old new
 whole placed q note old new l is lacks = from q.waiting l.leads l.within is
   where
-    read : (w : Waiting) (n : Noted) → n ≡ note → Splices (splice_of n.report) old new → OnTrue placed (Stand n.report.cursors old new) → oldest (forgotten (record q { waiting = w })).waiting ≡ None
-        → Leads placed (forgotten (record q { waiting = w })) new new → ReadsWhole placed (record q { waiting = w }) note old new
+    read : (w : Waiting) (n : Noted) → n ≡ note → Splices (splice_of n.report) old new → OnTrue placed (Stand n.report.cursors old new) → oldest (past_oldest (record q { waiting = w })).waiting ≡ None
+        → Leads placed (past_oldest (record q { waiting = w })) new new → ReadsWhole placed (record q { waiting = w }) note old new
     read w n same s c all rest = rw (← same) record { all = all; tells = Splices-new (splice_of n.report) old new s; cursors = c; rest = rest }
 
-    left : Leads placed (record q { waiting = Whole [] }) new new
-    left = record { leads = refl; within = omega arith; one = l.one }
+    left : (texts : List ℕ) → Leads placed (record q { waiting = Whole []; taken = texts }) new new
+    left texts = record { leads = refl; within = omega arith; one = l.one }
 
     alone : (n : Noted) (ns : List Noted) → n ≡ note → ¬ (n.report.kind ≡ kind.Folded) → length (n ∷ ns) ≤ q.room → ns ≡ []
     alone n [] same f within = refl
@@ -270,9 +270,9 @@ whole placed q note old new l is lacks = from q.waiting l.leads l.within is
     from : (w : Waiting) → WaitLeads placed q.text_room w old new → apart w ≤ q.room → oldest w ≡ Some note → ReadsWhole placed (record q { waiting = w }) note old new
     from (Whole []) l within h = absurd cc
     from (AsOne all) l within h =
-        let same : record { report = told_whole all; texts = [] } ≡ note = cc in read (AsOne all) _ same (Splices-told all old new l.0) l.1 refl left
+        let same : record { report = told_whole all; texts = [] } ≡ note = cc in read (AsOne all) _ same (Splices-told all old new l.0) l.1 refl (left [])
     from (Whole (n ∷ ns)) by within h =
         let same : n ≡ note = cc in
         let none : ns ≡ [] = alone n ns same by.1.apart within in
         let ends : new ≡ by.0 = subst (λ rest. LeadsBy placed q.text_room rest by.0 new) none by.4 in
-        rw none (read (Whole (n ∷ [])) n same (subst (Splices (splice_of n.report) old) (sym ends) by.1.splices) (subst (λ x. OnTrue placed (Stand n.report.cursors old x)) (sym ends) by.3) refl left)
+        rw none (read (Whole (n ∷ [])) n same (subst (Splices (splice_of n.report) old) (sym ends) by.1.splices) (subst (λ x. OnTrue placed (Stand n.report.cursors old x)) (sym ends) by.3) refl (left n.texts))

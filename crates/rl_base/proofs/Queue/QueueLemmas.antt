@@ -1,5 +1,5 @@
--- Reports whose texts stand in one text, one after another, after those of reports that are forgotten.
-use Rattle.rl_base.proofs.Common.{◌≡◌, ℕ, zero, suc, ◌+◌, ◌-◌, ◌<◌, ◌≤◌, Bool, true, false, List, [], ◌∷◌, ◌++◌, length, take, drop, get_or, slice_set, ◌==◌, Option, Some, None, if◌then◌else◌, refl, sym, ap, subst, ◌∙◌, arith, append_assoc, length-append, drop-append_seam, take-append_seam, length-take-le, length-drop, take-append-drop, take-append-le, drop-append-le, take_all, drop_all, IsCharBoundary-at_seam, IsCharBoundary-from_drop, IsCharBoundary-from_take, IsUtf8-nil, IsUtf8-append, and_parts, cond_both, leb-true, ltb-true, nat_tests, Err, Ok, OnOk, Result, is_err, nat_le, nat_lt, IsCharBoundary, IsUtf8, Joined, Report, ReportKind, Cuts, KeepsRoom, Notes, bytes_kept, notes, IsQueue, Noted, has_room_in, waiting_of, is_change, kept, noted, on_last, reports_of, text_bytes, told_cursors, told_note, IsCharBoundary-from_rest, fold-append, length-map, take_at, drop_at, ap₂, take-take}
+-- Reports whose texts stand in one text, one after another, after those of reports that were taken.
+use Rattle.rl_base.proofs.Common.{◌≡◌, ℕ, zero, suc, ◌+◌, ◌-◌, ◌<◌, ◌≤◌, Bool, true, false, List, [], ◌∷◌, ◌++◌, length, take, drop, get_or, slice_range, slice_set, ◌==◌, Option, Some, None, if◌then◌else◌, refl, sym, ap, subst, ◌∙◌, arith, append_assoc, length-append, drop-append_seam, take-append_seam, length-take-le, length-drop, take-append-drop, take-append-le, drop-append-le, take_all, drop_all, drop-drop, IsCharBoundary-at_seam, IsCharBoundary-from_drop, IsCharBoundary-from_take, IsUtf8-nil, IsUtf8-append, and_parts, cond_both, leb-true, ltb-true, nat_tests, Err, Ok, OnOk, Result, is_err, nat_le, nat_lt, IsCharBoundary, IsUtf8, Joined, Report, ReportKind, Cuts, KeepsRoom, Notes, bytes_kept, notes, IsQueue, Noted, Whole, has_room_in, waiting_of, is_change, kept, noted, oldest, on_last, reports_of, text_bytes, texts_of, told_cursors, told_note, IsCharBoundary-from_rest, fold-append, length-map, take_at, drop_at, ap₂, take-take}
 
 pub reports_of-notes : (k : ℕ) (rs : List Report) (bytes : List ℕ) → reports_of (notes k rs bytes) ≡ rs
 reports_of-notes k [] bytes = refl
@@ -68,12 +68,32 @@ Cuts-IsUtf8 k (r ∷ rs) bytes c =
 pub at_spent : (k : ℕ) (n : ℕ) (text : List ℕ) (rs : List Report) → n ≤ length text → Cuts k rs (drop n text) → IsCharBoundary text n
 at_spent k n text rs le c = IsCharBoundary-from_drop text n le (Cuts-IsUtf8 k rs (drop n text) c)
 
--- the texts of the oldest report end between two characters
-pub ends : (k : ℕ) (rs : List Report) (bytes : List ℕ) (oldest : Report) → Cuts k rs bytes → 0 < length rs → oldest ≡ get_or rs 0 oldest → IsCharBoundary bytes (bytes_kept k oldest)
-ends k [] bytes oldest c some same = absurd (omega (arith, some))
-ends k (r ∷ rs) bytes oldest c some same =
-    let n = bytes_kept k r in
-    rw same (IsCharBoundary-from_take bytes n (Cuts-IsUtf8 k (r ∷ rs) bytes c) c.0 c.1)
+-- so those of the report that was taken last may begin there too, which are none then
+pub none_taken : (k n : ℕ) (text : List ℕ) (rs : List Report) → n ≤ length text → Cuts k rs (drop n text)
+    → (n ≤ n) × (n ≤ length text) × IsCharBoundary text n × Cuts k rs (drop n text)
+none_taken k n text rs le c = (omega arith, le, at_spent k n text rs le c, c)
+
+-- the texts of the oldest report are spent too, once it is taken
+pub record Takes (k : ℕ) (all rest : List Report) (spent n : ℕ) (text : List ℕ) : Type 0 where
+  pub begins : IsCharBoundary text spent
+  pub spent_within : spent + n ≤ length text
+  pub cuts : Cuts k rest (drop (spent + n) text)
+  pub waits : notes k rest (drop (spent + n) text) ≡ drop 1 (notes k all (drop spent text))
+  pub texts : slice_range text spent (spent + n) ≡ texts_of (oldest (Whole (notes k all (drop spent text))))
+
+pub takes : (k : ℕ) (first : Report) (rest all : List Report) (spent n : ℕ) (text : List ℕ) → spent ≤ length text → Cuts k all (drop spent text)
+    → all ≡ first ∷ rest → n ≡ bytes_kept k first → Takes k all rest spent n text
+takes k first rest all spent n text le c same count =
+    let cut : Cuts k (first ∷ rest) (drop spent text) = rw same at c in
+    let past : drop n (drop spent text) ≡ drop (spent + n) text = drop-drop n spent text in
+    let alone : (spent + n) - spent ≡ n = omega arith in
+    record {
+      begins = at_spent k spent text all le c;
+      spent_within = omega (arith, le, cut.0, count, length-drop spent text);
+      cuts = rw (← past, count) cut.2;
+      waits = rw (same, ← past, count) refl;
+      texts = rw (same, alone, count) refl;
+    }
 
 -- reports after others
 notes-append : (k : ℕ) (rs ss : List Report) (a b : List ℕ) → Cuts k rs a → notes k (rs ++ ss) (a ++ b) ≡ notes k rs a ++ notes k ss b
@@ -91,14 +111,14 @@ Cuts-append k (r ∷ rs) ss a b c d =
 
 -- in one text with what is spent and what waits, more notes stand at the end
 pub record Joins (k : ℕ) (rs now : List Report) (ns : List Noted) (spent : ℕ) (text new : List ℕ) : Type 0 where
-  pub spent_within : spent + spent ≤ length new
+  pub spent_within : spent ≤ length new
   pub cuts : Cuts k now (drop spent new)
   pub waits : notes k now (drop spent new) ≡ notes k rs (drop spent text) ++ ns
 
-pub joins : (k : ℕ) (rs ss now : List Report) (spent : ℕ) (text more new : List ℕ) → spent + spent ≤ length text → Cuts k rs (drop spent text) → Cuts k ss more
+pub joins : (k : ℕ) (rs ss now : List Report) (spent : ℕ) (text more new : List ℕ) → spent ≤ length text → Cuts k rs (drop spent text) → Cuts k ss more
     → now ≡ rs ++ ss → new ≡ text ++ more → Joins k rs now (notes k ss more) spent text new
 joins k rs ss now spent text more new le c d same longer =
-    let seam : drop spent new ≡ drop spent text ++ more = ap (drop spent) longer ∙ drop-append-le spent text more (omega (arith, le)) in
+    let seam : drop spent new ≡ drop spent text ++ more = ap (drop spent) longer ∙ drop-append-le spent text more le in
     record {
       spent_within = omega (arith, le, ap length longer, length-append text more);
       cuts = rw (same, seam) (Cuts-append k rs ss (drop spent text) more c d);
@@ -118,7 +138,7 @@ kept-all k texts some =
     rw keeps refl
 
 -- one more report, whose texts stand at the end
-pub longer : (k : ℕ) (rs now : List Report) (n : Noted) (spent : ℕ) (text new : List ℕ) → spent + spent ≤ length text → Cuts k rs (drop spent text)
+pub longer : (k : ℕ) (rs now : List Report) (n : Noted) (spent : ℕ) (text new : List ℕ) → spent ≤ length text → Cuts k rs (drop spent text)
     → IsUtf8 n.texts → length n.texts ≡ bytes_kept k n.report
     → now ≡ rs ++ n.report ∷ [] → new ≡ text ++ n.texts → Joins k rs now (n ∷ []) spent text new
 longer k rs now n spent text new le c u len same more =
@@ -186,9 +206,6 @@ from_ok (Err e) P h none = cc
 
 -- how many reports there are, and how many bytes of texts
 pub ruleset counted = (length-notes, text_bytes-notes, length-drop, kept-all, Cuts-some)
-
--- where the texts of the oldest report begin and end
-pub ruleset cutting = (at_spent, ends)
 
 -- reports as one, in two parts
 pub ruleset joining = (reports_of-notes, fold-append)

@@ -1,6 +1,6 @@
 -- The steps of an indent: the parts that spaces go in by, the places after a change at the start of a line, and the
 -- lines that are left.
-use Rattle.rl_line.proofs.Common.{common_steps, Some, ◌≡◌, ℕ, zero, suc, ◌+◌, ◌-◌, ◌*◌, sum, length-append, ◌/◌, ◌%◌, ◌<◌, ◌≤◌, Bool, true, false, List, [], ◌∷◌, ◌++◌, length, take, drop, slice_range, min, refl, sym, ap, ap₂, subst, ◌∙◌, arith, append_assoc, ltb-true, ltb-false, eqb, eqb-true, drop-cons, if◌then◌else◌, repeat, insert_slice, remove_range, replace_range, is_some, IsAscii, IsCharBoundary, IsUtf8, trim_start, nat_tests, drop-drop, append-nil, get_or-drop, get_or-take, take-append-drop, take-take, length-drop, sum_by-append, sum_by-cons, length-between, IsCharBoundary-end, IsCharBoundary-from_drop, IsAscii-nil, IsAscii-cons, same_Some, Event, InsertStr, Delete, apply, Direction, lines, last_line, line_number, text_of_line, start_of_line, end_of_line, greatest_boundary, Forward, Refusal, blanks, line_plan, lines_plan, spaces, parts, put_spaces, pushed, pulled, Plan, Step, after, Taken, Completed, Done, Halted, after_steps, single, Line, stepped}
+use Rattle.rl_line.proofs.Common.{common_steps, Some, ◌≡◌, ℕ, zero, suc, ◌+◌, ◌-◌, ◌*◌, sum, length-append, ◌/◌, ◌%◌, ◌<◌, ◌≤◌, Bool, true, false, List, [], ◌∷◌, ◌++◌, length, take, drop, slice_range, min, refl, sym, ap, ap₂, subst, ◌∙◌, arith, append_assoc, ltb-true, ltb-false, eqb, eqb-true, drop-cons, if◌then◌else◌, repeat, insert_slice, remove_range, replace_range, is_some, IsAscii, IsCharBoundary, IsUtf8, trim_start, nat_tests, drop-drop, append-nil, get_or-drop, get_or-take, take-append-drop, take-take, length-drop, sum_by-append, sum_by-cons, length-between, IsCharBoundary-end, IsCharBoundary-from_drop, IsAscii-nil, IsAscii-cons, same_Some, Event, InsertStr, Delete, apply, Direction, lines, last_line, line_number, text_of_line, start_of_line, end_of_line, greatest_boundary, Forward, Refusal, blanks, line_plan, lines_plan, spaces, parts, put_spaces, pushed, pulled, Plan, Step, after, Taken, Completed, Done, Halted, after_steps, single, Line, stepped, length-take-le, length-take, Movement, lt-ltb, nat_lt, max}
 use Rattle.rl_base.proofs.Texts.LineLemmas.{count_of_lines, count-parts, end-from, lies, lines-after, lines_some, newlines-line, start-next, text-between}
 use Rattle.rl_base.proofs.Texts.TextLemmas.{drop-after, removed-is_replaced, greatest_boundary-is}
 use Rattle.rl_base.proofs.Texts.EventLemmas.{Deletes-from_IsSome, Inserts-from_IsSome}
@@ -8,6 +8,9 @@ use Rattle.rl_line.proofs.Lines.LineStartLemmas.{newlines-append, newlines-repla
 use Rattle.rl_line.proofs.Plans.EditLemmas.{length-repeat}
 use Rattle.rl_line.proofs.Plans.PlanLemmas.{first_step, Halted-back, Halted-front, Taken-append, Taken-nil}
 use Rattle.rl_base.proofs.Texts.BlankLemmas.{trim_start-blanks}
+use Rattle.rl_line.specs.Indents.{final_line, first_line, indent_changes}
+use Rattle.rl_line.specs.Plan.{bytes_of}
+use Rattle.rl_line.specs.Ranges.{indented}
 
 -- ---- parts of at most 32
 pub take-spaces : (k n : ℕ) → k ≤ n → take k (spaces n) ≡ spaces k
@@ -54,22 +57,32 @@ front-between text i j n le = take-take n (j - i) (drop i text) le ∙ ap (λ m.
 pub IsCharBoundary-trimmed : (text rest : List ℕ) (n : ℕ) → rest ≡ drop n text → IsUtf8 rest → IsCharBoundary text (length text - length rest)
 IsCharBoundary-trimmed text rest n is u = grind (arith, length-drop, ltb-true, IsCharBoundary-end, ltb-false, IsCharBoundary-from_drop)
 
--- the plan of a dedent, where `part` is the line's text, `rest` what follows its blanks, and `gone` the greatest boundary within `least`
-pub line_plan-dedent : (text : List ℕ) (i j n least gone cursor place : ℕ) (part rest : List ℕ) → i ≤ j → j ≤ length text → part ≡ slice_range text i j → rest ≡ trim_start part
-    → least ≡ min n (length part - length rest) → gone ≤ least → IsCharBoundary part gone → ((k : ℕ) → gone < k → k ≤ least → ¬ (IsCharBoundary part k))
-    → place ≡ pulled i gone cursor → line_plan true n (slice_range text i j) i cursor ≡ single (Delete i (slice_range text i (i + gone)) Forward) place (j - gone)
-line_plan-dedent text i j n least gone cursor place part rest order within part_is rest_is least_is le at last place_is =
-    let width : length part ≡ j - i = ap length part_is ∙ length-between text i j within in
-    let short : gone ≤ j - i = omega arith in
+-- the blanks that go from a line's text `part`, where `rest` follows its blanks, and `gone` is the greatest boundary within `least`
+pub blanks-len : (n least gone : ℕ) (part rest : List ℕ) → rest ≡ trim_start part → least ≡ min n (length part - length rest) → gone ≤ least → IsCharBoundary part gone
+    → ((k : ℕ) → gone < k → k ≤ least → ¬ (IsCharBoundary part k)) → gone ≡ length (blanks n part)
+blanks-len n least gone part rest rest_is least_is le at last =
     let found : greatest_boundary part (min n (length part - length (trim_start part))) ≡ gone =
     ap (λ (r : List ℕ). greatest_boundary part (min n (length part - length r))) (sym rest_is) ∙ ap (greatest_boundary part) (sym least_is) ∙ greatest_boundary-is part least gone le at last in
-    let is : blanks n part ≡ slice_range text i (i + gone) = ap (λ k. take k part) found ∙ ap (take gone) part_is ∙ front-between text i j gone short in
-    let len : length (slice_range text i (i + gone)) ≡ gone = length-between text i (i + gone) (omega arith) ∙ (omega arith) in
+    sym (ap (λ k. length (take k part)) found ∙ length-take-le gone part (omega (arith, at.0)))
+
+take-own : (k : ℕ) (l : List ℕ) → take (length (take k l)) l ≡ take k l
+take-own zero l = refl
+take-own (suc k) [] = refl
+take-own (suc k) (x ∷ l) = ap (λ t. x ∷ t) (take-own k l)
+
+-- the plan of a dedent, where `part` is the line's text
+pub line_plan-dedent : (text : List ℕ) (i j n gone cursor place : ℕ) (part : List ℕ) → i ≤ j → j ≤ length text → part ≡ slice_range text i j → gone ≡ length (blanks n part)
+    → place ≡ pulled i gone cursor → line_plan true n (slice_range text i j) i cursor ≡ single (Delete i (slice_range text i (i + gone)) Forward) place (j - gone)
+line_plan-dedent text i j n gone cursor place part order within part_is gone_is place_is =
+    let width : length part ≡ j - i = ap length part_is ∙ length-between text i j within in
+    let first = greatest_boundary part (min n (length part - length (trim_start part))) in
+    let short : gone ≤ j - i = omega (arith, width, length-take first part) in
+    let is : blanks n part ≡ slice_range text i (i + gone) =
+    sym (take-own first part) ∙ ap (λ k. take k part) (sym gone_is) ∙ ap (take gone) part_is ∙ front-between text i j gone short in
     let stop : i + length part - gone ≡ j - gone = omega (arith, width) in
     ap (λ s. line_plan true n s i cursor) (sym part_is)
-    ∙ ap (λ (s : List ℕ). single (Delete i s Forward) (pulled i (length s) cursor) (i + length part - length s)) is
-    ∙ ap₂ (λ (k : ℕ) (stop : ℕ). single (Delete i (slice_range text i (i + gone)) Forward) (pulled i k cursor) stop) len (ap (λ k. i + length part - k) len ∙ stop)
-    ∙ ap (λ k. single (Delete i (slice_range text i (i + gone)) Forward) k (j - gone)) (sym place_is)
+    ∙ ap₂ (λ (s : List ℕ) (k : ℕ). single (Delete i s Forward) (pulled i k cursor) (i + length part - k)) is (sym gone_is)
+    ∙ ap₂ (λ (at : ℕ) (answer : ℕ). single (Delete i (slice_range text i (i + gone)) Forward) at answer) (sym place_is) stop
 
 -- ---- what a shift of a line leaves: as many newlines, and after k what stood after q
 record KeepsAfter (old new : List ℕ) (q k : ℕ) : Type 0 where
@@ -234,6 +247,73 @@ module _ {L : Type 0} (step : L → Event → L) (dedent : Bool) (n : ℕ) where
             rest = ends.rest ∙ sym (drop-drop 1 k (lines now.text)) ∙ ap (drop 1) h.rest ∙ drop-drop 1 k (lines old.text);
             count = after.count ∙ h.count;
           }
+
+-- ---- how many bytes go in or out
+bytes_of-put : (ps : List ℕ) (i cursor : ℕ) (rest : List Step) → bytes_of (put_spaces ps i cursor ++ rest) ≡ sum ps + bytes_of rest
+bytes_of-put [] i cursor rest = omega arith
+bytes_of-put (p ∷ ps) i cursor rest = omega (arith, length-spaces p, sum_by-cons (λ x. x) p ps, bytes_of-put ps i (pushed i p cursor) rest)
+
+bytes-indent : (n : ℕ) (texts : List (List ℕ)) (i cursor : ℕ) → bytes_of (lines_plan false n texts i cursor).steps ≡ n * length texts
+bytes-indent n [] i cursor = omega arith
+bytes-indent n (t ∷ ts) i cursor =
+    let rest = lines_plan false n ts (i + length t + n + 1) (pushed i n cursor) in
+    bytes_of-put (parts n) i cursor rest.steps ∙ ap (λ m. m + bytes_of rest.steps) (sum-parts n) ∙ ap (λ m. n + m) (bytes-indent n ts (i + length t + n + 1) (pushed i n cursor)) ∙ omega arith
+
+-- those of the blanks that go from lines
+pub blanks_of : ℕ → List (List ℕ) → ℕ
+blanks_of n [] = 0
+blanks_of n (t ∷ ts) = length (blanks n t) + blanks_of n ts
+
+bytes-dedent : (n : ℕ) (texts : List (List ℕ)) (i cursor : ℕ) → bytes_of (lines_plan true n texts i cursor).steps ≡ blanks_of n texts
+unfolding blanks_of
+bytes-dedent n [] i cursor = refl
+bytes-dedent n (t ∷ ts) i cursor =
+    let one = line_plan true n t i cursor in ap (λ m. length (blanks n t) + m) (bytes-dedent n ts (one.answer + 1) one.cursor)
+
+-- a later place lies in no earlier line
+line_number-up : (text : List ℕ) (p q : ℕ) → p ≤ q → line_number text p ≤ line_number text q
+line_number-up text p q le = omega (arith, count-parts (take q text) p, ap last_line (take-take p q text le))
+
+pub indents-change : (line : Line) (m : Movement) (n : ℕ) → indent_changes line m n false ≡ nat_lt 0 n
+indents-change line m n =
+    let r = indented line m in
+    let from = first_line line.text r in
+    let to = final_line line.text r + 1 in
+    let order = line_number-up line.text r.start (max r.start (r.end - 1)) (omega arith) in
+    let within = count-parts line.text (max r.start (r.end - 1)) in
+    let count : length (slice_range (lines line.text) from to) ≡ to - from =
+    length-between (lines line.text) from to (omega (arith, within, count_of_lines line.text)) in
+    let some : 0 < to - from = omega (arith, order) in
+    ap (nat_lt 0) (bytes-indent n (slice_range (lines line.text) from to) (start_of_line line.text from) line.cursor ∙ ap (λ k. n * k) count) ∙ many n (to - from) some
+  where
+    many : (n k : ℕ) → 0 < k → nat_lt 0 (n * k) ≡ nat_lt 0 n
+    many zero k some = let none : 0 * k ≡ 0 = omega arith in ap (nat_lt 0) none
+    many (suc n) zero some = absurd (omega arith)
+    many (suc n) (suc k) some = let more : suc n * suc k ≡ suc (n + k + n * k) = omega arith in lt-ltb 0 (suc n * suc k) (omega (arith, more)) ∙ sym (lt-ltb 0 (suc n) (omega arith))
+
+pub dedents-change : (line : Line) (m : Movement) (n first last : ℕ) → first ≡ line_number line.text (indented line m).start
+    → last ≡ line_number line.text (max (indented line m).start ((indented line m).end - 1))
+    → indent_changes line m n true ≡ nat_lt 0 (blanks_of n (slice_range (lines line.text) first (last + 1)))
+dedents-change line m n first last first_is last_is =
+    let texts = slice_range (lines line.text) (first_line line.text (indented line m)) (final_line line.text (indented line m) + 1) in
+    ap (nat_lt 0) (bytes-dedent n texts (start_of_line line.text (first_line line.text (indented line m))) line.cursor
+    ∙ ap₂ (λ i j. blanks_of n (slice_range (lines line.text) i (j + 1))) (sym first_is) (sym last_is))
+
+-- the first of the lines that are left
+pub blanks_of-next : (text : List ℕ) (n k last : ℕ) (part : List ℕ) → k ≤ last → k < length (lines text) → part ≡ text_of_line text k
+    → blanks_of n (slice_range (lines text) k (last + 1)) ≡ length (blanks n part) + blanks_of n (slice_range (lines text) (k + 1) (last + 1))
+unfolding blanks_of
+blanks_of-next text n k last part le small is =
+    let all = lines text in
+    let one : suc k ≡ k + 1 = omega arith in
+    let count : last + 1 - k ≡ suc (last + 1 - (k + 1)) = omega arith in
+    ap₂ (λ m ls. blanks_of n (take m ls)) count (drop-cons all k [] small ∙ ap (λ j. text_of_line text k ∷ drop j all) one)
+    ∙ ap (λ t. length (blanks n t) + blanks_of n (slice_range all (k + 1) (last + 1))) (sym is)
+
+pub blanks_of-none : (text : List ℕ) (n k last : ℕ) → last < k → blanks_of n (slice_range (lines text) k (last + 1)) ≡ 0
+unfolding blanks_of
+blanks_of-none text n k last past =
+    let none : last + 1 - k ≡ 0 = omega arith in ap (λ m. blanks_of n (take m (drop k (lines text)))) none
 
 pub ruleset parts_of_lines = (IsCharBoundary-from_part, IsCharBoundary-pulled, IsCharBoundary-trimmed, count_of_lines, text-between, trim_start-blanks)
 

@@ -1,7 +1,7 @@
 //! Indenting and dedenting the lines of a range.
-ghost use Rattle.std.specs.Prelude.{◌≡◌, ◌+◌, ◌^◌, ◌<◌, nat_le, true, false};
+ghost use Rattle.std.specs.Prelude.{◌≡◌, ◌+◌, ◌^◌, ◌<◌, length, nat_le, true, false};
 ghost use Rattle.std.specs.Str.{IsCharBoundary};
-ghost use Rattle.rl_line.specs.Indents.{indent_plan, pulled, pushed, shift_plan};
+ghost use Rattle.rl_line.specs.Indents.{blanks, indent_changes, indent_plan, pulled, pushed, shift_plan};
 ghost use Rattle.rl_line.specs.Plan.{Completion, Outcome, longest_by, room_by_step};
 ghost use Rattle.rl_line.specs.LineRanges.{IsRange};
 
@@ -64,6 +64,32 @@ impl LineBuffer {
         }
     }
 
+    /// Whether `indent` would put a byte in or take one out. It would not by an amount of 0, nor by a dedent of lines
+    /// from whose blanks nothing would go.
+    pub fn indent_changes(&self, mvt: &Movement, amount: u8, dedent: bool) -> bool
+        ensures { result ≡ indent_changes self.now mvt.now amount dedent }
+    {
+        if !dedent {
+            return amount > 0;
+        }
+        self.has_blanks(mvt, amount)
+    }
+
+    fn has_blanks(&self, mvt: &Movement, amount: u8) -> bool
+        ensures { result ≡ indent_changes self.now mvt.now amount true }
+    {
+        let range = self.indented(mvt);
+        let first = self.line_at(range.start);
+        let last = self.line_at(range.start.max(range.end.saturating_sub(1)));
+        for k in first..=last {
+            let line = &self.as_str()[self.start_of_line(k)..self.end_of_line(k)];
+            if blanks(line, amount) > 0 {
+                return true;
+            }
+        }
+        false
+    }
+
     // Indents or dedents one line.
     fn shift_line<L: ChangeListener>(
         &mut self,
@@ -113,13 +139,22 @@ impl LineBuffer {
         ensures { Completion L.step L.refused room_by_step (shift_plan self.old line true amount) self.old self.new listener.old listener.new result }
     {
         let text = &self.as_str()[line.start..line.end];
-        let blank = text.len() - text.trim_start().len();
-        let gone = text.floor_char_boundary(usize::from(amount).min(blank));
+        let gone = blanks(text, amount);
         let cursor = pulled(line.start, gone, self.pos());
         let range = line.start..line.start + gone;
         self.take_out_before(range, Direction::Forward, cursor, listener)?;
         Ok(())
     }
+}
+
+// How many bytes of its leading blanks a dedent takes from a line's text: up to `amount`, up to a character's end.
+#[tactic(auto, using(crate::proofs::Plans::IndentLemmas::parts_of_lines))]
+fn blanks(text: &str, amount: u8) -> usize
+    ensures len { result ≡ length (blanks amount text.now) }
+    ensures boundary { IsCharBoundary text.now result }
+{
+    let blank = text.len() - text.trim_start().len();
+    text.floor_char_boundary(usize::from(amount).min(blank))
 }
 
 // A cursor after `n` bytes went in at `start`.

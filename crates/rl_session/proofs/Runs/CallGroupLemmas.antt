@@ -11,18 +11,20 @@ use Rattle.rl_line.proofs.Records.RoundLemmas.{AtLevel-round, kept-either}
 use Rattle.rl_line.proofs.Records.UnitingLemmas.{Inside-united, taken-inside}
 use Rattle.rl_session.specs.Commands.{Step, with_changes}
 use Rattle.rl_session.specs.History.{History}
-use Rattle.rl_session.specs.Performing.{AllCallsStandInGroup, Calls, HasKept, Keeps, Performed, Unites, asks_to_keep, call, carried, is_one_unit, keeping, leaves_waiting, no_call, put_in, set_apart, with_waiting}
+use Rattle.rl_session.specs.Performing.{AllCallsStandInGroup, Calls, HasKept, Keeps, Obeyed, Unites, asks_to_keep, call, carried, is_one_unit, keeping, leaves_waiting, no_call, put_in, set_apart, with_waiting, counted_as, Performed}
 use Rattle.rl_session.specs.declared.options.Options.{Options}
+use Rattle.rl_base.specs.declared.motion.Movement.TheVariants.{WholeBuffer}
+use Rattle.rl_line.specs.Indents.{indent_changes}
 use Rattle.rl_session.specs.declared.session.Command.TheVariants as asks
 use Rattle.rl_session.specs.declared.session.Fault.TheVariants.{NoMemory}
 use Rattle.rl_session.specs.declared.session.Reply.TheVariants as says
-use Rattle.rl_session.proofs.Runs.CallLemmas.{Calls-options, Keeps-changes, Performed-options, keeping-Leads}
+use Rattle.rl_session.proofs.Runs.CallLemmas.{Calls-options, Keeps-changes, Obeyed-options, keeping-Leads}
 use Rattle.rl_session.proofs.Runs.HistoryLemmas.{Holds-Leads, Holds-row, done_as}
 use Rattle.rl_session.proofs.Runs.PlaceLemmas.{History-fresh, History-united, History-waiting}
 use Rattle.rl_session.proofs.Runs.RowLemmas.{within_bound-none}
 use Rattle.rl_session.proofs.Runs.UndoGroupLemmas.{Begin-done, Inside-row, abandoned-row, closed_unit, closing-row}
 use Rattle.rl_session.proofs.Runs.UnitLawLemmas.{undo-leads}
-use Rattle.rl_session.proofs.Sessions.PerformLemmas.{apart-same, united-same}
+use Rattle.rl_session.proofs.Sessions.PerformLemmas.{apart-same, united-same, uncounted}
 use Rattle.rl_session.proofs.Sessions.WaitingLemmas.{is_mark, leaves-left, mark-carried, mark-single, mark-stopped}
 
 -- ---- inside the group
@@ -66,6 +68,11 @@ may-carried : (command : Command) (s : State) (below now : ℕ) (reply : Reply) 
 may-carried (Undo n) s below now reply may = may
 may-carried _ s below now reply may = may
 
+may-counted : (command : Command) (s : State) (below now : ℕ) (reply : Reply) → MayStandInGroup below now command reply → MayStandInGroup below now (counted_as s command) reply
+may-counted (asks.Indent m amount dedent) s below now reply may =
+    cond_both (indent_changes s.line m amount dedent) (asks.Indent m amount dedent) (asks.Move WholeBuffer) (λ c. MayStandInGroup below now c reply) (λ _. tt) (λ _. tt)
+may-counted _ s below now reply may = may
+
 may-unit : (command : Command) (s : State) (below now : ℕ) (reply : Reply) → is_one_unit command ≡ true → MayStandInGroup below now (carried s command) reply
 may-unit (asks.Update t q) s below now reply one = tt
 may-unit asks.YankPop s below now reply one = tt
@@ -106,15 +113,15 @@ may-left false command old left made begin below reply e u may =
     may-carried command old below (level left.pair.changes.recorded) reply (subst (λ es. MayStandInGroup below (level es) command reply) same may)
 
 -- nothing is forgotten without a bound
-pub ends-made : (old new : State) (command : Command) (reply : Reply) (p : Performed old command reply new) → old.options.bound ≡ no_bound → (made : State) → new ≡ within_bound made → made.options ≡ new.options → new ≡ made
+pub ends-made : (old new : State) (command : Command) (reply : Reply) (p : Obeyed old command reply new) → old.options.bound ≡ no_bound → (made : State) → new ≡ within_bound made → made.options ≡ new.options → new ≡ made
 ends-made old new command reply p free made is same =
-    is ∙ within_bound-none made (ap (λ (o : Options). o.bound) (same ∙ Performed-options old new command reply p) ∙ free)
+    is ∙ within_bound-none made (ap (λ (o : Options). o.bound) (same ∙ Obeyed-options old new command reply p) ∙ free)
 
-in-Performed : (start : List ℕ) (front : List Entry) (old new : State) (command : Command) (reply : Reply) → IsMatched front → old.options.bound ≡ no_bound → MayStandInGroup (level front) (level new.pair.changes.recorded) command reply
-    → Performed old command reply new → StandsInside start front old → StandsInside start front new
-in-Performed start front old new command reply m free may (inl stopped) h = subst (StandsInside start front) (sym stopped.1) h
-in-Performed start front old new command reply m free may (inr (inl unkept)) h = in-Keeps (asks_to_keep old command) start front old new reply m unkept.2 h
-in-Performed start front old new command reply m free may (inr (inr done)) h =
+in-Obeyed : (start : List ℕ) (front : List Entry) (old new : State) (command : Command) (reply : Reply) → IsMatched front → old.options.bound ≡ no_bound → MayStandInGroup (level front) (level new.pair.changes.recorded) command reply
+    → Obeyed old command reply new → StandsInside start front old → StandsInside start front new
+in-Obeyed start front old new command reply m free may (inl stopped) h = subst (StandsInside start front) (sym stopped.1) h
+in-Obeyed start front old new command reply m free may (inr (inl unkept)) h = in-Keeps (asks_to_keep old command) start front old new reply m unkept.2 h
+in-Obeyed start front old new command reply m free may (inr (inr done)) h =
     let kept = in-Keeps (asks_to_keep old command) start front old done.kept done.keeps.0 m done.keeps.1 h in
     let begin = unit_start (put_in done.kept command) done.kept.pair.changes in
     let later = taken-inside (put_in done.kept command) front done.kept.pair.changes kept.inside in
@@ -131,7 +138,9 @@ in-Calls : (start : List ℕ) (front : List Entry) (old new : State) (calls : Ca
     → StandsInside start front old → StandsInside start front new
 in-Calls start front old new no_call m free may h = h
 in-Calls start front old new (call {mid = mid} command reply p calls) m free may h =
-    in-Calls start front mid new calls m (ap (λ (o : Options). o.bound) (Performed-options old mid command reply p) ∙ free) may.1 (in-Performed start front old mid command reply m free may.0 p h)
+    let does = counted_as old command in
+    let may_here = may-counted command old (level front) (level mid.pair.changes.recorded) reply may.0 in
+    in-Calls start front mid new calls m (ap (λ (o : Options). o.bound) (Obeyed-options old mid does reply p) ∙ free) may.1 (in-Obeyed start front old mid does reply m free may_here p h)
 
 -- ---- the begin of a group, its end or its abandon, if it was done
 record MarkDone (start : List ℕ) (texts : List (List ℕ)) (old : State) (command : Command) (reply : Reply) (new : State) : Type 0 where
@@ -145,7 +154,7 @@ record MarkDone (start : List ℕ) (texts : List (List ℕ)) (old : State) (comm
   holds : (now : List (List ℕ)) × Holds start now new
 
 mark_done : (start : List ℕ) (texts : List (List ℕ)) (command : Command) (old new : State) (reply : Reply) → Holds start texts old → is_mark command ≡ true → old.options.bound ≡ no_bound → ¬ (WasRefused reply)
-    → Performed old command reply new → MarkDone start texts old command reply new
+    → Obeyed old command reply new → MarkDone start texts old command reply new
 mark_done start texts command old new reply h mark free allowed (inl stopped) = absurd (allowed (mark-stopped command old reply mark stopped.0))
 mark_done start texts command old new reply h mark free allowed (inr (inl unkept)) = absurd (allowed unkept.1)
 mark_done start texts command old new reply h mark free allowed (inr (inr done)) =
@@ -179,7 +188,7 @@ record Begun (start : List ℕ) (old begun : State) : Type 0 where
   is : begun.pair.changes.recorded ≡ front ++ Begin ∷ []
   stands : StandsInside start front begun
 
-begins : (start : List ℕ) (texts : List (List ℕ)) (old new : State) (reply : Reply) → Holds start texts old → old.options.bound ≡ no_bound → Performed old asks.Begin reply new → ¬ (WasRefused reply) → Begun start old new
+begins : (start : List ℕ) (texts : List (List ℕ)) (old new : State) (reply : Reply) → Holds start texts old → old.options.bound ≡ no_bound → Obeyed old asks.Begin reply new → ¬ (WasRefused reply) → Begun start old new
 begins start texts old new reply h free p allowed =
     let d = mark_done start texts asks.Begin old new reply h refl free allowed p in
     let asked = asks_to_keep old asks.Begin in
@@ -234,7 +243,7 @@ record Ended (start : List ℕ) (front : List Entry) (new : State) : Type 0 wher
 
 ends : (start : List ℕ) (front : List Entry) (old new : State) (command : Command) (reply : Reply) → IsMatched front → StandsInside start front old → old.options.bound ≡ no_bound
     → ClosesGroup (level front) (level old.pair.changes.recorded) command → has_change (drop (suc (length front)) old.pair.changes.recorded) ≡ true
-    → Performed old command reply new → ¬ (WasRefused reply) → Ended start front new
+    → Obeyed old command reply new → ¬ (WasRefused reply) → Ended start front new
 ends start front old new command reply m h free closes change p allowed =
     let r = old.pair.changes in
     let n = level r.recorded in
@@ -260,31 +269,32 @@ inside-group start old begun mid b below inside free opened all =
     in-Calls start b.front begun mid inside b.matched free (subst (λ n. AllCallsStandInGroup n inside) (below-is start old begun b below opened) all) b.stands
 
 pub group-performed : (start : List ℕ) (texts : List (List ℕ)) (old begun mid ended new : State) (below : ℕ) (first last said : Reply) (inside : Calls begun mid) (command : Command)
-    → Holds start texts old → old.options.bound ≡ no_bound → Performed old asks.Begin first begun → ¬ (WasRefused first)
+    → Holds start texts old → old.options.bound ≡ no_bound → Obeyed old asks.Begin first begun → ¬ (WasRefused first)
     → level begun.pair.changes.recorded ≡ suc below → AllCallsStandInGroup below inside
     → ClosesGroup below (level mid.pair.changes.recorded) command → Performed mid command last ended → ¬ (WasRefused last)
     → has_change (drop (length begun.pair.changes.recorded) mid.pair.changes.recorded) ≡ true
-    → Performed ended (Undo 1) said new → ¬ (WasRefused said) → new.line.text ≡ old.line.text
+    → Obeyed ended (Undo 1) said new → ¬ (WasRefused said) → new.line.text ≡ old.line.text
 group-performed start texts old begun mid ended new below first last said inside command h free p allowed opened all closes e ends_well change u undoes =
     let b = begins start texts old begun first h free p allowed in
     let same = below-is start old begun b below opened in
-    let free_then = ap (λ (o : Options). o.bound) (Performed-options old begun asks.Begin first p) ∙ free in
+    let free_then = ap (λ (o : Options). o.bound) (Obeyed-options old begun asks.Begin first p) ∙ free in
     let free_mid = ap (λ (o : Options). o.bound) (Calls-options begun mid inside) ∙ free_then in
     let at_mid = inside-group start old begun mid b below inside free_then opened all in
     let long : length begun.pair.changes.recorded ≡ suc (length b.front) = omega (arith, ap length b.is, length-append b.front (Begin ∷ [])) in
+    let own = uncounted command mid ended last (mark-single command (closes-mark command below (level mid.pair.changes.recorded) closes)) e in
     let k = ends start b.front mid ended command last b.matched at_mid free_mid (subst (λ n. ClosesGroup n (level mid.pair.changes.recorded) command) same closes)
-    (ap (λ n. has_change (drop n mid.pair.changes.recorded)) (sym long) ∙ change) e ends_well in
+    (ap (λ n. has_change (drop n mid.pair.changes.recorded)) (sym long) ∙ change) own ends_well in
     let leads = undo-leads start k.texts ended new said k.holds k.change u undoes in
     same_Some new.line.text old.line.text (sym leads ∙ ap (λ es. replay_entries es start) k.kept ∙ b.leads)
 
 pub abandon-performed : (start : List ℕ) (texts : List (List ℕ)) (old begun mid new : State) (below : ℕ) (first last : Reply) (inside : Calls begun mid)
-    → Holds start texts old → old.options.bound ≡ no_bound → Performed old asks.Begin first begun → ¬ (WasRefused first)
+    → Holds start texts old → old.options.bound ≡ no_bound → Obeyed old asks.Begin first begun → ¬ (WasRefused first)
     → level begun.pair.changes.recorded ≡ suc below → AllCallsStandInGroup below inside
-    → level mid.pair.changes.recorded ≡ suc below → Performed mid asks.Abandon last new → ¬ (WasRefused last)
+    → level mid.pair.changes.recorded ≡ suc below → Obeyed mid asks.Abandon last new → ¬ (WasRefused last)
     → (new.line.text ≡ old.line.text) × (new.pair.changes.recorded ++ Begin ∷ [] ≡ begun.pair.changes.recorded)
 abandon-performed start texts old begun mid new below first last inside h free p allowed opened all opened_then a abandons =
     let b = begins start texts old begun first h free p allowed in
-    let free_then = ap (λ (o : Options). o.bound) (Performed-options old begun asks.Begin first p) ∙ free in
+    let free_then = ap (λ (o : Options). o.bound) (Obeyed-options old begun asks.Begin first p) ∙ free in
     let free_mid = ap (λ (o : Options). o.bound) (Calls-options begun mid inside) ∙ free_then in
     let at_mid = inside-group start old begun mid b below inside free_then opened all in
     let d = mark_done start at_mid.texts asks.Abandon mid new last at_mid.holds refl free_mid abandons a in

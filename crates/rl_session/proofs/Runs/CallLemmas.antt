@@ -3,7 +3,7 @@ use Rattle.rl_session.proofs.Common.{◌≡◌, ◌&&◌, ℕ, cond_both, not, B
 use Rattle.rl_base.proofs.Ring.BoundLemmas.{IsRing-within, killing-within}
 use Rattle.rl_line.specs.Units.{kept_undone, still_waiting, unit_start, united}
 use Rattle.rl_session.specs.Commands.{Step, with_changes}
-use Rattle.rl_session.specs.Performing.{Calls, HasKept, HoldsFrom, IsBarred, leaves_waiting, with_waiting, IsStopped, Keeps, Performed, Stops, asks_to_keep, NoneUnites, Unites, call, carried, is_edit_or_mark, is_one_unit, keeping, made_in_group, no_call, put_in, rows_in, rows_of, set_apart, within_group}
+use Rattle.rl_session.specs.Performing.{Calls, HasKept, HoldsFrom, IsBarred, leaves_waiting, with_waiting, IsStopped, Keeps, Obeyed, Stops, asks_to_keep, NoneUnites, Unites, call, carried, is_edit_or_mark, is_one_unit, keeping, made_in_group, no_call, put_in, rows_in, rows_of, set_apart, within_group, counted_as}
 use Rattle.rl_line.specs.Record.{parted}
 use Rattle.rl_line.specs.declared.changeset.UnitStart.{UnitStart}
 use Rattle.rl_line.specs.declared.change.Freshness.TheVariants.{Parted}
@@ -41,23 +41,23 @@ module _ (P : State → Type 0) (steps : (old new : State) (command : Command) (
   Keeps-keeps false old kept reply k h = subst P (sym k.1) h
   Keeps-keeps true old kept reply k h = steps old kept KeepUndone reply k h
 
-  pub Performed-keeps : (forgets : (s : State) → P s → P (within_bound s)) (old new : State) (command : Command) (reply : Reply) → Performed old command reply new → P old → P new
-  Performed-keeps forgets old new command reply (inl stopped) h = subst P (sym stopped.1) h
-  Performed-keeps forgets old new command reply (inr (inl unkept)) h = Keeps-keeps (asks_to_keep old command) old new reply unkept.2 h
-  Performed-keeps forgets old new command reply (inr (inr done)) h =
+  pub Obeyed-keeps : (forgets : (s : State) → P s → P (within_bound s)) (old new : State) (command : Command) (reply : Reply) → Obeyed old command reply new → P old → P new
+  Obeyed-keeps forgets old new command reply (inl stopped) h = subst P (sym stopped.1) h
+  Obeyed-keeps forgets old new command reply (inr (inl unkept)) h = Keeps-keeps (asks_to_keep old command) old new reply unkept.2 h
+  Obeyed-keeps forgets old new command reply (inr (inr done)) h =
       let kept = Keeps-keeps (asks_to_keep old command) old done.kept done.keeps.0 done.keeps.1 h in
       let left = steps (set_apart done.kept command) done.left (carried old command) reply done.step (set_apart-keeps P marks done.kept command kept) in
       let waiting = waiting-keeps P marks old command done.left left in
       let start = unit_start (put_in done.kept command) done.kept.pair.changes in
       subst P (sym done.forgets.is) (forgets done.made (Unites-keeps P marks (is_one_unit command) start (with_waiting old command done.left) done.made done.unites waiting))
 
-pub Performed-options : (old new : State) (command : Command) (reply : Reply) → Performed old command reply new → new.options ≡ old.options
-Performed-options old new command reply p =
-    Performed-keeps (λ s. s.options ≡ old.options) (λ a b c r s e. Step-options a b c r s ∙ e) (λ s changes e. e) (λ s e. e) old new command reply p refl
+pub Obeyed-options : (old new : State) (command : Command) (reply : Reply) → Obeyed old command reply new → new.options ≡ old.options
+Obeyed-options old new command reply p =
+    Obeyed-keeps (λ s. s.options ≡ old.options) (λ a b c r s e. Step-options a b c r s ∙ e) (λ s changes e. e) (λ s e. e) old new command reply p refl
 
 pub Calls-options : (old new : State) (calls : Calls old new) → new.options ≡ old.options
 Calls-options old new no_call = refl
-Calls-options old new (call {mid = mid} command reply p calls) = Calls-options mid new calls ∙ Performed-options old mid command reply p
+Calls-options old new (call {mid = mid} command reply p calls) = Calls-options mid new calls ∙ Obeyed-options old mid (counted_as old command) reply p
 
 -- ---- the rows that lead to what was left before it forgot
 pub keeping-Leads : (asked : Bool) (old : State) (reply : Reply) (kept : State) (k : Keeps asked old reply kept) → Leads old (keeping asked old reply kept k) kept
@@ -65,7 +65,7 @@ keeping-Leads false old reply kept k = k.1
 keeping-Leads true old reply kept k = (refl, refl)
 
 -- with no bound nothing is forgotten, so that is the end
-pub rows_in-Leads : (old new : State) (command : Command) (reply : Reply) (p : Performed old command reply new) → old.options.bound ≡ no_bound → is_one_unit command ≡ false → leaves_waiting old command ≡ false
+pub rows_in-Leads : (old new : State) (command : Command) (reply : Reply) (p : Obeyed old command reply new) → old.options.bound ≡ no_bound → is_one_unit command ≡ false → leaves_waiting old command ≡ false
     → Leads old (rows_in command reply p) new
 rows_in-Leads old new command reply (inl stopped) free single none = stopped.1
 rows_in-Leads old new command reply (inr (inl unkept)) free single none = keeping-Leads (asks_to_keep old command) old reply new unkept.2
@@ -82,8 +82,9 @@ rows_in-Leads old new command reply (inr (inr done)) free single none =
 pub rows_of-Leads : (old new : State) (calls : Calls old new) → old.options.bound ≡ no_bound → NoneUnites calls → Leads old (rows_of calls) new
 rows_of-Leads old new no_call free single = refl
 rows_of-Leads old new (call {mid = mid} command reply p calls) free single =
-    let still = ap (λ (o : Options). o.bound) (Performed-options old mid command reply p) ∙ free in
-    Leads-append (rows_in command reply p) (rows_of calls) old mid new (rows_in-Leads old mid command reply p free single.0 single.1) (rows_of-Leads mid new calls still single.2)
+    let does = counted_as old command in
+    let still = ap (λ (o : Options). o.bound) (Obeyed-options old mid does reply p) ∙ free in
+    Leads-append (rows_in does reply p) (rows_of calls) old mid new (rows_in-Leads old mid does reply p free single.0 single.1) (rows_of-Leads mid new calls still single.2)
 
 -- ---- a command that was done, if what was undone is kept in the record alone
 kept_changes : (old kept : State) (reply : Reply) → Step old KeepUndone reply kept → (changes : Record) × (kept ≡ with_changes changes old)
@@ -145,7 +146,7 @@ plain-leaves_none Abandon s plain = cc
 plain-leaves_none _ s plain = refl
 
 -- it was done unless it was refused
-pub done_after : (command : Command) (old new : State) (reply : Reply) → is_plain command ≡ true → ¬ (WasRefused reply) → Performed old command reply new → DoneAfter old command reply new
+pub done_after : (command : Command) (old new : State) (reply : Reply) → is_plain command ≡ true → ¬ (WasRefused reply) → Obeyed old command reply new → DoneAfter old command reply new
 done_after command old new reply plain allowed (inl stopped) = absurd (allowed (stopped_refused command old reply plain stopped.0))
 done_after command old new reply plain allowed (inr (inl unkept)) = absurd (allowed unkept.1)
 done_after command old new reply plain allowed (inr (inr done)) =
@@ -230,13 +231,13 @@ HoldsFrom-united held true start left made (inl u) h =
       holds = History-united h.begin (h.begin ∷ h.stands.rest) left.line.text left.pair.changes start h.holds;
     })
 
-HoldsFrom-Performed : (held : List (List ℕ)) (old new : State) (command : Command) (reply : Reply) (p : Performed old command reply new) → HoldsFrom held old
+HoldsFrom-Obeyed : (held : List (List ℕ)) (old new : State) (command : Command) (reply : Reply) (p : Obeyed old command reply new) → HoldsFrom held old
     → HoldsFrom (held ++ held_of (rows_in command reply p)) new
-HoldsFrom-Performed held old new command reply (inl stopped) h = HoldsFrom-Leads held [] old new h stopped.1
-HoldsFrom-Performed held old new command reply (inr (inl unkept)) h =
+HoldsFrom-Obeyed held old new command reply (inl stopped) h = HoldsFrom-Leads held [] old new h stopped.1
+HoldsFrom-Obeyed held old new command reply (inr (inl unkept)) h =
     let asked = asks_to_keep old command in
     HoldsFrom-Leads held (keeping asked old reply new unkept.2) old new h (keeping-Leads asked old reply new unkept.2)
-HoldsFrom-Performed held old new command reply (inr (inr done)) h =
+HoldsFrom-Obeyed held old new command reply (inr (inr done)) h =
     let asked = asks_to_keep old command in
     let first = keeping asked old done.keeps.0 done.kept done.keeps.1 in
     let row : Row = record { before = set_apart done.kept command; command = carried old command; reply = reply; after = done.left; step = done.step } in
@@ -254,9 +255,10 @@ HoldsFrom-Performed held old new command reply (inr (inr done)) h =
 pub HoldsFrom-Calls : (held : List (List ℕ)) (old new : State) (calls : Calls old new) → HoldsFrom held old → HoldsFrom (held ++ held_of (rows_of calls)) new
 HoldsFrom-Calls held old new no_call h = HoldsFrom-Leads held [] old new h refl
 HoldsFrom-Calls held old new (call {mid = mid} command reply p calls) h =
-    let rows = rows_in command reply p in
+    let does = counted_as old command in
+    let rows = rows_in does reply p in
     subst (λ k. HoldsFrom k new) (append_assoc held (held_of rows) (held_of (rows_of calls)) ∙ ap (λ k. held ++ k) (sym (held_of-append rows (rows_of calls))))
-    (HoldsFrom-Calls (held ++ held_of rows) mid new calls (HoldsFrom-Performed held old mid command reply p h))
+    (HoldsFrom-Calls (held ++ held_of rows) mid new calls (HoldsFrom-Obeyed held old mid does reply p h))
 
 -- the present text is one of them
 text-held : (start : List ℕ) (held : List (List ℕ)) (s : State) → Holds start held s → WasHeld s.line.text held
@@ -266,11 +268,11 @@ WasHeld-after : (front : List (List ℕ)) (text : List ℕ) (held all : List (Li
 WasHeld-after front text held all e h =
     (front ++ h.0, record { rest = h.1.rest; is = e ∙ ap (λ x. front ++ x) h.1.is ∙ sym (append_assoc front h.0 (text ∷ h.1.rest)) })
 
-pub undo-Performed : (held : List (List ℕ)) (old new : State) (n : ℕ) (reply : Reply) → HoldsFrom held old → Performed old (Undo n) reply new → ¬ (WasRefused reply) → WasHeld new.line.text held
-undo-Performed held old new n reply h (inl stopped) allowed =
+pub undo-Obeyed : (held : List (List ℕ)) (old new : State) (n : ℕ) (reply : Reply) → HoldsFrom held old → Obeyed old (Undo n) reply new → ¬ (WasRefused reply) → WasHeld new.line.text held
+undo-Obeyed held old new n reply h (inl stopped) allowed =
     WasHeld-after h.before new.line.text (h.begin ∷ h.stands.rest) held h.stands.is (subst (λ (s : State). WasHeld s.line.text (h.begin ∷ h.stands.rest)) (sym stopped.1) (text-held h.begin _ old h.holds))
-undo-Performed held old new n reply h (inr (inl unkept)) allowed = absurd (allowed unkept.1)
-undo-Performed held old new n reply h (inr (inr done)) allowed =
+undo-Obeyed held old new n reply h (inr (inl unkept)) allowed = absurd (allowed unkept.1)
+undo-Obeyed held old new n reply h (inr (inr done)) allowed =
     let m = within_group (made_in_group old) n in
     let row : Row = record { before = done.kept; command = Undo m; reply = reply; after = done.left; step = done.step } in
     let run : Run done.kept (Undo m ∷ []) (reply ∷ []) done.left = record { rows = row ∷ []; leads = (refl, refl); asked = refl; answered = refl } in
@@ -305,12 +307,12 @@ abbrev row_of : (old new : State) (command : Command) (reply : Reply) → Step o
 row_of old new command reply step = record { before = old; command = command; reply = reply; after = new; step = step }
 
 -- what tells of changes tells of all that a performed command changed
-pub changed-Performed : (asked : List ℕ) (old new : State) (command : Command) (reply : Reply) → Performed old command reply new → ChangedFrom asked old → ChangedFrom asked new
-changed-Performed asked = Performed-keeps (ChangedFrom asked) (λ old new command reply step. changed_row asked (row_of old new command reply step))
+pub changed-Obeyed : (asked : List ℕ) (old new : State) (command : Command) (reply : Reply) → Obeyed old command reply new → ChangedFrom asked old → ChangedFrom asked new
+changed-Obeyed asked = Obeyed-keeps (ChangedFrom asked) (λ old new command reply step. changed_row asked (row_of old new command reply step))
     (λ s changes from. record { stands = Stands-changes changes s from.stands; bounded = from.bounded; covers = from.covers }) (changed-forgets asked)
 
-pub reported-Performed : (read : List ℕ) (old new : State) (command : Command) (reply : Reply) → Performed old command reply new → ReportedFrom read old → ReportedFrom read new
-reported-Performed read = Performed-keeps (ReportedFrom read) (λ old new command reply step. reported_row read (row_of old new command reply step))
+pub reported-Obeyed : (read : List ℕ) (old new : State) (command : Command) (reply : Reply) → Obeyed old command reply new → ReportedFrom read old → ReportedFrom read new
+reported-Obeyed read = Obeyed-keeps (ReportedFrom read) (λ old new command reply step. reported_row read (row_of old new command reply step))
     (λ s changes from. record { stands = Stands-changes changes s from.stands; bounded = from.bounded; text = from.text; leads = from.leads }) (reported-forgets read)
 
 -- ---- the limit
@@ -364,11 +366,11 @@ barred_apart command old s free =
     cond_both (is_one_unit command) (with_changes (parted s.pair.changes) s) s (λ k. ¬ (IsBarred k (carried old command)))
     (λ one b. free (barred_before (carried old command) (parted s.pair.changes) s (carried-edits command old ∙ one_unit-edits command one) b)) (λ e. free)
 
-pub limit-Performed : (old new : State) (command : Command) (reply : Reply) → Performed old command reply new → KeepsLimit old → LimitStays old new
-limit-Performed old new command reply (inl stopped) h = subst (λ s. LimitStays old s) (sym stopped.1) (h, refl)
-limit-Performed old new command reply (inr (inl unkept)) h =
+pub limit-Obeyed : (old new : State) (command : Command) (reply : Reply) → Obeyed old command reply new → KeepsLimit old → LimitStays old new
+limit-Obeyed old new command reply (inl stopped) h = subst (λ s. LimitStays old s) (sym stopped.1) (h, refl)
+limit-Obeyed old new command reply (inr (inl unkept)) h =
     (Keeps-limit (carried old command) (is_edit_or_mark command) old.options.keeps old new reply (sym (carried-edits command old)) unkept.2 (not_barred command old unkept.0) h).0
-limit-Performed old new command reply (inr (inr done)) h =
+limit-Obeyed old new command reply (inr (inr done)) h =
     let kept = Keeps-limit (carried old command) (is_edit_or_mark command) old.options.keeps old done.kept done.keeps.0 (sym (carried-edits command old)) done.keeps.1 (not_barred command old done.free) h in
     let marks = λ (s : State) (changes : Record) (l : LimitStays old s). limit-changes old s changes l in
     let apart = set_apart-keeps (LimitStays old) marks done.kept command kept.0 in

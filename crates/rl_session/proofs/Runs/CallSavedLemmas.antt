@@ -13,11 +13,11 @@ use Rattle.rl_line.proofs.Records.UnitingLemmas.{saved-united, united-cases}
 use Rattle.rl_line.proofs.Records.WaitingLemmas.{MarksMoved, ended-empty}
 use Rattle.rl_session.specs.Commands.{with_changes}
 use Rattle.rl_session.specs.History.{History}
-use Rattle.rl_session.specs.Performing.{Calls, Carried, Performed, Unites, asks_to_keep, call, carried, is_one_unit, keeping, leaves_waiting, no_call, put_in, set_apart}
+use Rattle.rl_session.specs.Performing.{Calls, Carried, Obeyed, Unites, asks_to_keep, call, carried, is_one_unit, keeping, leaves_waiting, no_call, put_in, set_apart, counted_as}
 use Rattle.rl_session.specs.State.{saved_now}
 use Rattle.rl_session.specs.declared.options.Options.{Options}
 use Rattle.rl_session.proofs.Runs.CallGroupLemmas.{ends-made}
-use Rattle.rl_session.proofs.Runs.CallLemmas.{Performed-options, keeping-Leads}
+use Rattle.rl_session.proofs.Runs.CallLemmas.{Obeyed-options, keeping-Leads}
 use Rattle.rl_session.proofs.Runs.HistoryLemmas.{Holds-Leads, Saved-Leads}
 use Rattle.rl_session.proofs.Runs.PlaceLemmas.{History-fresh, History-united, History-waiting}
 use Rattle.rl_session.proofs.Sessions.PerformLemmas.{united-same}
@@ -134,18 +134,19 @@ ComesTo-made start text old new command reply done (es, leads, c) =
     (es, leads, Comes-united start es one n done.kept done.left done.made kept.stays gone u (left es kept.stays)))
     done.unites
 
-ComesTo-Performed : (start text : List ℕ) (old new : State) (command : Command) (reply : Reply) → Performed old command reply new → old.options.bound ≡ no_bound → ComesTo start text old → ComesTo start text new
-ComesTo-Performed start text old new command reply (inl stopped) free c = subst (ComesTo start text) (sym stopped.1) c
-ComesTo-Performed start text old new command reply (inr (inl unkept)) free (es, leads, c) =
+ComesTo-Obeyed : (start text : List ℕ) (old new : State) (command : Command) (reply : Reply) → Obeyed old command reply new → old.options.bound ≡ no_bound → ComesTo start text old → ComesTo start text new
+ComesTo-Obeyed start text old new command reply (inl stopped) free c = subst (ComesTo start text) (sym stopped.1) c
+ComesTo-Obeyed start text old new command reply (inr (inl unkept)) free (es, leads, c) =
     let asked = asks_to_keep old command in (es, leads, Comes-Leads start es (keeping asked old reply new unkept.2) old new (keeping-Leads asked old reply new unkept.2) c)
-ComesTo-Performed start text old new command reply (inr (inr done)) free c =
+ComesTo-Obeyed start text old new command reply (inr (inr done)) free c =
     let is = ends-made old new command reply (inr (inr done)) free done.made done.forgets.is (sym (ap (λ (s : State). s.options) done.forgets.is)) in
     subst (ComesTo start text) (sym is) (ComesTo-made start text old new command reply done c)
 
 ComesTo-Calls : (start text : List ℕ) (old new : State) (calls : Calls old new) → old.options.bound ≡ no_bound → ComesTo start text old → ComesTo start text new
 ComesTo-Calls start text old new no_call free c = c
 ComesTo-Calls start text old new (call {mid = mid} command reply p calls) free c =
-    ComesTo-Calls start text mid new calls (ap (λ (o : Options). o.bound) (Performed-options old mid command reply p) ∙ free) (ComesTo-Performed start text old mid command reply p free c)
+    let does = counted_as old command in
+    ComesTo-Calls start text mid new calls (ap (λ (o : Options). o.bound) (Obeyed-options old mid does reply p) ∙ free) (ComesTo-Obeyed start text old mid does reply p free c)
 
 pub saved-performed : (start : List ℕ) (held : List (List ℕ)) (old new : State) (calls : Calls (saved_now old) new) → Holds start held old → old.options.bound ≡ no_bound
     → is_saved new.pair.changes ≡ true → new.line.text ≡ old.line.text

@@ -8,12 +8,12 @@ use Rattle.rl_line.proofs.Records.LastLemmas.{end_one-begin}
 use Rattle.rl_line.proofs.Records.LevelLemmas.{level-begin}
 use Rattle.rl_line.proofs.Records.WaitingLemmas.{given_up}
 use Rattle.rl_session.specs.Commands.{with_changes}
-use Rattle.rl_session.specs.Performing.{EndsLast, Performed, is_empty_group, is_one_unit, leaves_waiting, put_in, with_waiting}
+use Rattle.rl_session.specs.Performing.{EndsLast, Obeyed, is_empty_group, is_one_unit, leaves_waiting, put_in, with_waiting, Performed}
 use Rattle.rl_session.specs.declared.options.Options.{Options}
 use Rattle.rl_session.specs.declared.session.Command.TheVariants.{Abandon, Begin, End, EndOne}
 use Rattle.rl_session.specs.declared.session.Reply.TheVariants as says
 use Rattle.rl_session.proofs.Runs.RowLemmas.{Step-options, within_bound-none}
-use Rattle.rl_session.proofs.Sessions.PerformLemmas.{united-same}
+use Rattle.rl_session.proofs.Sessions.PerformLemmas.{united-same, uncounted}
 use Rattle.rl_session.proofs.Sessions.WaitingLemmas.{empty-mark, left_by, made-pending, made_of, mark-single, mark-stopped, step-alone}
 
 -- what such a command left, before it forgot
@@ -26,7 +26,7 @@ none-waits : (es : List Entry) → waits es ≡ false → es ≡ []
 none-waits [] h = refl
 none-waits (e ∷ es) h = cc
 
-left : (command : Command) (old new : State) (reply : Reply) → is_empty_group old.pair.changes.recorded command ≡ true → old.options.keeps ≡ false → Performed old command reply new → ¬ (WasRefused reply)
+left : (command : Command) (old new : State) (reply : Reply) → is_empty_group old.pair.changes.recorded command ≡ true → old.options.keeps ≡ false → Obeyed old command reply new → ¬ (WasRefused reply)
     → (made : State) × (new ≡ within_bound made) × Leaves command old made
 left command old new reply empty none (inl s) allowed = absurd (allowed (mark-stopped command old reply (empty-mark command old.pair.changes.recorded empty) s.0))
 left command old new reply empty none (inr (inl unkept)) allowed = absurd (allowed unkept.1)
@@ -49,7 +49,8 @@ left command old new reply empty none (inr (inr done)) allowed =
 pub waits-on : (old new : State) (command : Command) (reply : Reply) → is_empty_group old.pair.changes.recorded command ≡ true → old.options.keeps ≡ false → Performed old command reply new → ¬ (WasRefused reply)
     → new.pair.changes.pending ≡ old.pair.changes.pending
 waits-on old new command reply empty none p allowed =
-    let (made, is, leaves) = left command old new reply empty none p allowed in ap (λ (s : State). s.pair.changes.pending) is ∙ leaves.pending
+    let own = uncounted command old new reply (mark-single command (empty-mark command old.pair.changes.recorded empty)) p in
+    let (made, is, leaves) = left command old new reply empty none own allowed in ap (λ (s : State). s.pair.changes.pending) is ∙ leaves.pending
 
 -- a group that was opened last, and is empty
 adds-none : (es : List Entry) → adds_end 1 (es ++ AddsBegin ∷ []) ≡ false
@@ -75,7 +76,7 @@ takes-off Abandon r es is last = (given_up r (ap (adds_end 1) is ∙ adds-none e
 takes-off _ r es is last = absurd last
 
 pub leaves-record : (old mid new : State) (n : ℕ) (command : Command) (reply : Reply) → old.options.keeps ≡ false → old.options.bound ≡ no_bound → EndsLast (level old.pair.changes.recorded) command
-    → Performed old Begin (says.Mark n) mid → Performed mid command reply new → ¬ (WasRefused reply)
+    → Obeyed old Begin (says.Mark n) mid → Performed mid command reply new → ¬ (WasRefused reply)
     → (new.pair.changes.recorded ≡ old.pair.changes.recorded) × (new.pair.changes.pending ≡ old.pair.changes.pending)
 leaves-record old mid new n command reply none free last p q allowed =
     let es = old.pair.changes.recorded in
@@ -85,7 +86,8 @@ leaves-record old mid new n command reply none free last p q allowed =
     let recorded : mid.pair.changes.recorded ≡ es ++ AddsBegin ∷ [] = ap (λ (s : State). s.pair.changes.recorded) here ∙ begins.recorded in
     let options : mid.options ≡ old.options = ap (λ (s : State). s.options) here ∙ begins.options in
     let empty = ap (λ l. is_empty_group l command) recorded ∙ ends-empty command es last in
-    let (made, then, ends) = left command mid new reply empty (ap (λ (o : Options). o.keeps) options ∙ none) q allowed in
+    let own = uncounted command mid new reply (mark-single command (empty-mark command mid.pair.changes.recorded empty)) q in
+    let (made, then, ends) = left command mid new reply empty (ap (λ (o : Options). o.keeps) options ∙ none) own allowed in
     let there : new ≡ made = then ∙ within_bound-none made (ap (λ (o : Options). o.bound) (ends.options ∙ options) ∙ free) in (
       ap (λ (s : State). s.pair.changes.recorded) there ∙ ends.recorded ∙ takes-off command mid.pair.changes es recorded last,
       ap (λ (s : State). s.pair.changes.pending) there ∙ ends.pending ∙ ap (λ (s : State). s.pair.changes.pending) here ∙ begins.pending,

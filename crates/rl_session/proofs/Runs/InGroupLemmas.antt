@@ -5,7 +5,7 @@ use Rattle.rl_line.proofs.Records.ForgettingLemmas.{level-kept}
 use Rattle.rl_line.proofs.Records.MatchLemmas.{BothMatched-undone}
 use Rattle.rl_line.proofs.Records.UnitLemmas.{AllGood, AllGood-right, good_cuts, units-good}
 use Rattle.rl_session.specs.Commands.{Step}
-use Rattle.rl_session.specs.Performing.{Performed, within_group}
+use Rattle.rl_session.specs.Performing.{Obeyed, within_group}
 use Rattle.rl_session.specs.Forgetting.{within_bound}
 use Rattle.rl_session.specs.declared.session.Fault.TheVariants.{NoMemory}
 use Rattle.rl_session.specs.declared.session.Reply.TheVariants as says
@@ -61,10 +61,10 @@ undo-leaves n old left _ s = absurd s.does
 abbrev open_in : State → ℕ
 open_in s = level s.pair.changes.recorded
 
-pub level-Performed : (old new : State) (n : ℕ) (reply : Reply) → BothMatched old.pair.changes → Performed old (Undo n) reply new → level new.pair.changes.recorded ≡ level old.pair.changes.recorded
-level-Performed old new n reply h (inl stopped) = ap open_in stopped.1
-level-Performed old new n reply h (inr (inl unkept)) = ap open_in unkept.2.1
-level-Performed old new n reply h (inr (inr done)) =
+pub level-Obeyed : (old new : State) (n : ℕ) (reply : Reply) → BothMatched old.pair.changes → Obeyed old (Undo n) reply new → level new.pair.changes.recorded ≡ level old.pair.changes.recorded
+level-Obeyed old new n reply h (inl stopped) = ap open_in stopped.1
+level-Obeyed old new n reply h (inr (inl unkept)) = ap open_in unkept.2.1
+level-Obeyed old new n reply h (inr (inr done)) =
     let r = old.pair.changes in
     let m = within_group (units_in_group r.recorded) n in
     let step = subst (λ s. Step s (Undo m) reply done.left) done.keeps.1.1 done.step in

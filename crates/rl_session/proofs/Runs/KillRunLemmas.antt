@@ -23,11 +23,12 @@ use Rattle.std.proofs.lemmas.Grind.{common_steps}
 use Rattle.rl_base.proofs.Ring.SlotLemmas.{yank-back}
 use Rattle.rl_base.specs.KillRing.{back_from, behind, cut_to, fitting, left_with, newest_first, with_newest, within_bytes}
 use Rattle.rl_session.specs.Commands.{with_changes}
-use Rattle.rl_session.specs.Performing.{AllKilled, Calls, Performed, call, no_call, replies_in}
+use Rattle.rl_session.specs.Performing.{AllKilled, Calls, Obeyed, call, no_call, replies_in, Performed, is_one_unit}
 use Rattle.rl_session.specs.declared.options.Options.{Options}
 use Rattle.std.proofs.lemmas.Bool.{le-leb, lt-ltb}
 use Rattle.rl_base.proofs.Common.{cond-true, length-reverse, ◌^◌}
 use Rattle.rl_session.proofs.Common.{ap₂, reverse-append, ring_step, Event, IsChange, Record, WasRefused, ◌-◌, nat_le, nat_lt, reverse, within_bound}
+use Rattle.rl_session.proofs.Sessions.PerformLemmas.{uncounted}
 use Rattle.rl_session.proofs.Sessions.IdleLemmas.{IsIdle, NoneStarts-lent, idle-stays, ring-Done}
 use Rattle.rl_session.proofs.Runs.CallLemmas.{Calls-options, DoneAfter, Stands-changes, Stands-forgets, done_after, is_plain}
 
@@ -471,9 +472,16 @@ directed-plain (asks.KillRange i j Forward) line directed = refl
 directed-plain (asks.KillRange i j Backward) line directed = refl
 directed-plain _ line directed = absurd directed
 
+directed-single : (command : Command) (line : Line) → IsDirectedKill line command → is_one_unit command ≡ false
+directed-single (asks.Kill m) line directed = refl
+directed-single (asks.KillRange i j Forward) line directed = refl
+directed-single (asks.KillRange i j Backward) line directed = refl
+directed-single _ line directed = absurd directed
+
 kill_done : (old new : State) (command : Command) (reply : Reply) → IsDirectedKill old.line command → ¬ (WasRefused reply) → Roomy old → Performed old command reply new → KillDone old command reply new
 kill_done old new command reply directed allowed roomy p =
-    let done = done_after command old new reply (directed-plain command old.line directed) allowed p in
+    let own = uncounted command old new reply (directed-single command old.line directed) p in
+    let done = done_after command old new reply (directed-plain command old.line directed) allowed own in
     let begun = with_changes done.changes old in
     let h = Stands-changes done.changes old roomy.stands in
     let (a, outcome) = kill_outcome begun done.left command reply directed h allowed done.step in
@@ -566,7 +574,7 @@ Yank-performed old mid new (says.Refused f) room atop m allowed d = absurd (allo
 Yank-performed old mid new _ room atop m allowed d = absurd d.step.does
 
 pub performed-yank : (old mid new : State) (kills : Calls old mid) (reply : Reply) → Stands old → 0 < old.pair.ring.size → IsNoKill old.pair.ring.last → AllKilled kills → AnyTook (replies_in kills)
-    → NoneRefused (replies_in kills ++ (reply ∷ [])) → length old.line.text ≤ length mid.line.text + mid.options.bound.ring_bytes → Performed mid (Yank 1) reply new → GivenBack old mid new
+    → NoneRefused (replies_in kills ++ (reply ∷ [])) → length old.line.text ≤ length mid.line.text + mid.options.bound.ring_bytes → Obeyed mid (Yank 1) reply new → GivenBack old mid new
 performed-yank old mid new kills reply stands some no_kill all took allowed room p =
     let first = Missing-first old (replies_in kills ++ (reply ∷ [])) (record { stands = stands; some = some }) no_kill (AnyTook-append (replies_in kills) (reply ∷ []) took) in
     let m = Missing-Calls old.line.text old mid kills (reply ∷ []) all allowed room (atop-no_kill old.pair.ring no_kill) first in

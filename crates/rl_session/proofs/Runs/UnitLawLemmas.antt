@@ -10,7 +10,7 @@ use Rattle.rl_line.proofs.Records.UndoLemmas.{line_back-unwind}
 use Rattle.rl_line.proofs.Records.UnitLawLemmas.{HeardApart, IsUnit, unit-heard}
 use Rattle.rl_session.specs.Commands.{Step, asked, course_of, readied, with_changes}
 use Rattle.rl_session.specs.Forgetting.{within_bound}
-use Rattle.rl_session.specs.Performing.{MadeUnit, Performed, Stops, asks_to_keep, before_unit, is_one_unit, keeping, made_in_group, put_in, set_apart, within_group}
+use Rattle.rl_session.specs.Performing.{MadeUnit, Obeyed, Stops, asks_to_keep, before_unit, is_one_unit, keeping, made_in_group, put_in, set_apart, within_group}
 use Rattle.rl_session.specs.declared.options.Options.{Options}
 use Rattle.rl_session.specs.declared.session.Command.TheVariants.{EditWord, Indent, TransposeChars, TransposeWords, Update, YankPop}
 use Rattle.rl_session.specs.declared.session.Reply.TheVariants as says
@@ -67,7 +67,7 @@ within-one (Some zero) some = absurd (some refl)
 within-one (Some (suc n)) some = omega arith
 
 pub undo-leads : (start : List ℕ) (texts : List (List ℕ)) (old new : State) (reply : Reply) → Holds start texts old → has_change (last_of 1 old.pair.changes.recorded) ≡ true
-    → Performed old (Undo 1) reply new → ¬ (WasRefused reply) → replay_entries (kept_of 1 old.pair.changes.recorded) start ≡ Some new.line.text
+    → Obeyed old (Undo 1) reply new → ¬ (WasRefused reply) → replay_entries (kept_of 1 old.pair.changes.recorded) start ≡ Some new.line.text
 undo-leads start texts old new reply h change (inl (stops, same)) allowed = absurd (some-unit (units old.pair.changes.recorded) (stops-none old reply stops allowed) change)
 undo-leads start texts old new reply h change (inr (inl unkept)) allowed = absurd (allowed unkept.1)
 undo-leads start texts old new reply h change (inr (inr done)) allowed =
@@ -120,7 +120,7 @@ has-unit start texts old mid command reply h unit =
     }
 
 pub unit-leads : (start : List ℕ) (texts : List (List ℕ)) (old mid new : State) (command : Command) (reply said : Reply) → Holds start texts old → (unit : MadeUnit old command reply mid)
-    → Performed mid (Undo 1) said new → ¬ (WasRefused said) → replay_entries (before_unit unit) start ≡ Some new.line.text
+    → Obeyed mid (Undo 1) said new → ¬ (WasRefused said) → replay_entries (before_unit unit) start ≡ Some new.line.text
 unit-leads start texts old mid new command reply said h unit p allowed =
     let u = has-unit start texts old mid command reply h unit in
     ap (λ es. replay_entries es start) (sym u.last.0) ∙ undo-leads start u.texts mid new said u.holds u.last.1 p allowed
@@ -130,7 +130,7 @@ begins-last : (put_in : ℕ) (r : Record) → put_in ≡ 0 → take (unit_start 
 begins-last put_in r none = ap (λ n. take (unit_start n r).from r.recorded) none ∙ take_all (length r.recorded - 0) r.recorded (omega arith)
 
 pub unit-gives_back : (start : List ℕ) (texts : List (List ℕ)) (old mid new : State) (command : Command) (reply said : Reply) → Holds start texts old → (unit : MadeUnit old command reply mid)
-    → Performed mid (Undo 1) said new → ¬ (WasRefused said) → put_in unit.done.kept command ≡ 0 → new.line.text ≡ old.line.text
+    → Obeyed mid (Undo 1) said new → ¬ (WasRefused said) → put_in unit.done.kept command ≡ 0 → new.line.text ≡ old.line.text
 unit-gives_back start texts old mid new command reply said h unit p allowed none =
     let u = has-unit start texts old mid command reply h unit in
     let before = begins-last (put_in unit.done.kept command) unit.done.kept.pair.changes none in

@@ -1,16 +1,18 @@
 -- How what a command does becomes a command that was performed.
 use Rattle.rl_session.proofs.Common.{Err, IfErr, IfOk, Line, List, Option, Refusal, Walks, ◌≡◌, ℕ, ap, cond, max, Record, min, None, Some, same_Some, ◌∙◌, not, string_bytes, Bool, Ok, Result, replied, false, true, inl, inr, refl, subst, sym, reset, Movement, BeginningOfLine, EndOfLine, BackwardWord, ForwardWord, ViCharSearch, BeginningOfBuffer, EndOfBuffer, CanDeleteBy, kill_plan, nothing_more, Came, Does, answers, deletion_of, edit_course, readied, settled, State, Ends, WasRefused, with_ring, Command, KillLine, KillBuffer, DiscardLine, DiscardBuffer, DeletePrevWord, DeleteWord, DeleteTo, Reply}
+use Rattle.rl_base.specs.declared.motion.Movement.TheVariants.{WholeBuffer}
 use Rattle.rl_line.specs.Edits.{CanInsertStr, insert_str_plan}
+use Rattle.rl_line.specs.Indents.{indent_changes}
 use Rattle.rl_line.specs.Plan.{longest_by}
 use Rattle.std.specs.Prelude.{String}
 use Rattle.std.specs.declared.alloc.Global.{Global}
 use Rattle.rl_session.specs.Commands.{Step, with_changes}
-use Rattle.rl_session.specs.declared.session.Command.TheVariants.{Abandon, Begin, End, EndOne, InsertStr, KeepUndone, Redo, Undo}
+use Rattle.rl_session.specs.declared.session.Command.TheVariants.{Abandon, Begin, End, EndOne, Indent, InsertStr, KeepUndone, Move, Redo, Undo}
 use Rattle.rl_session.specs.declared.session.Fault.{Fault}
 use Rattle.rl_session.specs.declared.session.Reply.TheVariants as says
 use Rattle.rl_session.proofs.Sessions.StepLemmas.{step_done}
 use Rattle.rl_session.specs.Forgetting.{Forgets}
-use Rattle.rl_session.specs.Performing.{Bars, HasKept, IsBarred, IsStopped, Keeps, Performed, Stops, Unites, asks_to_keep, carried, is_one_unit, is_within, leaves_waiting, made_in_group, put_in, set_apart, with_waiting, within_group}
+use Rattle.rl_session.specs.Performing.{Bars, HasKept, IsBarred, IsStopped, Keeps, Obeyed, Stops, Unites, asks_to_keep, carried, is_one_unit, is_within, leaves_waiting, made_in_group, put_in, set_apart, with_waiting, within_group, counted_as, Performed}
 use Rattle.rl_line.specs.Record.{parted}
 use Rattle.rl_line.specs.Trying.{DoneWithin}
 use Rattle.rl_line.specs.Undo.{OutOfRoom}
@@ -38,12 +40,28 @@ pub ruleset keeping = (keeps_not, has_kept, keeps_nothing)
 
 -- ---- a command
 -- nothing was done
-pub stopped : (command : Command) (old new : State) (reply : Reply) → new ≡ old → Stops old command reply → Performed old command reply new
+pub stopped : (command : Command) (old new : State) (reply : Reply) → new ≡ old → Stops old command reply → Obeyed old command reply new
 stopped command old new reply same stops = inl (stops, same)
 
 -- it was not begun, since what was undone could not be kept
-pub unkept : (command : Command) (old new : State) (reply : Reply) → Keeps (asks_to_keep old command) old reply new → WasRefused reply → ¬ (IsStopped old command) → Performed old command reply new
+pub unkept : (command : Command) (old new : State) (reply : Reply) → Keeps (asks_to_keep old command) old reply new → WasRefused reply → ¬ (IsStopped old command) → Obeyed old command reply new
 unkept command old new reply keeps refused free = inr (inl (free, refused, keeps))
+
+-- one that counts as another was done as that
+pub counted-same : (command : Command) (s : State) → is_one_unit command ≡ false → counted_as s command ≡ command
+counted-same (Indent m amount dedent) s single = cc
+counted-same _ s single = refl
+
+pub uncounted : (command : Command) (old new : State) (reply : Reply) → is_one_unit command ≡ false → Performed old command reply new → Obeyed old command reply new
+uncounted command old new reply single p = subst (λ c. Obeyed old c reply new) (counted-same command old single) p
+
+pub indented : (m : Movement) (n : ℕ) (dedent changes : Bool) (old new : State) (reply : Reply) → changes ≡ indent_changes old.line m n dedent → changes ≡ true
+    → Obeyed old (Indent m n dedent) reply new → Performed old (Indent m n dedent) reply new
+indented m n dedent changes old new reply is asked p = subst (λ c. Obeyed old c reply new) (ap (λ b. cond b (Indent m n dedent) (Move WholeBuffer)) (sym asked ∙ is)) p
+
+pub indented_not : (m : Movement) (n : ℕ) (dedent changes : Bool) (old new : State) (reply : Reply) → changes ≡ indent_changes old.line m n dedent → changes ≡ false
+    → Obeyed old (Move WholeBuffer) reply new → Performed old (Indent m n dedent) reply new
+indented_not m n dedent changes old new reply is asked p = subst (λ c. Obeyed old c reply new) (ap (λ b. cond b (Indent m n dedent) (Move WholeBuffer)) (sym asked ∙ is)) p
 
 carried-readied : (command : Command) (old s : State) → readied command s ≡ readied (carried old command) s
 carried-readied (Undo n) old s = refl
@@ -67,7 +85,7 @@ waiting-same old command left none = ap (λ b. cond b (with_changes (still_waiti
 -- it was done: it began where the ring was readied, after what was undone was kept, and ended as it does
 pub done : (command : Command) (old kept begun left ended new : State) (reply : Reply) → Forgets ended new → Does begun (carried old command) reply left → ended ≡ settled command reply left
     → begun ≡ readied command kept → HasKept (asks_to_keep old command) old kept → ¬ (IsStopped old command) → is_one_unit command ≡ false → leaves_waiting old command ≡ false
-    → Performed old command reply new
+    → Obeyed old command reply new
 done command old kept begun left ended new reply forgets does settles begins keeps free single none =
     let step = step_done (carried old command) left (begins ∙ carried-readied command old kept) does (settles ∙ carried-settled command old reply left) forgets.before in
     inr (inr (record {
@@ -99,7 +117,7 @@ readied-apart command changes s = refl
 pub done_as_unit : (command : Command) (old kept ready begun left ended made new : State) (reply : Reply) (start : UnitStart) → Forgets made new → Unites true start ended made → Ends ended
     → Does begun command reply left → ended ≡ settled command reply left → begun ≡ with_changes (parted ready.pair.changes) ready
     → start ≡ unit_start (put_in kept command) ready.pair.changes → ready ≡ readied command kept → HasKept (asks_to_keep old command) old kept → ¬ (IsStopped old command)
-    → is_one_unit command ≡ true → Performed old command reply new
+    → is_one_unit command ≡ true → Obeyed old command reply new
 done_as_unit command old kept ready begun left ended made new reply start forgets unites ends does settles apart starts readies keeps free one =
     let changes = parted kept.pair.changes in
     let begins : begun ≡ readied command (with_changes changes kept) = apart ∙ ap (λ (s : State). with_changes (parted s.pair.changes) s) readies ∙ readied-apart command changes kept in
@@ -127,10 +145,10 @@ ungrouped n s is = (ap (λ k. Undo (within_group k n)) is, λ none. cc)
 
 pub ruleset grouping = (grouped, ungrouped)
 
-pub undo_stopped : (n : ℕ) (old new : State) → new ≡ old → made_in_group old ≡ Some 0 → Performed old (Undo n) (says.Answer false) new
+pub undo_stopped : (n : ℕ) (old new : State) → new ≡ old → made_in_group old ≡ Some 0 → Obeyed old (Undo n) (says.Answer false) new
 undo_stopped n old new same none = inl (none, same)
 
-pub undo_barred : (n m : ℕ) (old new : State) → new ≡ old → carried old (Undo n) ≡ Undo m → IsBarred old (Undo m) → Performed old (Undo n) (says.Refused TooLong) new
+pub undo_barred : (n m : ℕ) (old new : State) → new ≡ old → carried old (Undo n) ≡ Undo m → IsBarred old (Undo m) → Obeyed old (Undo n) (says.Refused TooLong) new
 undo_barred n m old new same is barred = inl (subst (IsBarred old) (sym is) barred, same)
 
 -- the ring has no part in an undo and a redo, so that it may be reset after them
@@ -148,7 +166,7 @@ redo-anew old left (says.Refused NoMemory) (some, same) = (some, ap anew same)
 redo-anew old left _ does = absurd does
 
 pub undo_done : (n m : ℕ) (old left ended new : State) (reply : Reply) → Forgets ended new → Does old (Undo m) reply left → ended ≡ with_ring (reset left.pair.ring) left → carried old (Undo n) ≡ Undo m
-    → ¬ (made_in_group old ≡ Some 0) → ¬ (IsBarred old (Undo m)) → Performed old (Undo n) reply new
+    → ¬ (made_in_group old ≡ Some 0) → ¬ (IsBarred old (Undo m)) → Obeyed old (Undo n) reply new
 undo_done n m old left ended new reply forgets does resets is some free =
     let here = subst (λ s. Does (anew old) (Undo m) reply s) (sym resets) (undo-anew m old left reply does) in
     done (Undo n) old old (anew old) ended ended new reply forgets (subst (λ c. Does (anew old) c reply ended) (sym is) here) refl refl (says.Answer false, (refl, refl), λ w. w)
@@ -157,10 +175,30 @@ undo_done n m old left ended new reply forgets does resets is some free =
       | inr barred ↦ free (subst (IsBarred old) is barred)
     ]) refl refl
 
-pub redo_done : (old left ended new : State) (reply : Reply) → Forgets ended new → Does old Redo reply left → ended ≡ with_ring (reset left.pair.ring) left → ¬ (IsBarred old Redo) → Performed old Redo reply new
+pub redo_done : (old left ended new : State) (reply : Reply) → Forgets ended new → Does old Redo reply left → ended ≡ with_ring (reset left.pair.ring) left → ¬ (IsBarred old Redo) → Obeyed old Redo reply new
 redo_done old left ended new reply forgets does resets free =
     let here = subst (λ s. Does (anew old) Redo reply s) (sym resets) (redo-anew old left reply does) in
     done Redo old old (anew old) ended ended new reply forgets here refl refl (says.Answer false, (refl, refl), λ w. w) free refl refl
+
+-- a motion that leads nowhere resets the ring alone
+stays : (kept left : State) (reply : Reply) → Step kept (Move WholeBuffer) reply left → (reply ≡ says.Answer false) × (left ≡ anew kept)
+stays kept left (says.Answer a) s = (ap says.Answer s.does.0.0, s.settles ∙ s.does.1 ∙ ap (λ l. record (anew kept) { line = l }) s.does.0.1)
+stays kept left _ s = absurd s.does
+
+pub idle : (old new : State) (m : Movement) (n : ℕ) (dedent : Bool) (reply : Reply) → indent_changes old.line m n dedent ≡ false → Performed old (Indent m n dedent) reply new
+    → (reply ≡ says.Answer false) × Forgets (anew old) new
+idle old new m n dedent reply none p = from reply (subst (λ c. Obeyed old c reply new) (ap (λ b. cond b (Indent m n dedent) (Move WholeBuffer)) none) p)
+  where
+    stops_not : (reply : Reply) → Stops old (Move WholeBuffer) reply → ⊥
+    stops_not (says.Refused TooLong) s = s
+    stops_not _ s = s
+
+    from : (reply : Reply) → Obeyed old (Move WholeBuffer) reply new → (reply ≡ says.Answer false) × Forgets (anew old) new
+    from reply (inl stopped) = absurd (stops_not reply stopped.0)
+    from reply (inr (inl unkept)) = absurd (subst WasRefused unkept.2.0 unkept.1)
+    from reply (inr (inr done)) =
+        let (said, left) = stays done.kept done.left reply done.step in
+        (said, subst (λ s. Forgets s new) (done.unites ∙ left ∙ ap anew done.keeps.1.1) done.forgets)
 
 -- an undo or a redo that the limit may bar: the record leads to the text again
 Walks-same : (r now : Record) (old new : Line) → now ≡ r → new ≡ old → Walks r old.text → Walks now new.text
@@ -174,7 +212,7 @@ Walks-within Done keeps texts r now old new (Err why) leads d e w = Walks-same r
 
 -- a deletion by a movement is the command of that movement
 pub deleted : (m : Movement) (old kept begun left new : State) (reply : Reply) → CanDeleteBy m → Forgets left new → Came (edit_course nothing_more (Unit {0}) (kill_plan begun.line m) answers reply) begun left
-    → begun ≡ with_ring (reset kept.pair.ring) kept → HasKept old.options.keeps old kept → Performed old (deletion_of m) reply new
+    → begun ≡ with_ring (reset kept.pair.ring) kept → HasKept old.options.keeps old kept → Obeyed old (deletion_of m) reply new
 deleted BeginningOfLine old kept begun left new reply can f d b k = done DiscardLine old kept begun left left new reply f d refl b k (λ x. x) refl refl
 deleted EndOfLine old kept begun left new reply can f d b k = done KillLine old kept begun left left new reply f d refl b k (λ x. x) refl refl
 deleted (BackwardWord n word) old kept begun left new reply can f d b k = done (DeletePrevWord word n) old kept begun left left new reply f d refl b k (λ x. x) refl refl

@@ -14,7 +14,7 @@ use Rattle.rl_base.specs.Event.{apply}
 use Rattle.std.proofs.Math.Bool.{and-false}
 use Rattle.rl_session.specs.Commands.{Step, readied, settled, with_changes}
 use Rattle.rl_session.specs.Forgetting.{Forgets}
-use Rattle.rl_session.specs.Performing.{HasKept, IsStopped, Performed, Stops, Unites, asks_to_keep, carried, is_edit_or_mark, is_empty_group, is_one_unit, leaves_waiting, put_in, set_apart, with_waiting}
+use Rattle.rl_session.specs.Performing.{HasKept, IsStopped, Obeyed, Stops, Unites, asks_to_keep, carried, is_edit_or_mark, is_empty_group, is_one_unit, leaves_waiting, put_in, set_apart, with_waiting}
 use Rattle.rl_session.specs.declared.session.Command.TheVariants.{Abandon, Begin, End, EndOne, Undo}
 use Rattle.rl_session.specs.declared.session.Fault.TheVariants.{NoMemory}
 use Rattle.rl_session.specs.declared.session.Reply.TheVariants as says
@@ -44,7 +44,7 @@ Ends-left s r changes none e = record {
 waiting_done : (command : Command) (old mid made new : State) (reply : Reply) (changes : Record) → with_ring (reset old.pair.ring) old ≡ readied command old → carried old command ≡ command → is_one_unit command ≡ false
     → asks_to_keep old command ≡ false → ¬ (IsStopped old command) → ((s : State) → s ≡ settled command reply s) → changes.pending ≡ [] → leaves_waiting old command ≡ true
     → Forgets made new → made ≡ with_ring (reset mid.pair.ring) mid → mid ≡ with_changes (still_waiting changes.recorded old.pair.changes) old
-    → Does (with_ring (reset old.pair.ring) old) command reply (with_changes changes (with_ring (reset old.pair.ring) old)) → Performed old command reply new
+    → Does (with_ring (reset old.pair.ring) old) command reply (with_changes changes (with_ring (reset old.pair.ring) old)) → Obeyed old command reply new
 waiting_done command old mid made new reply changes readies same single asks free settles none leaves forgets resets is does =
     let begun = with_ring (reset old.pair.ring) old in
     let left = with_changes changes begun in
@@ -64,19 +64,19 @@ waiting_done command old mid made new reply changes readies same single asks fre
 
 pub begun_waiting : (old mid made new : State) (n : ℕ) → Forgets made new → made ≡ with_ring (reset mid.pair.ring) mid
     → mid ≡ with_changes (still_waiting (old.pair.changes.recorded ++ AddsBegin ∷ []) old.pair.changes) old → n ≡ length old.pair.changes.recorded → leaves_waiting old Begin ≡ true
-    → Performed old Begin (says.Mark n) new
+    → Obeyed old Begin (says.Mark n) new
 begun_waiting old mid made new n forgets resets is long h =
     waiting_done Begin old mid made new (says.Mark n) (begun old.pair.changes) refl refl refl (leaves old Begin h).keeps (λ x. x) (λ s. refl) refl h forgets resets is ((long, tt), refl)
 
 pub ended_waiting : (old mid made new : State) → Forgets made new → made ≡ with_ring (reset mid.pair.ring) mid
-    → mid ≡ with_changes (still_waiting (end_times (level old.pair.changes.recorded) old.pair.changes.recorded) old.pair.changes) old → leaves_waiting old End ≡ true → Performed old End (says.Answer false) new
+    → mid ≡ with_changes (still_waiting (end_times (level old.pair.changes.recorded) old.pair.changes.recorded) old.pair.changes) old → leaves_waiting old End ≡ true → Obeyed old End (says.Answer false) new
 ended_waiting old mid made new forgets resets is h =
     let l = leaves old End h in
     waiting_done End old mid made new (says.Answer false) (ended old.pair.changes) refl refl refl l.keeps (λ x. x) (λ s. refl) refl h forgets resets is ((sym (not-true _ l.empty), tt), refl)
 
 pub ended_one_waiting : (count : ℕ) (old mid made new : State) → count ≡ min 1 (level old.pair.changes.recorded) → Forgets made new → made ≡ with_ring (reset mid.pair.ring) mid
     → mid ≡ with_changes (still_waiting (end_times count old.pair.changes.recorded) old.pair.changes) old
-    → (not (adds_end count old.pair.changes.recorded) && (not old.options.keeps && waits old.pair.changes.pending)) ≡ true → Performed old EndOne (says.Answer false) new
+    → (not (adds_end count old.pair.changes.recorded) && (not old.options.keeps && waits old.pair.changes.pending)) ≡ true → Obeyed old EndOne (says.Answer false) new
 ended_one_waiting count old mid made new few forgets resets is h =
     let r = old.pair.changes in
     let leaving : leaves_waiting old EndOne ≡ true = subst (λ n. (not (adds_end n r.recorded) && (not old.options.keeps && waits r.pending)) ≡ true) few h in
@@ -85,7 +85,7 @@ ended_one_waiting count old mid made new few forgets resets is h =
     (is ∙ ap (λ n. with_changes (still_waiting (end_times n r.recorded) r) old) few) ((sym (not-true _ l.empty), tt), refl)
 
 pub abandoned_waiting : (old mid made new : State) → Forgets made new → made ≡ with_ring (reset mid.pair.ring) mid
-    → mid ≡ with_changes (still_waiting (end_times 1 old.pair.changes.recorded) old.pair.changes) old → leaves_waiting old Abandon ≡ true → ¬ (IsStopped old Abandon) → Performed old Abandon (says.Answer true) new
+    → mid ≡ with_changes (still_waiting (end_times 1 old.pair.changes.recorded) old.pair.changes) old → leaves_waiting old Abandon ≡ true → ¬ (IsStopped old Abandon) → Obeyed old Abandon (says.Answer true) new
 abandoned_waiting old mid made new forgets resets is h free =
     let r = old.pair.changes in
     let g = given_up r (not-true _ (and_parts (is_open r.recorded) _ (leaves old Abandon h).empty).1) in
@@ -96,7 +96,7 @@ abandoned_waiting old mid made new forgets resets is h free =
     waiting_done Abandon old mid made new (says.Answer true) (abandoned r) refl refl refl refl free (λ s. refl) g.pending h forgets resets
     (is ∙ ap (λ es. with_changes (still_waiting es r) old) (sym g.recorded)) (went, refl, ap (λ es. listener_after watch_step old.line.cursor (steps_back old.line.cursor es) old.pair.watch) (sym g.group))
 
-pub not_begun : (old new : State) → new ≡ old → leaves_waiting old Begin ≡ true → Performed old Begin (says.Refused NoMemory) new
+pub not_begun : (old new : State) → new ≡ old → leaves_waiting old Begin ≡ true → Obeyed old Begin (says.Refused NoMemory) new
 not_begun old new same h = inl (h, same)
 
 pub ruleset leaving = (begun_waiting, ended_waiting, ended_one_waiting, abandoned_waiting, not_begun)

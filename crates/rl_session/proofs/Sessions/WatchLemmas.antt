@@ -1,6 +1,6 @@
 -- What a watch keeps of a text at each event, it keeps over a command.
 use Rattle.rl_session.proofs.Common.{◌≡◌, ◌∙◌, ℕ, ◌^◌, ◌<◌, arith, true, false, List, length, Option, Some, None, option_map, ◌≤◌, inl, inr, sym, ap, subst, map, option_and_then, reverse, unwrap_or, IsCharBoundary-end, IsCharBoundary, IsUtf8, Event, Replace, Start, Stop, Cursors, apply, HasTexts, IsChange, IsLineText, LacksTexts, Noted, Queue, Stand, TellsByTexts, after_numbers, after_texts, oldest, queue_step, Covers, spliced, Watched, ReportsLead, next_note, past_next, text_room, watch_step, Line, Taken, steps_ahead, steps_back, last_of, redo_of, inverse, Effect, by_steps, takes_back, puts_again, Became, effect, readied, Course, never, when, stays, goes, edits, lends, pops, tells, Came, WatchHears, popped, pair_step, State, ChangedFrom, IsBounded, ReportedFrom, Stands, restarted, with_watch, Row, Run, Command, Reply, Pair}
-use Rattle.rl_base.specs.Reports.{forgotten}
+use Rattle.rl_base.specs.Reports.{past_oldest}
 use Rattle.rl_base.proofs.Queue.LeadLemmas.{marked, nothing, placed, whole, with_texts}
 use Rattle.rl_base.specs.declared.listeners.Refusal.TheVariants as why
 use Rattle.rl_base.proofs.Texts.SpliceLemmas.{Covers-apply}
@@ -161,12 +161,12 @@ changed_run asked old new commands replies run k = Leads-keeps (ChangedFrom aske
 pub reported_run : (read : List ℕ) (old new : State) (commands : List Command) (replies : List Reply) → Run old commands replies new → ReportedFrom read old → ReportedFrom read new
 reported_run read old new commands replies run k = Leads-keeps (ReportedFrom read) (reported_row read) run.rows old new run.leads k
 
--- ---- the oldest report is read and forgotten
+-- ---- the oldest report is taken
 present : (s : State) (read : List ℕ) → ReportedFrom read s → IsLineText s.line.text
 present s read k = record { utf8 = k.stands.utf8; fits = omega (arith, k.stands.within, k.bounded) }
 
 -- where reading left off, once it went on
-goes_on_from : (s : State) (read text : List ℕ) → ReportedFrom read s → IsLineText text → ReportsLead true (option_map forgotten s.pair.watch.reports) text s.line.text
+goes_on_from : (s : State) (read text : List ℕ) → ReportedFrom read s → IsLineText text → ReportsLead true (option_map past_oldest s.pair.watch.reports) text s.line.text
     → ReportedFrom text (with_watch (past_next s.pair.watch) s)
 goes_on_from s read text k u l = grind (arith)
 
@@ -180,7 +180,7 @@ reads_texts s read note k h has =
   where
     from : (reports : Option Queue) → ReportsLead true reports read s.line.text → option_and_then (λ (q : Queue). oldest q.waiting) reports ≡ Some note
         → HasTexts (unwrap_or (option_map (λ (q : Queue). q.text_room) reports) 0) note.report
-        → IsLineText (after_texts note read) × TellsByTexts note read × Stand note.report.cursors read (after_texts note read) × ReportsLead true (option_map forgotten reports) (after_texts note read) s.line.text
+        → IsLineText (after_texts note read) × TellsByTexts note read × Stand note.report.cursors read (after_texts note read) × ReportsLead true (option_map past_oldest reports) (after_texts note read) s.line.text
     from None l h has = absurd l
     from (Some q) l h has = let r = with_texts true q note read s.line.text l k.text h has in (r.text, r.tells, r.cursors, r.rest)
 
@@ -191,7 +191,7 @@ reads_whole s read note k h lacks =
   where
     from : (reports : Option Queue) → ReportsLead true reports read s.line.text → option_and_then (λ (q : Queue). oldest q.waiting) reports ≡ Some note
         → LacksTexts (unwrap_or (option_map (λ (q : Queue). q.text_room) reports) 0) note.report
-        → (option_and_then (λ (q : Queue). oldest q.waiting) (option_map forgotten reports) ≡ None) × (after_numbers note.report s.line.text read ≡ s.line.text)
-        × Stand note.report.cursors read s.line.text × ReportsLead true (option_map forgotten reports) s.line.text s.line.text
+        → (option_and_then (λ (q : Queue). oldest q.waiting) (option_map past_oldest reports) ≡ None) × (after_numbers note.report s.line.text read ≡ s.line.text)
+        × Stand note.report.cursors read s.line.text × ReportsLead true (option_map past_oldest reports) s.line.text s.line.text
     from None l h lacks = absurd l
     from (Some q) l h lacks = let r = whole true q note read s.line.text l h lacks in (r.all, r.tells, r.cursors, r.rest)

@@ -7,7 +7,7 @@
 ghost use Rattle.std.specs.Prelude.{◌≡◌, false, true, IfErr, MatchOption, OnOk, Some};
 ghost use Rattle.rl_line.specs.Deletions.{CanDeleteBy};
 ghost use Rattle.rl_session.specs.Commands.{deletion_of, with_changes};
-ghost use Rattle.rl_session.specs.Performing.{BarsWith, HasKept, Keeps, Performed, PerformedWith, Unites, carried, leaves_waiting, made_in_group, put_in};
+ghost use Rattle.rl_session.specs.Performing.{BarsWith, HasKept, Keeps, Obeyed, Performed, PerformedWith, Unites, carried, leaves_waiting, made_in_group, put_in};
 ghost use Rattle.rl_session.specs.State.{Ends};
 ghost use Rattle.rl_line.specs.Record.{freshness_told, parted};
 ghost use Rattle.rl_line.specs.Units.{end_times, still_waiting, unit_start};
@@ -275,9 +275,19 @@ impl Session {
     }
 
     /// Indents the lines of a movement by a number of spaces, or dedents them by at most that many bytes of blanks.
-    /// Answers true. `NoMemory` leaves it after the steps that it took.
+    /// Answers whether a byte goes in or out. If none does, it only counts as a motion that leads nowhere: what was undone
+    /// stays, and nothing is recorded or reported. `NoMemory` leaves it after the steps that it took.
     pub fn indent(&mut self, movement: &Movement, amount: u8, dedent: bool) -> Result<bool, Fault>
         ensures { Performed self.old (Command.Indent movement.now amount dedent) (replied Reply.Answer result) self.new }
+    {
+        if !self.line.indent_changes(movement, amount, dedent) {
+            return self.move_by(&Movement::WholeBuffer);
+        }
+        self.indent_lines(movement, amount, dedent)
+    }
+
+    fn indent_lines(&mut self, movement: &Movement, amount: u8, dedent: bool) -> Result<bool, Fault>
+        ensures { Obeyed self.old (Command.Indent movement.now amount dedent) (replied Reply.Answer result) self.new }
     {
         if !self.line.indent_fits(movement, amount, dedent) {
             return Err(Fault::TooLong);
