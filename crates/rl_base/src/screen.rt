@@ -162,10 +162,11 @@ impl Screen {
     }
 
     /// The byte places of a text where its rows begin, from row 0 on: as many as fit go to `starts`. Answers how many rows
-    /// there are; a text that ends at the right edge has one more, for the cursor there.
+    /// there are, at most two more than bytes; a text that ends at the right edge has one more, for the cursor there.
     pub fn rows(&self, text: &str, starts: &mut [usize]) -> usize
         ensures starts { starts.new ≡ filled (rows self.now text.now) starts.old }
         ensures count { result ≡ length (rows self.now text.now) }
+        ensures few { result ≤ length text.now + 2 }
     {
         let mut row: usize = 0;
         let mut column = usize::from(self.prompt);

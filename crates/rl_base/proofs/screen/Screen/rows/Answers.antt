@@ -14,6 +14,7 @@ loop-cluster-init c =
     record {
       height = search rules;
       column = search rules;
+      few = search rules;
       place = omega (arith, ap bytes_in left, bytes_in-clusters c.args.text.now c.utf8.text);
       starts = search rules;
       count = search rules;
@@ -34,6 +35,7 @@ loop-cluster-preserved c =
     record {
       height = search rules;
       column = search rules;
+      few = search rules;
       place = omega (arith, i.place, ap bytes_in step, length-append c.in-Some.cluster.now (concat rest));
       starts =
           ap (λ to. filled_after now (begins now (cells screen next to rest)) c.begin_rows-begun.new.starts) c.after.ensures.place

@@ -11,6 +11,7 @@ invariant-loop-cluster l =
     record {
       height : l.row + length (graphemes_left l.cluster-iterator) ≤ length l.text;
       column : l.column ≤ 65535;
+      few : l.begun + length (graphemes_left l.cluster-iterator) ≤ length l.text + 1;
       place : l.place + bytes_in (graphemes_left l.cluster-iterator) ≡ length l.text;
       starts : filled_after l.begun (begins l.begun (cells l.self l.place (l.row, l.column) (graphemes_left l.cluster-iterator))) l.starts
           ≡ filled (rows l.self l.text) l.fn.starts;
