@@ -20,7 +20,7 @@ LETTERS = {b"n": b"\n", b"r": b"\r", b"t": b"\t", b"\\": b"\\", b'"': b'"'}
 # A line without a call prints bad, since it means nothing, or has a count of 0, by which a call does nothing, or one of
 # two words that only a script has. Of an indent by 0 a script says that it is done.
 NO_TIMES = re.compile(
-    rb"^(?:(?:move|kill|copy|(?:in|de)dent \d+) )?(?:ins|paste|yank|del|back|twords|undo|prevword|nextword|to|bword"
+    rb"^(?:(?:move|kill|copy|(?:in|de)dent \d+) )?(?:(?:in|de)dent|ins|paste|yank|del|back|twords|undo|prevword|nextword|to|bword"
     rb"|fword|find|bchar|fchar|up|down) 0+(?: |$)", re.M,
 )
 NO_CALL = re.compile(rb"^(?:keepundone$|(?:in|de)dent 0 |(?:move|kill|copy|(?:in|de)dent \d+) first$)", re.M)

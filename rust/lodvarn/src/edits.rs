@@ -154,19 +154,17 @@ impl Session {
         self.run(|core| core.edit_word(to.to_core()))
     }
 
-    /// Inserts `amount` spaces at the start of each line that a movement covers.
+    /// Inserts `amount` spaces at the start of each line that a movement covers. False if nothing changed.
     /// # Errors
     /// [`Error::NoRoom`]; [`Error::NoMemory`], and the lines before stay indented.
     pub fn indent(&mut self, movement: Movement, amount: u8) -> Result<(), Error> {
         self.run_by(movement, |core, by| core.indent(by, amount, false))
-            .map(drop)
     }
 
-    /// Deletes up to `amount` bytes of blanks at the start of each line that a movement covers.
+    /// Deletes up to `amount` bytes of blanks at the start of each line that a movement covers. False if nothing changed.
     /// # Errors
     /// [`Error::NoMemory`]; the lines before stay dedented.
     pub fn dedent(&mut self, movement: Movement, amount: u8) -> Result<(), Error> {
         self.run_by(movement, |core, by| core.indent(by, amount, true))
-            .map(drop)
     }
 }

@@ -42,7 +42,10 @@ fn sessions_say_that_memory_is_refused() {
             "change_case",
             Box::new(|s| s.set_pos(0).and(s.change_case(Case::Uppercase)).map(drop)),
         ),
-        ("indent", Box::new(|s| s.indent(Movement::WholeLine, 200))),
+        (
+            "indent",
+            Box::new(|s| s.indent(Movement::WholeLine, 200).map(drop)),
+        ),
         (
             "yank_pop",
             Box::new(|s| s.yank(1).and_then(|_| s.yank_pop()).map(drop)),

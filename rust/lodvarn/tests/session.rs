@@ -176,7 +176,7 @@ fn a_count_of_0_does_nothing() -> Result<(), Error> {
         assert_eq!(session.delete_by(movement), Ok(false), "{movement:?}");
         assert_eq!(session.copy(movement), Ok(None), "{movement:?}");
         assert!(!session.move_by(movement), "{movement:?}");
-        session.indent(movement, 1)?;
+        assert_eq!(session.indent(movement, 1), Ok(false), "{movement:?}");
     }
     let answers = [session.delete(0), session.backspace(0), session.undo(0)];
     assert_eq!(answers, [Ok(false); 3]);
@@ -202,6 +202,27 @@ fn a_count_of_0_does_nothing() -> Result<(), Error> {
     Ok(())
 }
 
+#[test]
+fn an_indent_that_changes_nothing_only_ends_a_run_of_kills() -> Result<(), Fault> {
+    // A text, and how much of its blanks would go at most.
+    for (text, amount) in [("one\n two\n", 0), ("one\ntwo", 9), ("\u{3000}one", 2)] {
+        let mut session = opened(text);
+        session.insert('x', 1).and(session.undo(1))?;
+        session.watch(9, 99)?;
+        let changed = session.dedent(Movement::WholeBuffer, amount);
+        assert_eq!(changed, Ok(false), "{text:?}");
+        let left = (session.can_redo(), session.count_reports());
+        assert_eq!(left, (true, 0), "{text:?}");
+    }
+    let mut session = opened("one two");
+    for _ in 0..2 {
+        session.kill(Movement::BackwardWord(1, Word::Emacs))?;
+        assert_eq!(session.indent(Movement::WholeBuffer, 0), Ok(false));
+    }
+    assert_eq!(ring(&session), ["one ", "two"]);
+    Ok(())
+}
+
 /// Sets the limit of a session.
 fn limit(session: &mut Session, limit: usize) -> Result<(), Error> {
     let mut options = session.options();
@@ -222,7 +243,7 @@ fn what_has_no_room_changes_nothing() -> Result<(), Error> {
         |s| s.replace(0..1, "xy"),
         |s| s.transpose_words(1).map(drop),
         |s| s.change_case(Case::Uppercase).map(drop),
-        |s| s.indent(Movement::WholeLine, 1),
+        |s| s.indent(Movement::WholeLine, 1).map(drop),
         |s| s.undo(9).map(drop),
         |s| s.abandon_group().map(drop),
         |s| s.restart("ten bytes!"),
@@ -504,7 +525,7 @@ fn an_edit_is_one_unit() -> Result<(), Error> {
         (|s| s.transpose_words(1).map(drop), "two one"),
         (|s| s.change_case(Case::Uppercase).map(drop), "one TWO"),
         (
-            |s| s.indent(Movement::WholeLine, 33),
+            |s| s.indent(Movement::WholeLine, 33).map(drop),
             "                                 one two",
         ),
         (|s| s.yank(1).and(s.yank_pop()).map(drop), "one -two"),

@@ -115,8 +115,8 @@ pub fn command(s: &mut Session, random: &mut Random) -> Result<(), Error> {
             let cases = [Case::Capitalize, Case::Lowercase, Case::Uppercase];
             s.change_case(random.one(&cases)).map(drop)
         }
-        33 => s.indent(random.movement(), 2),
-        34 => s.dedent(random.movement(), 2),
+        33 => s.indent(random.movement(), 2).map(drop),
+        34 => s.dedent(random.movement(), 2).map(drop),
         35 => s.begin_group(),
         36 => s.end_all_groups().map(drop),
         38 => s.set_pos(random.place(&text)),
