@@ -1196,11 +1196,14 @@ class Mirrors(Scripts):
         word = rng.choice([*WORDS, "ins", "ins", "ins", "paste", "str", "yank", "undo", "redo"])
         try:
             do(session, word, [some(rng, session, it) for it in WORDS[word][0]])
+            if rng.random() < 0.1:
+                session.type(rng.choice(PIECES).encode()[: rng.randrange(9)])
+                session.kill(Movement.to_match(rng.choice("a漢 "), rng.choice(list(Direction))))
             if rng.random() < 0.03:
                 session.max_bytes = session.max_ring_bytes = rng.choice([None, 300])
                 session.keep_undone = rng.random() < 0.5
                 session.restart(rng.choice(PIECES))
-        except (lodvarn.NoSuchNumberError, lodvarn.NoMemoryError) as fault:
+        except (lodvarn.NoSuchNumberError, lodvarn.NoRoomError, lodvarn.NoMemoryError) as fault:
             self.failed += isinstance(fault, MemoryError)
             self.halfway += isinstance(fault, MemoryError) and session.text != before
 
