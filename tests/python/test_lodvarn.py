@@ -789,6 +789,10 @@ class Faults(Scripts):
         ]:
             self.fails(TypeError, session, call, *given, says=says)
         self.fails(TypeError, session, Session, "ab", 9)
+        two = type("Two", (), {"__index__": lambda it: 2})()
+        self.assertTrue(session.insert("é", two) and session.paste("c", two) and session.backspace(two))
+        self.assertEqual((session.text, session.slice(two, 4)), ("abéé", "éé"))
+        self.assertEqual(lodvarn.cell(Screen(two), two, "é漢"), (2, 0))
 
     def test_an_error_has_its_number_and_its_name(self):
         for error in lodvarn.LodvarnError.__subclasses__():
