@@ -605,12 +605,12 @@ class Saved(Scripts):
             session = edited(Noted)
             session.watch()
             session.redo()
-            session.on_change, session.note = print, ["a"]
+            session.on_change, session.note = print, {"M-b": BACK, "/": Movement.to_match("é")}
             other = take(session)
             other = pickle.loads(other) if isinstance(other, bytes) else other
             with self.subTest(take=take):
                 self.are_equal(other, session)
-                self.assertEqual((type(other), other.note), (Noted, ["a"]))
+                self.assertEqual((type(other), other.note), (Noted, session.note))
                 self.assertEqual(other.note is session.note, take is copy.copy)
                 self.assertEqual((other.report_count, session.report_count), (0, 1))
                 self.assertEqual((other.on_change, session.on_change), (None, print))
