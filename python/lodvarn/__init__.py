@@ -156,10 +156,11 @@ def _asked(call: Any, *given: Any) -> int:
 
 
 def _number(name: str, number: int, most: int = _MOST, least: int = 0) -> int:
-    """Returns a number. Raises NoSuchNumberError if it is out of its range."""
-    if least <= _as_int(number) <= most:
-        return number
-    raise NoSuchNumberError(f"{name} is from {least} to {most}, not {number}")
+    """Returns a number as an int. Raises NoSuchNumberError if it is out of its range."""
+    given = _as_int(number)
+    if least <= given <= most:
+        return given
+    raise NoSuchNumberError(f"{name} is from {least} to {most}, not {given}")
 
 
 def _bound(name: str, number: Optional[int]) -> int:
@@ -186,8 +187,11 @@ def _utf8(text: str) -> tuple[bytes, int]:
 
 
 def _bytes(data: bytes) -> tuple[bytes, int]:
-    """Returns the bytes of a bytes-like object and their length, as the library takes them. Others than bytes are
-    copied: cffi would hold the buffer, and the interpreter may crash if it finds both in a cycle, as of an error."""
+    """Returns the bytes of a bytes-like object and their length, as the library takes them.
+
+    Others than bytes are copied: cffi would hold their buffer, and the interpreter may crash if it collects both in a
+    cycle, such as that of an error and its frames.
+    """
     given = data if type(data) is bytes else memoryview(data).tobytes()
     return given, len(given)
 
@@ -202,9 +206,10 @@ def _character(name: str, c: str) -> str:
 
 def _offset(index: int, of: Sized, call: Any, *given: Any) -> int:
     """Returns the offset in bytes of an index of a text, by a call. Raises BadIndexError."""
-    offset: int = call(*given, index) if -1 < _as_int(index) < 2**63 else _SIZE_MOST
+    at = _as_int(index)
+    offset: int = call(*given, at) if -1 < at < 2**63 else _SIZE_MOST
     if offset == _SIZE_MOST:
-        raise BadIndexError(f"index {index} is outside the text, whose length is {len(of)}")
+        raise BadIndexError(f"index {at} is outside the text, whose length is {len(of)}")
     return offset
 
 
@@ -705,10 +710,10 @@ class Session:
 
     def _range(self, start: int, end: int) -> tuple[int, int]:
         """Returns a range, as the library takes it. Raises BadIndexError."""
-        range_ = self._offset(start), self._offset(end)
-        if start > end:
+        at, to = self._offset(start), self._offset(end)
+        if at > to:
             raise BadIndexError(f"the range ends at {end}, before its start {start}")
-        return range_
+        return at, to
 
     def _start(self, start: Optional[int]) -> int:
         """Returns the offset of an index, or that of the cursor for None. Raises BadIndexError."""
@@ -724,7 +729,7 @@ class Session:
         try:
             answer: int = _insert(self._it, c, n)
         except (TypeError, OverflowError):
-            answer = _NO_SUCH_NUMBER
+            answer = _insert(self._it, _character("insert", c), _number("n", n))
         if answer < 0 or self._on_change is not None:
             if answer == _NO_SUCH_NUMBER:
                 _character("insert", c), _number("n", n)

@@ -605,12 +605,12 @@ class Saved(Scripts):
             session = edited(Noted)
             session.watch()
             session.redo()
-            session.on_change, session.note = print, ["a"]
+            session.on_change, session.note = print, {"M-b": BACK, "/": Movement.to_match("é")}
             other = take(session)
             other = pickle.loads(other) if isinstance(other, bytes) else other
             with self.subTest(take=take):
                 self.are_equal(other, session)
-                self.assertEqual((type(other), other.note), (Noted, ["a"]))
+                self.assertEqual((type(other), other.note), (Noted, session.note))
                 self.assertEqual(other.note is session.note, take is copy.copy)
                 self.assertEqual((other.report_count, session.report_count), (0, 1))
                 self.assertEqual((other.on_change, session.on_change), (None, print))
@@ -789,6 +789,10 @@ class Faults(Scripts):
         ]:
             self.fails(TypeError, session, call, *given, says=says)
         self.fails(TypeError, session, Session, "ab", 9)
+        two = type("Two", (), {"__index__": lambda it: 2})()
+        self.assertTrue(session.insert("é", two) and session.paste("c", two) and session.backspace(two))
+        self.assertEqual((session.text, session.slice(two, 4)), ("abéé", "éé"))
+        self.assertEqual(lodvarn.cell(Screen(two), two, "é漢"), (2, 0))
 
     def test_an_error_has_its_number_and_its_name(self):
         for error in lodvarn.LodvarnError.__subclasses__():
@@ -1196,11 +1200,14 @@ class Mirrors(Scripts):
         word = rng.choice([*WORDS, "ins", "ins", "ins", "paste", "str", "yank", "undo", "redo"])
         try:
             do(session, word, [some(rng, session, it) for it in WORDS[word][0]])
+            if rng.random() < 0.1:
+                session.type(rng.choice(PIECES).encode()[: rng.randrange(9)])
+                session.kill(Movement.to_match(rng.choice("a漢 "), rng.choice(list(Direction))))
             if rng.random() < 0.03:
                 session.max_bytes = session.max_ring_bytes = rng.choice([None, 300])
                 session.keep_undone = rng.random() < 0.5
                 session.restart(rng.choice(PIECES))
-        except (lodvarn.NoSuchNumberError, lodvarn.NoMemoryError) as fault:
+        except (lodvarn.NoSuchNumberError, lodvarn.NoRoomError, lodvarn.NoMemoryError) as fault:
             self.failed += isinstance(fault, MemoryError)
             self.halfway += isinstance(fault, MemoryError) and session.text != before
 
