@@ -154,17 +154,19 @@ impl Session {
         self.run(|core| core.edit_word(to.to_core()))
     }
 
-    /// Inserts `amount` spaces at the start of each line that a movement covers. False if nothing changed.
+    /// Inserts `amount` spaces at the start of each line that a movement covers. Returns false if that changes nothing:
+    /// then nothing is recorded, and undone changes stay.
     /// # Errors
     /// [`Error::NoRoom`]; [`Error::NoMemory`], and the lines before stay indented.
-    pub fn indent(&mut self, movement: Movement, amount: u8) -> Result<(), Error> {
+    pub fn indent(&mut self, movement: Movement, amount: u8) -> Result<bool, Error> {
         self.run_by(movement, |core, by| core.indent(by, amount, false))
     }
 
-    /// Deletes up to `amount` bytes of blanks at the start of each line that a movement covers. False if nothing changed.
+    /// Deletes up to `amount` bytes of blanks at the start of each line that a movement covers. Returns false if that
+    /// changes nothing, as [`indent`](Session::indent) does.
     /// # Errors
     /// [`Error::NoMemory`]; the lines before stay dedented.
-    pub fn dedent(&mut self, movement: Movement, amount: u8) -> Result<(), Error> {
+    pub fn dedent(&mut self, movement: Movement, amount: u8) -> Result<bool, Error> {
         self.run_by(movement, |core, by| core.indent(by, amount, true))
     }
 }

@@ -203,20 +203,20 @@ fn a_count_of_0_does_nothing() -> Result<(), Error> {
 }
 
 #[test]
-fn an_indent_that_changes_nothing_only_ends_a_run_of_kills() -> Result<(), Fault> {
-    // A text, and how much of its blanks would go at most.
+fn an_indent_that_changes_nothing_only_ends_a_run_of_kills() -> Result<(), Error> {
+    // A text, and how many bytes of its blanks may be deleted.
     for (text, amount) in [("one\n two\n", 0), ("one\ntwo", 9), ("\u{3000}one", 2)] {
         let mut session = opened(text);
         session.insert('x', 1).and(session.undo(1))?;
         session.watch(9, 99)?;
         let changed = session.dedent(Movement::WholeBuffer, amount);
         assert_eq!(changed, Ok(false), "{text:?}");
-        let left = (session.can_redo(), session.count_reports());
+        let left = (session.can_redo(), session.report_count());
         assert_eq!(left, (true, 0), "{text:?}");
     }
     let mut session = opened("one two");
     for _ in 0..2 {
-        session.kill(Movement::BackwardWord(1, Word::Emacs))?;
+        session.kill(Movement::backward_word(Word::Emacs))?;
         assert_eq!(session.indent(Movement::WholeBuffer, 0), Ok(false));
     }
     assert_eq!(ring(&session), ["one ", "two"]);
