@@ -20,8 +20,8 @@ LETTERS = {b"n": b"\n", b"r": b"\r", b"t": b"\t", b"\\": b"\\", b'"': b'"'}
 # A line without a call prints bad, since it means nothing, or has a count of 0, by which a call does nothing, or one of
 # two words that only a script has. Of an indent by 0 a script says that it is done.
 NO_TIMES = re.compile(
-    rb"^(?:(?:move|kill|copy|(?:in|de)dent \d+) )?(?:(?:in|de)dent|ins|paste|yank|del|back|twords|undo|prevword|nextword|to|bword"
-    rb"|fword|find|bchar|fchar|up|down) 0+(?: |$)", re.M,
+    rb"^(?:(?:move|kill|copy|(?:in|de)dent \d+) )?(?:(?:in|de)dent|ins|paste|yank|del|back|twords|undo|prevword"
+    rb"|nextword|to|bword|fword|find|bchar|fchar|up|down) 0+(?: |$)", re.M,
 )
 NO_CALL = re.compile(rb"^(?:keepundone$|(?:in|de)dent 0 |(?:move|kill|copy|(?:in|de)dent \d+) first$)", re.M)
 # An undo that goes otherwise by a call: soon after a command of several steps, which is one unit then; or in a group.
@@ -29,8 +29,6 @@ OTHER_UNDO = re.compile(
     rb"^(?:(?:update|tchars|twords|case|indent|dedent|yankpop)\b.*\n(?:.*\n){0,2}|begin\n(?:(?!end|abandon).*\n)*)undo",
     re.M,
 )
-# What no call does.
-NO_CALL = re.compile(rb"^(?:keepundone$|(?:move|kill|copy|(?:in|de)dent \d+) first$)", re.M)
 # What stands in a text of C as it is. Two question marks and what comes after them may mean another character there.
 PLAIN = set(range(32, 127)) - set(b'"\\?')
 
