@@ -346,8 +346,8 @@ static inline lodvarn_movement lodvarn_to_char(enum lodvarn_search search, uint3
 }
 
 /* To the start of the text that lodvarn_find finds from the cursor; forward that may be at the cursor itself, and
- * lodvarn_move returns DONE then. Covers the text between that offset and the cursor: back also the found text. The text
- * must not be empty: NO_SUCH_NUMBER. lodvarn_indent does not take it. */
+ * lodvarn_move returns DONE then. Covers the text between that offset and the cursor: back also the found text. The
+ * text must not be empty: NO_SUCH_NUMBER. lodvarn_indent does not take it. */
 static inline lodvarn_movement lodvarn_to_match(enum lodvarn_direction direction, const char *text, size_t len) {
     lodvarn_movement movement =
         lodvarn_movement_(LODVARN_TO_MATCH_ + lodvarn_index_((uint32_t)direction, LODVARN_FORWARD, 2), 0, 0);
