@@ -52,7 +52,7 @@ KEYS_CASES = [
     ("日本語 C-a C-]語 x", "日本x|語"),
     ("abab C-a C-]a C-]a", "ab|ab"),
     ("a M-RET b M-< C-]b", "|a\nb"),
-    ("abcdefghijklmnopqrstuvwxyz", "(refused: LODVARN_NO_ROOM) abcdefghijklmnopqrstuvwx|"),
+    ("abcdefghijklmnopqrstuvwxyz", "(LODVARN_NO_ROOM) abcdefghijklmnopqrstuvwx|"),
     ('"ab RET C-y', "accepted ab|, and then |"),
 ]
 

@@ -98,7 +98,7 @@ int main(void) {
         while (++columns < WIDTH);
         for (char *word = strtok(line, " "); word; word = strtok(NULL, " ")) {
             int answer = press(word);
-            if (answer < 0) printf("(refused: %s) ", lodvarn_answer_name(answer));
+            if (answer < 0) printf("(%s) ", lodvarn_answer_name(answer));
         }
         show();
         printf("\n");
