@@ -1,5 +1,6 @@
 /* Worked scripts, by lodvarn_script and by the typed calls; what each call returns and leaves; and bad input. Its last
  * line is 'N passed, M failed'. */
+#include "exported.h"
 #include "rows.h"
 #include "see.h"
 #include "typed.h"
@@ -970,6 +971,20 @@ static void movements_mean_what_they_say(void) {
         mean(kills, others[i].by, 0, "kill %s", others[i].name, "");
         mean(moves, others[i].by, 0, "move %s", others[i].name, "");
     }
+}
+
+/* The library makes the movements that the header makes. */
+static void movements_are_exported(void) {
+    size_t row = 0;
+#define ROW_(name, given)                                                                                    \
+    {                                                                                                        \
+        lodvarn_movement inlined = lodvarn_##name given, it = exported(row++);                               \
+        see("lodvarn_" #name #given, it.kind == inlined.kind && it.c == inlined.c && it.n == inlined.n       \
+            && it.len == inlined.len && !it.text == !inlined.text                                            \
+            && (!it.len || !memcmp(it.text, inlined.text, it.len)));                                         \
+    }
+    MOVEMENTS(ROW_)
+    SEE(row == 26 && exported(row).kind == 0);
 }
 
 static void numbers_mean_what_they_say(void) {
@@ -2232,6 +2247,7 @@ int main(void) {
     rows_are_found();
     motions_by_rows_keep_the_column();
     movements_mean_what_they_say();
+    movements_are_exported();
     numbers_mean_what_they_say();
     numbers_outside_of_their_enums();
     numbers_that_are_too_great();
