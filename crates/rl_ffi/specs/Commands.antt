@@ -67,11 +67,14 @@ moves (By m) = performs (Move m)
 moves (To None) = finds_nothing
 moves (To (Some at)) = performs (SetPos at)
 
--- bytes are typed, and it is told how many
+-- bytes are typed, and it is told how many, if there were some
+abbrev pub typed_answer : Typed → Answer
+typed_answer typed = if typed.len == 0 then Nothing else placed typed.at_end
+
 abbrev pub tells_typed : Result Typed TypeFault → Tale ℕ
-tells_typed (Ok typed) = if typed.len == 0 then refuses Nothing else (λ n out out'. (n ≡ placed typed.at_end) × (out' ≡ typed.len))
-tells_typed (Err untyped.NotUtf8) = refuses NotUtf8
-tells_typed (Err (untyped.Refused why)) = refuses (of_fault why)
+tells_typed (Ok typed) n out out' = (n ≡ typed_answer typed) × (out' ≡ (if typed.len == 0 then out else typed.len))
+tells_typed (Err untyped.NotUtf8) n out out' = refuses NotUtf8 n out out'
+tells_typed (Err (untyped.Refused why)) n out out' = refuses (of_fault why) n out out'
 
 unfoldable pub types : List ℕ → EffectOut ℕ
 types bytes s n new out out' = (result : Result Typed TypeFault) × TypesBytes bytes s result new × tells_typed result n out out'

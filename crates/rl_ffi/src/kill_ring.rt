@@ -127,7 +127,12 @@ pub fn lodvarn_ring_add(s: &mut Handle, text: &[u8]) -> i32
 }
 
 // Copies a range, if there is one, and ends a run of kills.
-fn copy(session: &mut Session, covered: Option<Range<usize>>, out: &mut [u8], len: &mut usize) -> Answer
+fn copy(
+    session: &mut Session,
+    covered: Option<Range<usize>>,
+    out: &mut [u8],
+    len: &mut usize,
+) -> Answer
     requires { IfSome covered (λ r. IsRange session.old.line.text r.start r.end) }
     ensures { hands_out (option_map (text_in session.old.line) covered) session.old result session.new (out.old, len.old) (out.new, len.new) }
 {

@@ -68,7 +68,11 @@ pub(crate) fn span(from: usize, found: Option<usize>) -> Option<Range<usize>>
 
 // What a movement covers from an offset.
 #[tactic(auto, unfolding(crate::specs::Reach::Covers))]
-pub(crate) fn covers(session: &mut Session, from: usize, movement: CMovement) -> Result<Option<Range<usize>>, Answer>
+pub(crate) fn covers(
+    session: &mut Session,
+    from: usize,
+    movement: CMovement,
+) -> Result<Option<Range<usize>>, Answer>
     ensures asked { Covers from movement.entry session.old result }
     ensures range { IfOk result (λ found. IfSome found (λ r. IsRange session.old.line.text r.start r.end)) }
     ensures kept { session.new ≡ session.old }

@@ -71,7 +71,13 @@ pub fn lodvarn_text_copy(s: &mut Handle, out: &mut [u8], len: &mut usize) -> i32
     of!(s, session => copy_text(session.line().as_str().as_bytes(), out, len))
 }
 
-pub fn lodvarn_find(s: &mut Handle, from: usize, text: &[u8], direction: u32, range: &mut CRange) -> i32
+pub fn lodvarn_find(
+    s: &mut Handle,
+    from: usize,
+    text: &[u8],
+    direction: u32,
+    range: &mut CRange,
+) -> i32
     ensures { Tells (TellsFound from text.now direction) s.old result s.new range.old range.new }
 {
     of!(s, session, t = text_of(text), side = direction_of(direction) => match session.find(from, t, side) {
@@ -185,7 +191,12 @@ pub fn lodvarn_cursor_position(s: &mut Handle, at: &mut CPosition) -> i32
     })
 }
 
-pub fn lodvarn_movement_range(s: &mut Handle, from: usize, movement: CMovement, range: &mut CRange) -> i32
+pub fn lodvarn_movement_range(
+    s: &mut Handle,
+    from: usize,
+    movement: CMovement,
+    range: &mut CRange,
+) -> i32
     ensures { Tells (TellsCovers from movement.entry) s.old result s.new range.old range.new }
 {
     of!(s, session => match covers(session, from, movement) {
@@ -222,7 +233,12 @@ fn leads(session: &mut Session, from: usize, movement: CMovement) -> Result<Opti
     }
 }
 
-pub fn lodvarn_movement_target(s: &mut Handle, from: usize, movement: CMovement, to: &mut usize) -> i32
+pub fn lodvarn_movement_target(
+    s: &mut Handle,
+    from: usize,
+    movement: CMovement,
+    to: &mut usize,
+) -> i32
     ensures { Tells (TellsTarget from movement.entry) s.old result s.new to.old to.new }
 {
     of!(s, session => match leads(session, from, movement) {

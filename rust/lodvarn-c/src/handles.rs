@@ -217,7 +217,9 @@ const ANSWERS: [(&str, &str); 16] = answers! {
 };
 
 fn said(answer: i32) -> (&'static str, &'static str) {
-    let index = answer.checked_sub(LEAST).and_then(|n| usize::try_from(n).ok());
+    let index = answer
+        .checked_sub(LEAST)
+        .and_then(|n| usize::try_from(n).ok());
     let found = index.and_then(|n| ANSWERS.get(n));
     *found.unwrap_or(&("unknown\0", "unknown answer\0"))
 }

@@ -6,9 +6,9 @@ extern crate alloc;
 
 #[macro_use]
 mod handles;
-mod movements;
 #[cfg(not(any(feature = "std", panic = "unwind")))]
 mod bare;
+mod movements;
 
 mod proved {
     include!(concat!(env!("OUT_DIR"), "/proved/mod.rs"));

@@ -22,7 +22,13 @@ impl Movement {
     /// # Safety
     /// Its text is there, and nothing changes it as long as the movement is used.
     pub unsafe fn own<'a>(self) -> CMovement<'a> {
-        let Movement { kind, c, n, text, len } = self;
+        let Movement {
+            kind,
+            c,
+            n,
+            text,
+            len,
+        } = self;
         // SAFETY: as above.
         let text = unsafe { slice(text, len) };
         CMovement { kind, c, n, text }
@@ -31,7 +37,13 @@ impl Movement {
 
 fn new(kind: u32, c: u32, n: usize) -> Movement {
     let (text, len) = (null(), 0);
-    Movement { kind, c, n, text, len }
+    Movement {
+        kind,
+        c,
+        n,
+        text,
+        len,
+    }
 }
 
 // The index of a number in an enum; for a number outside of it one that leads to no kind.
