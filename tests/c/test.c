@@ -1422,13 +1422,14 @@ static const struct filled {
     {"a script", fill_by_script, 1, 26, 26, "true 1 x\nbad\ntrue 5 xéé\n"},
 };
 
-/* Each capacity up to one too many: the buffer is as it was, or has what it should, and no byte after it changed. */
+/* Each capacity up to one too many, and many more: the buffer is as it was, or has what it should, and no byte after it
+ * changed. */
 static void buffers_are_filled(void) {
     for (size_t i = 0; i < COUNT(fillings); i++)
-        for (size_t cap = 0; cap <= fillings[i].need + 1; cap++) {
+        for (size_t n = 0; n <= fillings[i].need + 2; n++) {
             const struct filled *row = &fillings[i];
-            char got[256], wanted[sizeof got];
-            size_t count = NO;
+            char got[40 * sizeof(lodvarn_cluster)], wanted[sizeof got];
+            size_t cap = n <= row->need + 1 ? n : 40, count = NO;
             memset(got, 0xa5, sizeof got), memset(wanted, 0xa5, sizeof wanted);
             if (cap >= row->need) memcpy(wanted, row->wanted, row->need * row->unit);
             begin_row(0);
