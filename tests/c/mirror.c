@@ -141,7 +141,7 @@ static void run(size_t reports, size_t text_bytes, unsigned one_of) {
     options.ring_size = 3;
     must(lodvarn_open(&s, &options, "", 0) > 0 && lodvarn_watch(s, reports, text_bytes) > 0);
     refused_of = one_of;
-    most = reports < 1000 ? 40 : LODVARN_NO_BOUND; /* an undo of more changes folds the reports of a long queue */
+    most = reports < 1000 ? 40 : LODVARN_NO_BOUND;
     for (i = 0; i < COMMANDS && reported.holds && changed.holds; i++) {
         int is_refused = run_command() == LODVARN_NO_MEMORY;
         refused += is_refused;
@@ -154,6 +154,9 @@ static void run(size_t reports, size_t text_bytes, unsigned one_of) {
         changed.holds = is_present(&changed);
     }
     refused_of = 0;
+    for (size_t n = 0; n <= reports; n++) must(lodvarn_restart(s, n % 2 ? "a" : "b", 1) > 0); /* these are folded */
+    read_reports(&reported, text_bytes > 0, UINT_MAX, counts);
+    reported.holds = is_present(&reported);
     check("the copy by reports is the text", reported.holds, reports, one_of);
     check("the copy by what changed is the text", changed.holds, reports, one_of);
     if (i < COMMANDS) printf("  after command %u\n", i);

@@ -1,5 +1,6 @@
 /* Worked scripts, by lodvarn_script and by the typed calls; what each call returns and leaves; and bad input. Its last
  * line is 'N passed, M failed'. */
+#include "exported.h"
 #include "rows.h"
 #include "see.h"
 #include "typed.h"
@@ -972,6 +973,20 @@ static void movements_mean_what_they_say(void) {
     }
 }
 
+/* The library makes the movements that the header makes. */
+static void movements_are_exported(void) {
+    size_t row = 0;
+#define ROW_(name, given)                                                                                    \
+    {                                                                                                        \
+        lodvarn_movement inlined = lodvarn_##name given, it = exported(row++);                               \
+        see("lodvarn_" #name #given, it.kind == inlined.kind && it.c == inlined.c && it.n == inlined.n       \
+            && it.len == inlined.len && !it.text == !inlined.text                                            \
+            && (!it.len || !memcmp(it.text, inlined.text, it.len)));                                         \
+    }
+    MOVEMENTS(ROW_)
+    SEE(row == 26 && exported(row).kind == 0);
+}
+
 static void numbers_mean_what_they_say(void) {
     mean(deletes, lodvarn_to_line_end(), 0, "killline", "", "");
     mean(deletes, lodvarn_to_text_end(), 0, "killbuf", "", "");
@@ -1407,13 +1422,14 @@ static const struct filled {
     {"a script", fill_by_script, 1, 26, 26, "true 1 x\nbad\ntrue 5 xéé\n"},
 };
 
-/* Each capacity up to one too many: the buffer is as it was, or has what it should, and no byte after it changed. */
+/* Each capacity up to one too many, and many more: the buffer is as it was, or has what it should, and no byte after it
+ * changed. */
 static void buffers_are_filled(void) {
     for (size_t i = 0; i < COUNT(fillings); i++)
-        for (size_t cap = 0; cap <= fillings[i].need + 1; cap++) {
+        for (size_t n = 0; n <= fillings[i].need + 2; n++) {
             const struct filled *row = &fillings[i];
-            char got[256], wanted[sizeof got];
-            size_t count = NO;
+            char got[40 * sizeof(lodvarn_cluster)], wanted[sizeof got];
+            size_t cap = n <= row->need + 1 ? n : 40, count = NO;
             memset(got, 0xa5, sizeof got), memset(wanted, 0xa5, sizeof wanted);
             if (cap >= row->need) memcpy(wanted, row->wanted, row->need * row->unit);
             begin_row(0);
@@ -2232,6 +2248,7 @@ int main(void) {
     rows_are_found();
     motions_by_rows_keep_the_column();
     movements_mean_what_they_say();
+    movements_are_exported();
     numbers_mean_what_they_say();
     numbers_outside_of_their_enums();
     numbers_that_are_too_great();

@@ -1,5 +1,5 @@
 //! The calls for C. Each is given the handle of a session, or needs none; `include/lodvarn.h` says what it does. Those
-//! whose names begin with rl_ are for the calls that make a handle, free it, and see what size the options have.
+//! whose names begin with rl_ are for the calls that make a handle, free it, or look at the size of a structure.
 #![tactic(auto)]
 
 mod answers;

@@ -34,10 +34,10 @@ pub fn lodvarn_script(alloc: Global, script: &[u8], out: &mut [u8], printed: &mu
     let mut reader = script;
     let mut whole = Vec::new(alloc);
     // A read from a slice never fails, and a write to a vector fails only if there is no memory.
-    if run_script(alloc, &mut reader, &mut whole).is_err() {
-        return Answer::NoMemory.number();
+    match run_script(alloc, &mut reader, &mut whole) {
+        Ok(()) => hand_out(whole.as_slice(), out, printed).number(),
+        Err(_) => Answer::NoMemory.number(),
     }
-    hand_out(whole.as_slice(), out, printed).number()
 }
 
 fn measure(mode: u32, text: &[u8], columns: &mut usize) -> Outcome
