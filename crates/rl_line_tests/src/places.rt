@@ -198,10 +198,10 @@ fn searches(rt: HostRuntime) {
     }
 }
 
-fn ends(found: Option<Range<usize>>) -> Option<(usize, usize)> {
-    match found {
-        Some(range) => Some((range.start, range.end)),
-        None => None,
+fn is_range(found: Option<Range<usize>>, wanted: Option<(usize, usize)>) -> bool {
+    match (found, wanted) {
+        (Some(range), Some((start, end))) => range.start == start && range.end == end,
+        (found, wanted) => found.is_none() && wanted.is_none(),
     }
 }
 
@@ -215,9 +215,10 @@ fn finds_text(
     back: Option<(usize, usize)>,
 ) {
     assert!(rt; text.is_char_boundary(from), "{from}");
-    let first = ends(find_text(text, from, sought, Direction::Forward));
-    let last = ends(find_text(text, from, sought, Direction::Backward));
-    assert_eq!(rt; (first, last), (ahead, back), "from {from}");
+    let first = find_text(text, from, sought, Direction::Forward);
+    assert!(rt; is_range(first, ahead), "ahead from {from}");
+    let last = find_text(text, from, sought, Direction::Backward);
+    assert!(rt; is_range(last, back), "back from {from}");
 }
 
 #[test]

@@ -564,16 +564,29 @@ fn a_session_may_be_sent(rt: HostRuntime) -> Result<(), Fail> {
     Ok(())
 }
 
+// The text is found there, or nowhere, or the place is refused.
+fn finds(
+    rt: &impl Abort,
+    session: &Session,
+    (from, text, direction): (usize, &str, Direction),
+    wanted: Option<(usize, usize)>,
+    fault: bool,
+) {
+    let is_found = match session.find(from, text, direction) {
+        Ok(Some(range)) => !fault && wanted == Some((range.start, range.end)),
+        Ok(None) => !fault && wanted.is_none(),
+        Err(why) => fault && why == Fault::BadPlace,
+    };
+    assert!(rt; is_found, "from {from}");
+}
+
 #[test]
 fn a_text_is_found_from_a_place(rt: HostRuntime) -> Result<(), Fail> {
     let session = limited_to(rt.alloc(), "\u{e9}a\u{e9}", 9)?;
     let (ahead, back) = (Direction::Forward, Direction::Backward);
-    let found = session.find(2, "\u{e9}", ahead) == Ok(Some(3..5));
-    is_so(&rt, found, "ahead");
-    let found = session.find(4, "a", back) == Err(Fault::BadPlace);
-    is_so(&rt, found, "inside a character");
-    let found = session.find(3, "\u{e9}", back) == Ok(Some(0..2));
-    is_so(&rt, found, "back");
-    is_so(&rt, session.find(5, "", back) == Ok(None), "an empty text");
+    finds(&rt, &session, (2, "\u{e9}", ahead), Some((3, 5)), false);
+    finds(&rt, &session, (4, "a", back), None, true);
+    finds(&rt, &session, (3, "\u{e9}", back), Some((0, 2)), false);
+    finds(&rt, &session, (5, "", back), None, false);
     Ok(())
 }

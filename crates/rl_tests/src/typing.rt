@@ -18,10 +18,22 @@ type Row = (
     &'static str,
 );
 
-fn outcome(len: usize, at_end: bool, fault: Option<TypeFault>) -> Result<Typed, TypeFault> {
+fn is_typed(done: &Result<Typed, TypeFault>, (len, at_end): (usize, bool)) -> bool {
+    match done {
+        Ok(typed) => typed.len == len && typed.at_end == at_end,
+        Err(_) => false,
+    }
+}
+
+fn is_done(
+    done: &Result<Typed, TypeFault>,
+    typed: (usize, bool),
+    fault: Option<TypeFault>,
+) -> bool {
     match fault {
-        Some(fault) => Err(fault),
-        None => Ok(Typed { len, at_end }),
+        Some(TypeFault::NotUtf8) => matches!(done, Err(TypeFault::NotUtf8)),
+        Some(TypeFault::Refused(_)) => matches!(done, Err(TypeFault::Refused(Fault::TooLong))),
+        None => is_typed(done, typed),
     }
 }
 
@@ -30,7 +42,7 @@ fn types(rt: &impl Abort, alloc: Global, row: &Row) -> Result<(), Fail> {
     let mut session = limited_to(alloc, "ab", *limit)?;
     session.set_pos(*pos)?;
     let done = session.type_bytes(bytes);
-    is_so(rt, done == outcome(*len, *at_end, *fault), text);
+    is_so(rt, is_done(&done, (*len, *at_end), *fault), text);
     is_so(rt, session.line().as_str() == *text, text);
     Ok(())
 }
