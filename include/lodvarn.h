@@ -489,11 +489,11 @@ int lodvarn_indent(lodvarn *s, lodvarn_movement movement, size_t amount, enum lo
  *
  * Consecutive kills, a run, become one text of the ring: text from before the cursor goes to its front, text from
  * after the cursor to its end. A kill that removes nothing does not end a run. Neither do lodvarn_kill_range,
- * lodvarn_set_options, the calls that return what changed, the reads, and a call that returns NOT_UTF8, NO_SUCH_NUMBER
- * or TOO_SMALL. Every other command ends it, also a motion, a kill by clusters, a begin or end of a group, and a
- * command that had nothing to do: the next kill begins a new text. That goes after the newest, also after
- * lodvarn_yank_pop, so only a full ring drops one, its oldest. Returns NOTHING if there is nothing. Errors: NO_MEMORY.
- */
+ * lodvarn_set_options, a lodvarn_type that returns NOTHING, the calls that return what changed, the reads, and a call
+ * that returns NOT_UTF8, NO_SUCH_NUMBER or TOO_SMALL. Every other command ends it, also a motion, a kill by clusters, a
+ * begin or end of a group, and a command that had nothing to do: the next kill begins a new text. That goes after the
+ * newest, also after lodvarn_yank_pop, so only a full ring drops one, its oldest. Returns NOTHING if there is nothing.
+ * Errors: NO_MEMORY. */
 int lodvarn_kill(lodvarn *s, lodvarn_movement movement);
 
 /* Kills the text in a range, wherever the cursor is. The cursor goes to its start. Returns NOTHING if the range is
