@@ -187,6 +187,8 @@ CALCULATOR_CASES = [
     ("a kill is yanked", ["1+2", keys("C-a C-k C-y C-y")], ["> 1+21+2"], 8),
     ("a yank is popped", ["10 20", keys("C-w C-a C-k C-y M-y")], ["> 20"], 4),
     ("other kills", ["12 34", keys("C-a M-d C-e C-u C-y")], [">  34"], 5),
+    ("exchanges, each one undo", ["12 34", keys("M-t C-_ C-t")], ["> 12 43"], 7),
+    ("letter case", ["ab cd", keys("C-a M-u M-c")], ["> AB Cd"], 7),
     ("an undo", ["1+2", keys("C-_")], ["> 1"], 3),
     ("a redo", ["1+2", keys("C-_ M-_"), "3"], ["> 1+23"], 6),
     ("a line of before", ["1\r2\r", keys("Up Up C-_")], ["> 1", "1", "> 2", "2", "> 1"], 3, True),

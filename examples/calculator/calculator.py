@@ -5,10 +5,11 @@ evaluates the lines of its input.
 """
 
 import os
+from functools import partial
 from typing import Callable, Dict
 
 from arithmetic import LIMIT, evaluate
-from lodvarn import Movement, NoRoomError, Screen, Session, Stop, Word, cell, index_at, width
+from lodvarn import Case, Movement, NoRoomError, Screen, Session, Stop, Word, cell, index_at, width
 from raw_terminal import BACKSPACE, ESC, RETURN, RawTerminal, control
 
 PROMPT = "> "
@@ -22,11 +23,19 @@ MOVES = {
     control("a"): START, b"\x1b[H": START, b"\x1b[1~": START, control("e"): END, b"\x1b[F": END, b"\x1b[4~": END,
     control("b"): LEFT, b"\x1b[D": LEFT, control("f"): RIGHT, b"\x1b[C": RIGHT,
     ESC + b"b": WORD_LEFT, ESC + b"f": WORD_RIGHT,
+    ESC + b"<": Movement.to_text_start(), ESC + b">": Movement.to_text_end(),
 }
-KILLS = {control("k"): END, control("u"): START, control("w"): Movement.words_back(Word.BIG), ESC + b"d": WORD_RIGHT}
+KILLS = {
+    control("k"): END, control("u"): START, control("w"): Movement.words_back(Word.BIG), ESC + BACKSPACE: WORD_LEFT,
+    ESC + b"d": WORD_RIGHT,
+}
 CALLS: Dict[bytes, Callable[[Session], bool]] = {
     control("d"): Session.delete, BACKSPACE: Session.backspace, control("_"): Session.undo, ESC + b"_": Session.redo,
     control("y"): Session.yank, ESC + b"y": Session.yank_pop,
+    control("t"): Session.transpose_chars, ESC + b"t": Session.transpose_words,
+    ESC + b"u": partial(Session.change_case, to=Case.UPPERCASE),
+    ESC + b"l": partial(Session.change_case, to=Case.LOWERCASE),
+    ESC + b"c": partial(Session.change_case, to=Case.CAPITALIZE),
 }
 STEPS = {control("p"): -1, b"\x1b[A": -1, control("n"): 1, b"\x1b[B": 1}
 
