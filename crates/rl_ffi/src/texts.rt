@@ -28,16 +28,23 @@ pub(crate) fn text_of(bytes: &[u8]) -> Result<&str, Answer>
     }
 }
 
-pub fn lodvarn_script(alloc: Global, script: &[u8], out: &mut [u8], printed: &mut usize) -> i32
-    ensures { Answers (Prints script.now) result (out.old, printed.old) (out.new, printed.new) }
+// Runs a script, and writes what it prints.
+fn print(alloc: Global, script: &[u8], out: &mut [u8], printed: &mut usize) -> Answer
+    ensures { Prints script.now result (out.old, printed.old) (out.new, printed.new) }
 {
     let mut reader = script;
     let mut whole = Vec::new(alloc);
     // A read from a slice never fails, and a write to a vector fails only if there is no memory.
-    match run_script(alloc, &mut reader, &mut whole) {
-        Ok(()) => hand_out(whole.as_slice(), out, printed).number(),
-        Err(_) => Answer::NoMemory.number(),
-    }
+    let Ok(()) = run_script(alloc, &mut reader, &mut whole) else {
+        return Answer::NoMemory;
+    };
+    hand_out(whole.as_slice(), out, printed)
+}
+
+pub fn lodvarn_script(alloc: Global, script: &[u8], out: &mut [u8], printed: &mut usize) -> i32
+    ensures { Answers (Prints script.now) result (out.old, printed.old) (out.new, printed.new) }
+{
+    print(alloc, script, out, printed).number()
 }
 
 fn measure(mode: u32, text: &[u8], columns: &mut usize) -> Outcome
