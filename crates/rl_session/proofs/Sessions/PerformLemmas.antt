@@ -212,7 +212,7 @@ Walks-within Done keeps texts r now old new (Err why) leads d e w = Walks-same r
 
 -- a deletion by a movement is the command of that movement
 pub deleted : (m : Movement) (old kept begun left new : State) (reply : Reply) → CanDeleteBy m → Forgets left new → Came (edit_course nothing_more (Unit {0}) (kill_plan begun.line m) answers reply) begun left
-    → begun ≡ with_ring (reset kept.pair.ring) kept → HasKept old.options.keeps old kept → Obeyed old (deletion_of m) reply new
+    → begun ≡ with_ring (reset kept.pair.ring) kept → HasKept old.options.keeps old kept → Performed old (deletion_of m) reply new
 deleted BeginningOfLine old kept begun left new reply can f d b k = done DiscardLine old kept begun left left new reply f d refl b k (λ x. x) refl refl
 deleted EndOfLine old kept begun left new reply can f d b k = done KillLine old kept begun left left new reply f d refl b k (λ x. x) refl refl
 deleted (BackwardWord n word) old kept begun left new reply can f d b k = done (DeletePrevWord word n) old kept begun left left new reply f d refl b k (λ x. x) refl refl

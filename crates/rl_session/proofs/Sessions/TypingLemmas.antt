@@ -62,8 +62,8 @@ module _ (fault : Option TypeFault) (text : List ℕ) (typed : Typed) (old : Sta
 -- typing is a run of calls
 types_calls : (fault : Option TypeFault) (cs : List ℕ) (typed : Typed) (old new : State) (result : Result Typed TypeFault) → Types fault cs typed old result new → Calls old new
 types_calls fault [] typed old new result t = subst (λ s. Calls old s) (sym t.1) no_call
-types_calls fault (c ∷ cs) typed old new result (inl stops) = call _ _ stops.1 no_call
-types_calls fault (c ∷ cs) typed old new result (inr goes) = call _ _ goes.2 (types_calls fault cs _ goes.1 new result goes.3)
+types_calls fault (c ∷ cs) typed old new result (inl stops) = call (Insert c 1) (says.Refused stops.0) stops.1 no_call
+types_calls fault (c ∷ cs) typed old new result (inr goes) = call (Insert c 1) (says.Inserted goes.0) goes.2 (types_calls fault cs _ goes.1 new result goes.3)
 
 pub typing_calls : (bytes : List ℕ) (old new : State) (result : Result Typed TypeFault) → TypesBytes bytes old result new → Calls old new
 typing_calls bytes old new result t = types_calls (fault_after bytes) (whole_chars bytes) nothing_typed old new result t
