@@ -64,7 +64,7 @@
  * to its output arguments only if it returns 1 or more, or TOO_SMALL.
  *
  * Memory
- * It comes from malloc and realloc, and lodvarn_close frees all that a session has. A call allocates only if its
+ * It comes from malloc, calloc and realloc, and lodvarn_close frees all that a session has. A call allocates only if its
  * comment lists NO_MEMORY, with one exception: a call that goes by lines or rows, such as lodvarn_line_count,
  * allocates an index of 8 bytes a line, and works without it if that fails. lodvarn_watch allocates its whole queue.
  * The record grows until lodvarn_truncate or lodvarn_restart, or up to the bounds in the options; the ring grows up to

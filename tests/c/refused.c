@@ -26,9 +26,11 @@ static size_t held, blocks; /* the bytes that are held, and in how many blocks *
 static size_t peak;         /* the most bytes that were held, with what was asked for */
 
 void *__real_malloc(size_t size);
+void *__real_calloc(size_t count, size_t size);
 void *__real_realloc(void *at, size_t size);
 void __real_free(void *at);
 void *__wrap_malloc(size_t size);
+void *__wrap_calloc(size_t count, size_t size);
 void *__wrap_realloc(void *at, size_t size);
 void __wrap_free(void *at);
 
@@ -47,6 +49,11 @@ static void *taken(void *at) {
 }
 
 void *__wrap_malloc(size_t size) { return refuses(size) ? NULL : taken(__real_malloc(size)); }
+
+/* A compiler may make one call of malloc and memset. */
+void *__wrap_calloc(size_t count, size_t size) {
+    return refuses(count * size) ? NULL : taken(__real_calloc(count, size));
+}
 
 void *__wrap_realloc(void *at, size_t size) {
     size_t before = at ? malloc_usable_size(at) : 0;
