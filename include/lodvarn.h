@@ -33,7 +33,7 @@
  * - Columns are those of a terminal, where a wide character takes two. Lines, rows and columns are numbered from 0.
  * - The undo record has entries: the changes, and the marks where groups begin and end.
  *
- * Structures that may grow
+ * Sizes
  * lodvarn_options, lodvarn_screen and lodvarn_report begin with their size, which LODVARN_OPTIONS, LODVARN_SCREEN and
  * LODVARN_REPORT set. A newer header may add members at their end. This version accepts a longer structure if all
  * bytes that it does not know are 0, and sets them to 0 in one that it writes. Any other size is BAD_SIZE.
@@ -43,7 +43,7 @@
  * that is more than cap, the call returns TOO_SMALL, sets *len or *count, and leaves the buffer as it is. So a first
  * call with cap 0 finds the size.
  *
- * Return values
+ * Results
  * A call that returns an int returns one of enum lodvarn_answer: below 0 an error, 0 if there was nothing to do, and
  * from 1 on if it is done. So `if (lodvarn_undo(s, 1) > 0)` tests whether anything was undone. The comment of each
  * call lists its errors, without LODVARN_. Besides these, CLOSED is an error of every call on a session, NOT_UTF8 of
@@ -51,7 +51,7 @@
  * call that takes a count, a character, a movement, an enum or a screen: a number that is too great, or not in its
  * enum.
  *
- * After an error
+ * Errors
  * - NO_MEMORY: an edit of several steps keeps the steps that it made, and the record has them. Every other call leaves
  *   text, cursor and record as they were. The ring may have kept a text that a kill did not delete.
  * - BAD_OFFSET, BAD_YANK_SIZE and NOT_REPLAYING: text, cursor and record are as they were. The call still counts as a

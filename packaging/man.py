@@ -21,7 +21,8 @@ PLUMBING = re.compile(r'^(?:#(?:if|end|inc)|extern "C"|\}$|#define \w+_H$).*\n?'
 # A function that the header defines, whose body is left out, and a macro whose text is, since it is made by others.
 DEFINED = re.compile(r"^static inline (.*?\)) \{(?:[^\n]*\}|.*?^\})$", re.M | re.S)
 MADE = re.compile(r"^(#define \w+) \w+_\(.*\)$", re.M)
-OWN = re.compile(r"\w_(?:\(| = )")
+OWN = re.compile(r"\w_(?:\(| = )|^#define \w+_(?: |$)", re.M)
+CHECKED = re.compile(r"^LODVARN_CHECK_ ", re.M)
 ESCAPES = {"\\": r"\e", "-": r"\-", "'": r"\(aq", "`": r"\(ga", "^": r"\(ha", "~": r"\(ti"}
 
 
@@ -53,6 +54,7 @@ def text_of(comment):
 
 def shown(code):
     """What a program uses of the code after a comment, as lines."""
+    code = CHECKED.sub("", code)
     code = PLUMBING.sub("", MADE.sub(r"\1", DEFINED.sub(r"\1;", re.sub(r" +\\\n", r" \\\n", code))))
     parts = (it.strip("\n") for it in code.split("\n\n") if not OWN.search(it))
     return "\n\n".join(it for it in parts if it).split("\n")
