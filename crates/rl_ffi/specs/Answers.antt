@@ -1,5 +1,5 @@
 -- What a call answers, and its number.
-use Rattle.std.specs.Prelude.{Bool, true, false, ℤ, pos, negsuc, Option, Some, None, Result, Ok, Err, is_some}
+use Rattle.std.specs.Prelude.{Bool, true, false, ℤ, pos, negsuc, Some, None, Result, Ok, Err, is_some}
 use Rattle.rl_base.specs.declared.watch.WatchFault.{WatchFault}
 use Rattle.rl_base.specs.declared.watch.WatchFault.TheVariants as unwatched
 use Rattle.rl_session.specs.declared.session.Fault.{Fault}

@@ -7,7 +7,7 @@ use Rattle.rl_base.specs.declared.watch.WatchFault.{WatchFault}
 use Rattle.rl_base.specs.Reports.{Noted, new_queue, texts_of}
 use Rattle.rl_base.specs.Splice.{told, untouched}
 use Rattle.rl_base.specs.Watch.{RefusesQueue, next_note, past_next}
-use Rattle.rl_session.specs.State.{State, with_watch}
+use Rattle.rl_session.specs.State.{with_watch}
 use Rattle.rl_ffi.specs.Answers.{of_watch_fault}
 use Rattle.rl_ffi.specs.Calls.{Effect, EffectOut, Writes}
 use Rattle.rl_ffi.specs.Numbers.{kind_number}
