@@ -102,8 +102,8 @@ pub fn a_saved_text_comes_back()
         → new.line.text ≡ old.line.text }
 {}
 
-/// An indent or a dedent by which no byte goes in or out answers false, and only ends a run of kills. Text, cursor, record,
-/// with what was undone, and watch stay, but for what is beyond the bounds.
+/// An indent or a dedent that would insert and delete no byte returns false, and only ends a run of kills. Text, cursor,
+/// record, with the undone changes, and watch stay, but for what is beyond the bounds.
 pub fn an_indent_that_changes_nothing_only_ends_a_run_of_kills()
     ensures { (old new : State) (m : Movement) (amount : ℕ) (dedent : Bool) (reply : Reply) → indent_changes old.line m amount dedent ≡ false
         → Performed old (Indent m amount dedent) reply new → (reply ≡ Answer false) × Forgets (with_ring (reset old.pair.ring) old) new }

@@ -281,12 +281,11 @@ impl Session {
         self.pair.watch.stop_reports();
     }
 
-    /// Takes the oldest report; None if none waits. Its texts are the watch's `taken_texts`, until the next call that changes
-    /// something. The report tells how the text at which reading left off goes on. With texts, what went gave way to the end of
-    /// its texts, and from the text so made the reports that still wait lead to the present one. Without texts, or folded, it was
-    /// all that waited, and what came stands in the present text. The cursors of a report stand between two characters, the first
-    /// in the text before it, the second in that after it. Where no report waited, the text at which reading left off is the
-    /// present one.
+    /// Takes the oldest report; None if none waits, and then a copy that applied all before it equals the text. The watch's
+    /// `taken_texts` are the report's removed and new text, valid until the next call that changes something. Applied to
+    /// the copy, a report with texts gives the text from which those that still wait lead to the present one. One without
+    /// texts, or folded, was all that waited, and its new text stands in the present text. The cursors of a report stand
+    /// between two characters, the first in the text before it, the second in that after it.
     pub fn take_report(&mut self) -> Option<Report>
         ensures taken { result ≡ option_map (λ n. n.report) (next_note self.old.pair.watch) }
         ensures texts { taken_texts self.new.pair.watch ≡ texts_of (next_note self.old.pair.watch) }

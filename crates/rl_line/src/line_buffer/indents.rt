@@ -64,8 +64,8 @@ impl LineBuffer {
         }
     }
 
-    /// Whether `indent` would put a byte in or take one out. It would not by an amount of 0, nor by a dedent of lines
-    /// from whose blanks nothing would go.
+    /// Whether `indent` would insert or delete a byte. It would not by an amount of 0, nor by a dedent of lines that
+    /// have no blanks to delete.
     pub fn indent_changes(&self, mvt: &Movement, amount: u8, dedent: bool) -> bool
         ensures { result ≡ indent_changes self.now mvt.now amount dedent }
     {

@@ -275,8 +275,8 @@ impl Session {
     }
 
     /// Indents the lines of a movement by a number of spaces, or dedents them by at most that many bytes of blanks.
-    /// Answers whether a byte goes in or out. If none does, it only counts as a motion that leads nowhere: what was undone
-    /// stays, and nothing is recorded or reported. `NoMemory` leaves it after the steps that it took.
+    /// Returns whether it inserts or deletes a byte. If not, it only counts as a motion that leads nowhere: the undone
+    /// changes stay, and nothing is recorded or reported. `NoMemory` leaves it after the steps that it took.
     pub fn indent(&mut self, movement: &Movement, amount: u8, dedent: bool) -> Result<bool, Fault>
         ensures { Performed self.old (Command.Indent movement.now amount dedent) (replied Reply.Answer result) self.new }
     {
