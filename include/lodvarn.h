@@ -64,9 +64,10 @@
  * to its output arguments only if it returns 1 or more, or TOO_SMALL.
  *
  * Memory
- * It comes from malloc, calloc and realloc, and lodvarn_close frees all that a session has. A call allocates only if its
- * comment lists NO_MEMORY, with one exception: a call that goes by lines or rows, such as lodvarn_line_count,
- * allocates an index of 8 bytes a line, and works without it if that fails. lodvarn_watch allocates its whole queue.
+ * It comes from malloc, calloc and realloc, and lodvarn_close frees all that a session has. A call allocates only if
+ * its comment lists NO_MEMORY, with one exception: a call that goes by lines or rows, such as lodvarn_line_count or a
+ * move to the end of a line, allocates an index of 8 bytes a line, and works without it if that fails. lodvarn_watch
+ * allocates its whole queue.
  * The record grows until lodvarn_truncate or lodvarn_restart, or up to the bounds in the options; the ring grows up to
  * ring_size texts and max_ring_bytes bytes. */
 #ifndef LODVARN_H
@@ -104,6 +105,10 @@ extern "C" {
 #define LODVARN_NO_BOUND SIZE_MAX
 /* The column of the cursor, for motions by rows. */
 #define LODVARN_OWN_COLUMN SIZE_MAX
+/* The start of the line, for motions by rows. */
+#define LODVARN_LINE_START SIZE_MAX
+/* No offset: nothing follows. */
+#define LODVARN_NO_OFFSET SIZE_MAX
 
 /* A session. */
 typedef struct lodvarn lodvarn;
@@ -392,14 +397,15 @@ static inline lodvarn_movement lodvarn_to_text_end(void) { return lodvarn_moveme
 LODVARN_CHECK_ int lodvarn_open(lodvarn **out, const lodvarn_options *options, const char *text, size_t len);
 
 /* Opens a session from the bytes that lodvarn_save returned, and sets *out to it. Text, cursor, record, ring and
- * options are as they were; nothing has changed yet, and no reports are kept. Safe for untrusted bytes: it uses memory
- * proportional to len. Errors: UNKNOWN_FORMAT if the bytes do not begin as this version saves them, DAMAGED if their
- * checksum is wrong or the record in them does not lead to their text, NO_MEMORY; they leave *out. */
+ * options are as they were; nothing has changed yet, and no reports are kept. Safe for untrusted bytes: at no time does
+ * it hold more than 6 * len bytes that it asked for. Errors: UNKNOWN_FORMAT if the bytes do not begin as this version
+ * saves them, DAMAGED if their checksum is wrong or the record in them does not lead to their text, NO_MEMORY; they
+ * leave *out. */
 LODVARN_CHECK_ int lodvarn_load(lodvarn **out, const char *bytes, size_t len);
 
 /* Saves the session: lends it as bytes, which are valid until the next lodvarn_save or lodvarn_close of the session.
  * They are the same on every machine; docs/FORMAT.md describes them. Reports are not saved. A read. Errors: NO_ROOM if
- * the text of an entry or of the ring has 4 GiB or more, NO_MEMORY. */
+ * the text of an entry has 4 GiB or more, NO_MEMORY. */
 LODVARN_CHECK_ int lodvarn_save(lodvarn *s, lodvarn_view *bytes);
 
 /* Closes the session, frees its memory, and sets *s to NULL. Does nothing if s or *s is NULL. */
@@ -678,13 +684,31 @@ int lodvarn_movement_target(lodvarn *s, size_t from, lodvarn_movement movement, 
 int lodvarn_cluster_at(lodvarn *s, size_t offset, lodvarn_cluster *cluster);
 int lodvarn_cluster_before(lodvarn *s, size_t offset, lodvarn_cluster *cluster);
 
+/* Writes the grapheme clusters of the text from an offset on to a buffer, with their columns in the mode, until the
+ * buffer is full or the text ends. Sets *count to how many these are, and *next to where the next cluster begins, or to
+ * LODVARN_NO_OFFSET if none follows. It reads the text up to there. Errors: BAD_OFFSET. */
+int lodvarn_clusters_from(lodvarn *s, enum lodvarn_mode mode, size_t from, lodvarn_cluster *clusters, size_t cap,
+                          size_t *count, size_t *next);
+
+/* Writes the offsets where the rows of the text begin on a screen, as by lodvarn_rows, from a row that begins at the
+ * offset `from`, itself the first, until the buffer is full or the text ends. `from` is 0, the start of a line, or an
+ * offset that lodvarn_rows or this call wrote. Sets *count to how many it wrote, and *next to where the next row begins,
+ * or to LODVARN_NO_OFFSET if none follows. It reads the text up to there. Two rows begin at one offset if no cluster
+ * fits in the first, as after a prompt up to the right edge. So that *next leads on then, cap must be 2 or more. Errors:
+ * BAD_OFFSET. */
+int lodvarn_rows_from(lodvarn *s, const lodvarn_screen *screen, size_t from, size_t *starts, size_t cap, size_t *count,
+                      size_t *next);
+
 /* Set *offset to n rows above the cursor on a screen; below it: to the last offset of that row whose column is at most
  * *column. Pass LODVARN_OWN_COLUMN in *column for the cursor's column, which is written there, and pass that to the
  * next such call, so that the cursor comes back to its column after a shorter row. Each line is laid out by itself, as
- * by lodvarn_rows: the first after the prompt of the screen, the others after its continuation. They read only the
- * lines between. Return NOTHING if there are fewer rows. */
-int lodvarn_row_above(lodvarn *s, const lodvarn_screen *screen, size_t n, size_t *column, size_t *offset);
-int lodvarn_row_below(lodvarn *s, const lodvarn_screen *screen, size_t n, size_t *column, size_t *offset);
+ * by lodvarn_rows: the first after the prompt of the screen, the others after its continuation. In a long line pass in
+ * `from` the start of a row of the cursor's line at or above the cursor's row and the one it leads to, as written by
+ * lodvarn_rows_from: the line is laid out only from there. Otherwise pass LODVARN_LINE_START, which also stands for an
+ * offset in another line or after the cursor, and for one below the row that a motion leads to. They read the text only
+ * from there to that row. Return NOTHING if there are fewer rows. Errors: BAD_OFFSET. */
+int lodvarn_row_above(lodvarn *s, const lodvarn_screen *screen, size_t from, size_t n, size_t *column, size_t *offset);
+int lodvarn_row_below(lodvarn *s, const lodvarn_screen *screen, size_t from, size_t n, size_t *column, size_t *offset);
 
 /* Return whether lodvarn_undo with n = 1, or lodvarn_redo, would find a change. */
 bool lodvarn_can_undo(lodvarn *s);
@@ -738,7 +762,8 @@ int lodvarn_width(enum lodvarn_mode mode, const char *text, size_t len, size_t *
 int lodvarn_first_cluster(const char *text, size_t len, size_t *bytes);
 int lodvarn_last_cluster(const char *text, size_t len, size_t *bytes);
 
-/* Writes the grapheme clusters of a text to a buffer, with their columns in the mode. Errors: TOO_SMALL. */
+/* Writes the grapheme clusters of a text to a buffer, with their columns in the mode. For the text of a session, use
+ * lodvarn_clusters_from. Errors: TOO_SMALL. */
 int lodvarn_clusters(enum lodvarn_mode mode, const char *text, size_t len, lodvarn_cluster *clusters, size_t cap,
                      size_t *count);
 
@@ -757,8 +782,7 @@ int lodvarn_offset_at(const lodvarn_screen *screen, lodvarn_position cell, const
                       size_t *offset);
 
 /* Writes the offsets where the rows of a text begin on a screen, as lodvarn_cell lays it out, to a buffer. A row ends
- * where the next one begins. For a long text, lay out only the lines on the screen, by lodvarn_line_range and
- * lodvarn_slice, each with its prompt. Errors: TOO_SMALL. */
+ * where the next one begins. For the text of a session, use lodvarn_rows_from. Errors: TOO_SMALL. */
 int lodvarn_rows(const lodvarn_screen *screen, const char *text, size_t len, size_t *starts, size_t cap, size_t *count);
 
 /* Maps an offset in the text before a change to the text after it, for marks and selections. An offset inside the

@@ -189,16 +189,48 @@ static long long row_cell(session *it, int answer, size_t offset, size_t column,
     return answer;
 }
 
-static long long py_row_above(session *it, const lodvarn_screen *screen, size_t n, size_t column, size_t out[2]) {
+static long long py_row_above(session *it, const lodvarn_screen *screen, size_t from, size_t n, size_t column,
+                              size_t out[2]) {
     size_t offset = 0;
-    int answer = it->s ? lodvarn_row_above(it->s, screen, n, &column, &offset) : LODVARN_CLOSED;
+    int answer = it->s ? lodvarn_row_above(it->s, screen, from, n, &column, &offset) : LODVARN_CLOSED;
     return row_cell(it, answer, offset, column, out);
 }
 
-static long long py_row_below(session *it, const lodvarn_screen *screen, size_t n, size_t column, size_t out[2]) {
+static long long py_row_below(session *it, const lodvarn_screen *screen, size_t from, size_t n, size_t column,
+                              size_t out[2]) {
     size_t offset = 0;
-    int answer = it->s ? lodvarn_row_below(it->s, screen, n, &column, &offset) : LODVARN_CLOSED;
+    int answer = it->s ? lodvarn_row_below(it->s, screen, from, n, &column, &offset) : LODVARN_CLOSED;
     return row_cell(it, answer, offset, column, out);
+}
+
+/* Writes the indexes where rows begin, how many these are, and where the next one begins, or SIZE_MAX. */
+static long long py_rows(session *it, const lodvarn_screen *screen, size_t from, size_t *starts, size_t most,
+                         size_t out[2]) {
+    const char *at = text_of(it).at;
+    size_t index, last = from, i;
+    int answer = it->s ? lodvarn_rows_from(it->s, screen, from, starts, most, &out[0], &out[1]) : LODVARN_CLOSED;
+    if (answer <= 0) return answer;
+    index = chars_in(at, from);
+    for (i = 0; i < out[0]; last = starts[i], starts[i++] = index) index += chars_in(at + last, starts[i] - last);
+    if (out[1] != LODVARN_NO_OFFSET) out[1] = index + chars_in(at + last, out[1] - last);
+    return answer;
+}
+
+/* Writes clusters by their indexes, how many these are, and where the next one begins, or SIZE_MAX; and their text. */
+static long long py_clusters(session *it, enum lodvarn_mode mode, size_t from, lodvarn_cluster *found, size_t most,
+                             size_t out[2], char *text, size_t cap, size_t *len) {
+    lodvarn_view whole = text_of(it), part = {whole.at + from, 0};
+    size_t index, i;
+    int answer = it->s ? lodvarn_clusters_from(it->s, mode, from, found, most, &out[0], &out[1]) : LODVARN_CLOSED;
+    if (answer <= 0) return answer;
+    for (index = chars_in(whole.at, from), i = 0; i < out[0]; i++) {
+        size_t bytes = found[i].to - found[i].from;
+        found[i].from = index;
+        found[i].to = index += chars_in(part.at + part.len, bytes);
+        part.len += bytes;
+    }
+    if (out[1] != LODVARN_NO_OFFSET) out[1] = index;
+    return copied(answer, part, text, cap, len);
 }
 
 /* The removed text is gone. It had as many characters as the old text had more than what is left of it. */

@@ -123,7 +123,7 @@ _TOO_SMALL: int = lib.LODVARN_TOO_SMALL
 # What an error says if a call knows more than the sentence that the library has for it.
 _WHY: dict[object, str] = {
     lib.LODVARN_CLOSED: "the session is closed",
-    ("py_save", lib.LODVARN_NO_ROOM): "a text of the record or the ring has 4 GiB or more",
+    ("py_save", lib.LODVARN_NO_ROOM): "a text of the record has 4 GiB or more",
     ("py_insert_at", lib.LODVARN_BAD_OFFSET): "the cursor, whose offset in bytes stays, would be inside a character",
     ("py_type", lib.LODVARN_NOT_UTF8): "the bytes do not begin with a character in UTF-8",
     ("py_delete_by", _NO_SUCH_NUMBER): "delete_by() takes a movement by words, to a character or a text, or to the "
@@ -616,8 +616,8 @@ class Session:
         """Returns the session as bytes, for `load`, also by another process or machine.
 
         They have text and cursor, the record with open groups and undone changes, the ring and the options, but no
-        reports. The same session gives the same bytes. A read. Raises NoRoomError if a text of the record or the ring
-        has 4 GiB or more, NoMemoryError.
+        reports. The same session gives the same bytes. A read. Raises NoRoomError if a text of the record has 4 GiB
+        or more, NoMemoryError.
         """
         saved = ffi.gc(_new("lodvarn_view *"), lib.drop_bytes)
         _asked(lib.py_save, self._it, saved)
@@ -1118,21 +1118,57 @@ class Session:
         text = _copied(lib.py_cluster_before, self._it, self._offset(index), columns)
         return None if text is None else Cluster(text, index - len(text), index, columns[0])
 
-    def row_above(self, screen: Screen, column: Optional[int] = None, n: int = 1) -> Optional[RowCell]:
+    def clusters_from(self, start: int, most: int, mode: Mode = Mode.UNICODE) -> tuple[list[Cluster], Optional[int]]:
+        """Returns the clusters of the text from an index on, `most` at most, and where the next one begins, or None if
+        none follows. It reads the text up to there. Raises BadIndexError."""
+        cap = _number("most", most, _SIZE_MOST)
+        given = _of(Mode, mode).value, self._offset(start), _new("lodvarn_cluster[]", cap), cap
+        out = _new("size_t[2]")
+        text = _copied(lib.py_clusters, self._it, *given, out) or ""
+        found = [(getattr(it, "from"), it.to, it.columns) for it in given[2][0 : out[0]]]
+        first = found[0][0] if found else 0
+        return [Cluster(text[at - first : to - first], at, to, columns) for at, to, columns in found], _or_none(out[1])
+
+    def rows_from(self, screen: Screen, start: int, most: int) -> tuple[list[int], Optional[int]]:
+        """Returns the indexes where the rows of the text begin on a screen, from a row that begins at `start`, itself
+        the first, `most` at most; and where the next one begins, or None if none follows.
+
+        `start` is 0, the start of a line, or an index that such a call returned. It reads the text up to there. Two
+        rows begin at one index if no cluster fits in the first, as after a prompt up to the right edge; the next index
+        leads on then if `most` is 2 or more. Raises BadIndexError, and NoSuchNumberError if a number of the screen is
+        out of its range.
+        """
+        cap = _number("most", most, _SIZE_MOST)
+        starts, out = _new("size_t[]", cap), _new("size_t[2]")
+        _asked(lib.py_rows, self._it, _on(screen), self._offset(start), starts, cap, out)
+        return list(starts[0 : out[0]]), _or_none(out[1])
+
+    def row_above(
+        self, screen: Screen, column: Optional[int] = None, n: int = 1, start: Optional[int] = None
+    ) -> Optional[RowCell]:
         """Returns the last index of the row n rows above the cursor whose column is at most `column`, or the cursor's
         column for None; and that column. Pass it to the next such call, so that the cursor comes back to it after a
         shorter row. Returns None if there are fewer rows.
 
         Each line is laid out by itself, as by `rows`: the first after the prompt of the screen, the others after its
-        continuation. Raises NoSuchNumberError if a number of the screen is out of its range.
+        continuation. In a long line pass as `start` where a row of the cursor's line begins, at or above the cursor's
+        row and the one that it leads to, as `rows_from` returns it: the line is laid out only from there. None is
+        the start of the line; so is an index in another line or after the cursor, or below the row that it leads to.
+        Raises BadIndexError, and NoSuchNumberError if a number of the screen is out of its range.
         """
-        given = _on(screen), _number("n", n), _bound("column", column)
-        return _pair(RowCell, lib.py_row_above, self._it, *given)
+        return _pair(RowCell, lib.py_row_above, self._it, *self._rows_by(screen, column, n, start))
 
-    def row_below(self, screen: Screen, column: Optional[int] = None, n: int = 1) -> Optional[RowCell]:
-        """Returns the index n rows below the cursor, and the column, as `row_above` does."""
-        given = _on(screen), _number("n", n), _bound("column", column)
-        return _pair(RowCell, lib.py_row_below, self._it, *given)
+    def row_below(
+        self, screen: Screen, column: Optional[int] = None, n: int = 1, start: Optional[int] = None
+    ) -> Optional[RowCell]:
+        """Returns the index n rows below the cursor, and the column, as `row_above` does. Raises BadIndexError, and
+        NoSuchNumberError if a number of the screen is out of its range."""
+        return _pair(RowCell, lib.py_row_below, self._it, *self._rows_by(screen, column, n, start))
+
+    def _rows_by(self, screen: Screen, column: Optional[int], n: int, start: Optional[int]) -> tuple[Any, ...]:
+        """Returns what a motion by rows is given, as the library takes it."""
+        given = _on(screen), _SIZE_MOST if start is None else self._offset(start)
+        return *given, _number("n", n), _bound("column", column)
 
     @property
     def can_undo(self) -> bool:

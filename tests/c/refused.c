@@ -1,16 +1,16 @@
 /* Refuses each request of the library for memory in turn: the call says so, the session is sound, and undo leads back
- * to the text that it began with. A call whose comment names no NO_MEMORY makes none, once the table of the text's
- * lines is there. Nothing takes more than it needs, and a session that is closed gives back all. To be linked with
- * -Wl,--wrap=malloc,--wrap=realloc,--wrap=free. Its last line is 'N passed, M failed', where each request, each such
- * call and each check of what is taken counts one. */
+ * to the text that it began with. A call whose comment names no NO_MEMORY makes none but that for the table of the
+ * text's lines, if it goes by lines or rows. Nothing takes more than it needs, and a session that is closed gives back
+ * all. To be linked with -Wl,--wrap=malloc,--wrap=realloc,--wrap=free. Its last line is 'N passed, M failed', where
+ * each request, each such call and each check of what is taken counts one. */
 #include "see.h"
-#include <malloc.h>
 
 #define WORD_BACK lodvarn_words_back(LODVARN_EMACS, 1)
 /* The next of the calls that a function makes, one each time. Those of several steps may stop between two: an edit that
  * keeps what was undone first, or one of several changes, which makes them a group. */
 #define CALL(call) if (which-- == 0) return (call)
 #define KEEPS(call) if (which-- == 0) return several = 1, (call)
+#define LINES(call) if (which-- == 0) return by_lines = 1, (call)
 #define STEPS(call) if (which-- == 0) return several = 1, was_refused_before = was_refused, grouped(call)
 #define NONE ((lodvarn *)(uintptr_t)0x5a5a5a50)
 
@@ -20,9 +20,10 @@ static lodvarn *s;
 static size_t left = SIZE_MAX; /* requests before the one that is refused */
 static int was_refused, was_refused_before;
 static int several;         /* whether the last call has several steps */
+static int by_lines;        /* whether it goes by lines or rows */
 static size_t greatest;     /* the greatest request */
 static size_t requests;     /* how many there were */
-static size_t held, blocks; /* the bytes that are held, and in how many blocks */
+static size_t held, blocks; /* the bytes that were asked for and are held, and in how many blocks */
 static size_t peak;         /* the most bytes that were held, with what was asked for */
 
 void *__real_malloc(size_t size);
@@ -43,29 +44,37 @@ static int refuses(size_t size) {
     return 1;
 }
 
-static void *taken(void *at) {
-    if (at) held += malloc_usable_size(at), blocks++;
-    return at;
+/* A block has its size before it. */
+enum { HEAD = 16 };
+
+static void *taken(char *block, size_t size) {
+    if (!block) return NULL;
+    memcpy(block, &size, sizeof size);
+    held += size, blocks++;
+    return block + HEAD;
 }
 
-void *__wrap_malloc(size_t size) { return refuses(size) ? NULL : taken(__real_malloc(size)); }
+/* The block with its head, which is no longer held. */
+static char *given_back(void *at) {
+    size_t size;
+    if (!at) return NULL;
+    memcpy(&size, (char *)at - HEAD, sizeof size);
+    held -= size, blocks--;
+    return (char *)at - HEAD;
+}
+
+void *__wrap_malloc(size_t size) { return refuses(size) ? NULL : taken(__real_malloc(size + HEAD), size); }
 
 /* A compiler may make one call of malloc and memset. */
 void *__wrap_calloc(size_t count, size_t size) {
-    return refuses(count * size) ? NULL : taken(__real_calloc(count, size));
+    return refuses(count * size) ? NULL : taken(__real_calloc(1, count * size + HEAD), count * size);
 }
 
 void *__wrap_realloc(void *at, size_t size) {
-    size_t before = at ? malloc_usable_size(at) : 0;
-    void *now = refuses(size) ? NULL : __real_realloc(at, size);
-    if (now && at) held -= before, blocks--;
-    return taken(now);
+    return refuses(size) ? NULL : taken(__real_realloc(given_back(at), size + HEAD), size);
 }
 
-void __wrap_free(void *at) {
-    if (at) held -= malloc_usable_size(at), blocks--;
-    __real_free(at);
-}
+void __wrap_free(void *at) { __real_free(given_back(at)); }
 
 static const char start[] = "ab cd";
 
@@ -290,19 +299,20 @@ static int frugal_step(unsigned which) {
     CALL(lodvarn_set_pos(s, 1));
     CALL(lodvarn_move(s, lodvarn_words_forward(LODVARN_VI, LODVARN_AT_START, 1)));
     CALL(lodvarn_move(s, lodvarn_to_char(LODVARN_BACK_TO, 'a', 1)));
-    CALL(lodvarn_move(s, lodvarn_lines_up(1)));
+    LINES(lodvarn_move(s, lodvarn_lines_up(1)));
     CALL(lodvarn_move(s, lodvarn_to_match(LODVARN_BACKWARD, "\n", 1)));
     CALL(lodvarn_copy(s, lodvarn_whole_text(), out, sizeof out, &n));
     CALL(lodvarn_copy(s, lodvarn_to_match(LODVARN_BACKWARD, "d\n", 2), out, sizeof out, &n));
     CALL(lodvarn_text_copy(s, out, sizeof out, &n));
     CALL(lodvarn_find(s, 1, "d\n", 2, LODVARN_FORWARD, &covered));
     CALL(lodvarn_undo_boundary(s));
+    CALL(lodvarn_reopen_group(s));
     CALL(lodvarn_take_change(s, &splice));
     CALL(lodvarn_take_report(s, &report));
     CALL(lodvarn_unwatch(s));
     CALL(lodvarn_text(s, &view));
     CALL(lodvarn_slice(s, range(1, 2), &view));
-    CALL(-!(lodvarn_pos(s) && lodvarn_line_count(s) && lodvarn_record_entries(s)));
+    LINES(-!(lodvarn_pos(s) && lodvarn_line_count(s) && lodvarn_record_entries(s)));
     CALL(-!(lodvarn_can_undo(s) && !lodvarn_can_redo(s) && !lodvarn_group_level(s) && !lodvarn_last_was_yank(s)));
     CALL(-!(lodvarn_ring_count(s) && lodvarn_report_count(s)));
     CALL(-!(lodvarn_version() && lodvarn_answer_name(0) && lodvarn_error_text(0)));
@@ -310,13 +320,13 @@ static int frugal_step(unsigned which) {
     CALL(lodvarn_ring_clear(s));
     CALL(lodvarn_mark_saved(s));
     CALL(-(int)lodvarn_is_saved(s));
-    CALL(lodvarn_line_range(s, 1, &covered));
-    CALL(lodvarn_cursor_position(s, &position));
-    CALL(lodvarn_line_at(s, 1, &n));
+    LINES(lodvarn_line_range(s, 1, &covered));
+    LINES(lodvarn_cursor_position(s, &position));
+    LINES(lodvarn_line_at(s, 1, &n));
     CALL(lodvarn_cluster_at(s, 1, &cluster));
     CALL(lodvarn_cluster_before(s, 1, &cluster));
-    CALL(lodvarn_movement_range(s, 1, lodvarn_lines_up(1), &covered));
-    CALL(lodvarn_movement_target(s, 1, lodvarn_to_first_nonblank(), &n));
+    LINES(lodvarn_movement_range(s, 1, lodvarn_lines_up(1), &covered));
+    LINES(lodvarn_movement_target(s, 1, lodvarn_to_first_nonblank(), &n));
     CALL(lodvarn_get_options(s, &options));
     options.ring_size = SIZE_MAX;
     options.limit = LODVARN_NO_LIMIT;
@@ -333,18 +343,21 @@ static int frugal_step(unsigned which) {
     CALL(-(lodvarn_rows(&screen, text, LEN, NULL, 0, &n) != LODVARN_TOO_SMALL));
     CALL(lodvarn_clusters(LODVARN_UNICODE, text, LEN, clusters, 8, &n));
     CALL(lodvarn_map_offset(&(lodvarn_splice){0, 1, 2}, 1, LODVARN_AFTER, &n));
-    CALL(lodvarn_row_above(s, &screen, 1, &column, &n));
-    CALL(lodvarn_row_below(s, &screen, 1, &column, &n));
+    CALL(lodvarn_rows_from(s, &screen, 0, starts, 8, &n, &column));
+    CALL(lodvarn_clusters_from(s, LODVARN_UNICODE, 0, clusters, 8, &n, &column));
+    LINES(lodvarn_row_above(s, &screen, 0, 1, &column, &n));
+    LINES(lodvarn_row_below(s, &screen, LODVARN_LINE_START, 1, &column, &n));
     return NO_MORE;
 }
 
 /* What the call of that number returns while every request is refused. There is a change and a report, a ring
- * with one text, and the table by which the text's lines are looked up. */
-static int frugal_answer(unsigned which) {
+ * with one text, and, if that is wanted, the table by which the text's lines are looked up. */
+static int frugal_answer(unsigned which, int with_lines) {
     open_it(3);
-    must(lodvarn_ring_add(s, "kept", 4) > 0 && lodvarn_watch(s, 3, 40) > 0 && lodvarn_paste(s, "\nab", 3, 1) > 0);
-    must(lodvarn_line_count(s) == 2);
-    was_refused = 0;
+    must(lodvarn_ring_add(s, "kept", 4) > 0 && lodvarn_watch(s, 3, 40) > 0 && lodvarn_begin_group(s) > 0);
+    must(lodvarn_paste(s, "\nab", 3, 1) > 0 && lodvarn_end_group(s) > 0);
+    must(!with_lines || lodvarn_line_count(s) == 2);
+    was_refused = by_lines = 0;
     left = 0;
     int answer = frugal_step(which);
     left = SIZE_MAX;
@@ -354,8 +367,11 @@ static int frugal_answer(unsigned which) {
 
 static void frugal_calls_take_nothing(void) {
     int answer;
-    for (unsigned i = 0; (answer = frugal_answer(i)) != NO_MORE; i++)
+    for (unsigned i = 0; (answer = frugal_answer(i, 1)) != NO_MORE; i++) {
         if (!see("a call without a request", answer >= 0 && !was_refused)) printf("  call %u returns %d\n", i, answer);
+        answer = frugal_answer(i, 0);
+        if (!see("a call without lines", answer >= 0 && was_refused == by_lines)) printf("  call %u: %d\n", i, answer);
+    }
 }
 
 /* A great text, as a line of a script, and what it prints. */
@@ -389,6 +405,46 @@ static void little_is_taken(void) {
     see_taken("a great line of a script", answer == LODVARN_DONE && peak < GREAT * 9 / 2 && !held);
 }
 
+/* A load holds at most six times the bytes that it is given. The files are those of which it makes most: of many small
+ * parts. Each of these makes one in a session. */
+enum { PARTS = 4100 };
+
+static int adds_to_ring(size_t i) { return lodvarn_ring_add(s, &start[i % 2], 1); }
+static int adds_line(size_t i) { return lodvarn_insert_at(s, i, "\n", 1); }
+static int inserts(size_t i) { return lodvarn_insert_at(s, i % 2 * 2, "a", 1); }
+static int deletes(size_t i) { return lodvarn_delete_range(s, range(i % 2 * 2, i % 2 * 2 + 1)); }
+static int replaces(size_t i) { return lodvarn_replace(s, range(i % 2 * 2, i % 2 * 2 + 1), &start[i % 2], 1); }
+static int begins(size_t i) { return (void)i, lodvarn_begin_group(s); }
+static int groups(size_t i) { return begins(i) > 0 && inserts(i) > 0 ? lodvarn_end_group(s) : 0; }
+
+static void loads_little(const char *what, int (*part)(size_t), int is_undone) {
+    lodvarn_options options = LODVARN_OPTIONS;
+    lodvarn *opened;
+    options.ring_size = PARTS;
+    must(lodvarn_open(&s, &options, great, 2 * PARTS) > 0);
+    for (size_t i = 0; i < PARTS; i++) must(part(i) > 0);
+    if (is_undone) must(lodvarn_undo(s, PARTS) > 0);
+    must(lodvarn_save(s, &saved) > 0);
+    size_t before = peak = held;
+    int answer = lodvarn_load(&opened, saved.at, saved.len);
+    peak -= before;
+    see_taken(what, answer > 0 && peak <= 6 * saved.len);
+    lodvarn_close(&opened);
+    lodvarn_close(&s);
+}
+
+static void loads_take_little(void) {
+    loads_little("a load of a ring of small texts", adds_to_ring, 0);
+    loads_little("a load of short lines", adds_line, 0);
+    loads_little("a load of small insertions", inserts, 0);
+    loads_little("a load of small insertions that were undone", inserts, 1);
+    loads_little("a load of small deletions", deletes, 0);
+    loads_little("a load of small replacements", replaces, 0);
+    loads_little("a load of small replacements that were undone", replaces, 1);
+    loads_little("a load of marks", begins, 0);
+    loads_little("a load of small groups", groups, 0);
+}
+
 /* An empty session has two blocks, its own and that of what it holds. What is done with it takes more, and its end
  * gives back all. */
 #define GIVES_BACK(use)                                                                       \
@@ -414,6 +470,7 @@ int main(void) {
     size_t request = 0;
     frugal_calls_take_nothing();
     little_is_taken();
+    loads_take_little();
     all_is_given_back();
     refuse_each("a refused request of a session", step);
     refuse_each("a refused request of a restart", step_of_restart);

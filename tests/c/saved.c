@@ -6,7 +6,7 @@
 #include "see.h"
 #include "typed.h"
 
-enum { HEADING = 8, SUM = 16, ROOM = 1 << 16, PAGE = 4096, MOST = 400 };
+enum { HEADING = 8, SUM = 8, ROOM = 1 << 16, PAGE = 4096, MOST = 400 };
 static const char *const scripts[] = {
     "text one",
     "limit 40;ring 2;text one two three;kill bword 1 emacs;pos 0;kill fword 1 after emacs;yank 1;yankpop",
@@ -19,41 +19,36 @@ static struct file { unsigned char bytes[ROOM]; size_t len; } files[COUNT(script
 static char *end; /* of the memory */
 static size_t loaded;
 
-/* The numbers of MD5 (RFC 1321). */
-static const uint32_t sines[] = {
-    0xd76aa478, 0xe8c7b756, 0x242070db, 0xc1bdceee, 0xf57c0faf, 0x4787c62a, 0xa8304613, 0xfd469501, 0x698098d8,
-    0x8b44f7af, 0xffff5bb1, 0x895cd7be, 0x6b901122, 0xfd987193, 0xa679438e, 0x49b40821, 0xf61e2562, 0xc040b340,
-    0x265e5a51, 0xe9b6c7aa, 0xd62f105d, 0x02441453, 0xd8a1e681, 0xe7d3fbc8, 0x21e1cde6, 0xc33707d6, 0xf4d50d87,
-    0x455a14ed, 0xa9e3e905, 0xfcefa3f8, 0x676f02d9, 0x8d2a4c8a, 0xfffa3942, 0x8771f681, 0x6d9d6122, 0xfde5380c,
-    0xa4beea44, 0x4bdecfa9, 0xf6bb4b60, 0xbebfbc70, 0x289b7ec6, 0xeaa127fa, 0xd4ef3085, 0x04881d05, 0xd9d4d039,
-    0xe6db99e5, 0x1fa27cf8, 0xc4ac5665, 0xf4292244, 0x432aff97, 0xab9423a7, 0xfc93a039, 0x655b59c3, 0x8f0ccc92,
-    0xffeff47d, 0x85845dd1, 0x6fa87e4f, 0xfe2ce6e0, 0xa3014314, 0x4e0811a1, 0xf7537e82, 0xbd3af235, 0x2ad7d2bb,
-    0xeb86d391,
+/* XXH64 of the xxHash family, with the seed 0: a word after another, and a number of some bytes. */
+static const uint64_t primes[] = {
+    0x9e3779b185ebca87, 0xc2b2ae3d27d4eb4f, 0x165667b19e3779f9, 0x85ebca77c2b2ae63, 0x27d4eb2f165667c5
 };
-static const unsigned turns[] = {7, 12, 17, 22, 5, 9, 14, 20, 4, 11, 16, 23, 6, 10, 15, 21};
-static const unsigned steps[] = {1, 5, 3, 7}, starts[] = {0, 1, 5, 0};
 
-/* Ends the file by the MD5 of what stands before it. */
+static uint64_t turned(uint64_t word, int by) { return word << by | word >> (64 - by); }
+
+static uint64_t mixed(uint64_t lane, uint64_t word) { return turned(lane + word * primes[1], 31) * primes[0]; }
+
+static uint64_t number(const unsigned char *at, size_t len) {
+    uint64_t n = 0;
+    while (len--) n = n << 8 | at[len];
+    return n;
+}
+
+/* Ends the file by the checksum of what stands before it. */
 static void mend(void) {
-    static unsigned char padded[ROOM + 128];
-    size_t len = file.len - SUM, whole = (len + 72) / 64 * 64;
-    uint32_t sum[] = {0x67452301, 0xefcdab89, 0x98badcfe, 0x10325476}, words[16];
-    uint64_t bits = 8 * (uint64_t)len;
-    memset(padded, 0, whole), memcpy(padded, file.bytes, len), memcpy(padded + whole - 8, &bits, 8);
-    padded[len] = 0x80;
-    for (size_t at = 0; at < whole; at += 64) {
-        uint32_t a = sum[0], b = sum[1], c = sum[2], d = sum[3];
-        memcpy(words, padded + at, 64);
-        for (unsigned i = 0; i < 64; i++) {
-            unsigned round = i / 16, turn = turns[4 * round + i % 4];
-            uint32_t mixed = round == 0 ? (b & c) | (~b & d) : round == 1 ? (d & b) | (~d & c)
-                : round == 2 ? b ^ c ^ d : c ^ (b | ~d);
-            mixed += a + sines[i] + words[(steps[round] * i + starts[round]) % 16];
-            a = d, d = c, c = b, b += mixed << turn | mixed >> (32 - turn);
-        }
-        sum[0] += a, sum[1] += b, sum[2] += c, sum[3] += d;
-    }
-    memcpy(file.bytes + len, sum, SUM);
+    static const int turns[] = {1, 7, 12, 18};
+    uint64_t lanes[] = {primes[0] + primes[1], primes[1], 0, -primes[0]}, sum = 0;
+    unsigned char *at = file.bytes, *to = at + file.len - SUM;
+    for (; to - at >= 32; at += 32)
+        for (int i = 0; i < 4; i++) lanes[i] = mixed(lanes[i], number(at + 8 * i, 8));
+    for (int i = 0; i < 4; i++) sum += turned(lanes[i], turns[i]);
+    for (int i = 0; i < 4; i++) sum = (sum ^ mixed(0, lanes[i])) * primes[0] + primes[3];
+    sum = (to - file.bytes < 32 ? primes[4] : sum) + (uint64_t)(to - file.bytes);
+    for (; to - at >= 8; at += 8) sum = turned(sum ^ mixed(0, number(at, 8)), 27) * primes[0] + primes[3];
+    for (; to - at >= 4; at += 4) sum = turned(sum ^ number(at, 4) * primes[0], 23) * primes[1] + primes[2];
+    for (; at < to; at++) sum = turned(sum ^ *at * primes[4], 11) * primes[0];
+    sum = (sum ^ sum >> 33) * primes[1], sum = (sum ^ sum >> 29) * primes[2], sum ^= sum >> 32;
+    for (; at < to + SUM; sum >>= 8) *at++ = (unsigned char)sum;
 }
 
 /* Makes a file of a session. Returns whether it could. */

@@ -836,6 +836,50 @@ static void rows_are_found(void) {
     }
 }
 
+/* From each row, with room for some: the rows from there on, and where the next one begins. */
+static void see_rows_from(lodvarn *t, const lodvarn_screen *screen, const size_t *all, size_t rows) {
+    for (size_t k = 0; k < rows; k++)
+        for (size_t cap = 0; cap < 5 && (!k || all[k - 1] < all[k]); cap++) {
+            size_t starts[5] = {NO, NO, NO, NO, NO}, count = NO, next = 0, want = cap < rows - k ? cap : rows - k;
+            int same = lodvarn_rows_from(t, screen, all[k], starts, cap, &count, &next) == LODVARN_DONE && count == want
+                && next == (k + want < rows ? all[k + want] : LODVARN_NO_OFFSET) && starts[want] == NO;
+            for (size_t i = 0; i < want; i++) same = same && starts[i] == all[k + i];
+            if (!see("rows from a row on", same))
+                printf("  columns %zu, prompt %zu, continuation %zu, row %zu of %zu: %zu, %zu\n", screen->columns,
+                       screen->prompt, screen->continuation, k, rows, count, next);
+        }
+}
+
+/* On screens of all kinds, whose continuation leaves room for each cluster: the rows of a text are found from each of
+ * them on, and its clusters from each on. */
+static void rows_and_clusters_are_found_from_each(void) {
+    static const char *const texts[] = {
+        "", "abcdefghi", "ab\n\ncdefg\r\nh\n", "a\tb\1漢\n漢漢e\u0301\t\r" FAMILY "x\u200by",
+        "\U0001f1e9\U0001f1ea\U0001f1eb\U0001f1f7\U0001f1ee",
+    };
+    for (size_t i = 0; i < COUNT(texts); i++) {
+        lodvarn *t = NULL;
+        size_t all[80], rows = 0, len = strlen(texts[i]), cut = 0, next = 0, count;
+        lodvarn_cluster clusters[40], few[3];
+        must(lodvarn_open(&t, NULL, texts[i], len) > 0);
+        for (size_t k = 0; k < 4 * 7 * 7 * 7; k++) {
+            size_t columns = 2 + k / 4 % 7;
+            lodvarn_screen screen = ON(columns, k / 28 % 7, k / 196 % (columns - 1), k & 1 ? 4 : 0, k & 2, U);
+            must(lodvarn_rows(&screen, texts[i], len, all, COUNT(all), &rows) > 0);
+            see_rows_from(t, &screen, all, rows);
+        }
+        must(lodvarn_clusters(W, texts[i], len, clusters, COUNT(clusters), &cut) > 0);
+        for (size_t k = 0; k <= cut; k++) {
+            size_t want = cut - k < COUNT(few) ? cut - k : COUNT(few), from = k < cut ? clusters[k].from : len;
+            int same = lodvarn_clusters_from(t, W, from, few, COUNT(few), &count, &next) == LODVARN_DONE && count == want
+                && next == (k + want < cut ? clusters[k + want].from : LODVARN_NO_OFFSET)
+                && !memcmp(few, clusters + k, want * sizeof *few);
+            if (!see("clusters from one on", same)) printf("  %zu of %zu: %zu, %zu\n", k, cut, count, next);
+        }
+        lodvarn_close(&t);
+    }
+}
+
 /* Motions by rows, one after another from an offset: up or down by so many, the offset, and the column that is kept. */
 static const struct moved {
     const char *what, *text;
@@ -856,15 +900,23 @@ static const struct moved {
      {{0, 1, 4, 1}, {0, 1, 1, 1}}},
 };
 
+/* A step from each row of the text, as the line's start does it if the row stands in another line or below. */
 static void see_moved(const struct moved *row, lodvarn *t) {
-    size_t column = LODVARN_OWN_COLUMN;
+    size_t column = LODVARN_OWN_COLUMN, starts[16], rows = 0, next;
+    must(lodvarn_rows_from(t, &row->screen, 0, starts, COUNT(starts) - 1, &rows, &next) > 0 && next == LODVARN_NO_OFFSET);
+    starts[rows] = LODVARN_LINE_START;
     for (size_t k = 0; k < COUNT(row->steps) && row->steps[k].n; k++) {
-        int (*call)(lodvarn *, const lodvarn_screen *, size_t, size_t *, size_t *) =
+        int (*call)(lodvarn *, const lodvarn_screen *, size_t, size_t, size_t *, size_t *) =
             row->steps[k].down ? lodvarn_row_below : lodvarn_row_above;
-        size_t offset = NO;
-        int answer = call(t, &row->screen, row->steps[k].n, &column, &offset);
-        int same = offset == row->steps[k].offset && column == row->steps[k].column && answer == (offset != NO);
-        if (!see(row->what, same)) printf("  step %zu: got %d, %zu, %zu\n", k, answer, offset, column);
+        size_t offset = NO, kept = column;
+        int answer = 0;
+        for (size_t i = 0; i <= rows; i++) {
+            offset = NO, column = kept;
+            answer = call(t, &row->screen, starts[i], row->steps[k].n, &column, &offset);
+            int same = offset == row->steps[k].offset && (column == row->steps[k].column || offset == NO)
+                && answer == (offset != NO);
+            if (!see(row->what, same)) printf("  step %zu, %zu: %d, %zu, %zu\n", k, starts[i], answer, offset, column);
+        }
         if (answer > 0) lodvarn_set_pos(t, offset);
     }
 }
@@ -1107,8 +1159,9 @@ static void refuse_screen(int wanted, lodvarn_screen bad) {
     RETURNS(wanted, lodvarn_cell(&bad, 0, "a", 1, &out.position));
     RETURNS(wanted, lodvarn_offset_at(&bad, corner, "a", 1, &out.number));
     RETURNS(wanted, lodvarn_rows(&bad, "a", 1, &out.number, 1, &out.number));
-    RETURNS(wanted, lodvarn_row_above(s, &bad, 1, &column, &out.number));
-    RETURNS(wanted, lodvarn_row_below(s, &bad, 1, &column, &out.number));
+    RETURNS(wanted, lodvarn_row_above(s, &bad, 0, 1, &column, &out.number));
+    RETURNS(wanted, lodvarn_row_below(s, &bad, 0, 1, &column, &out.number));
+    RETURNS(wanted, lodvarn_rows_from(s, &bad, 0, &out.number, 1, &out.number, &column));
     SEE(column == LODVARN_OWN_COLUMN);
 }
 
@@ -1124,6 +1177,8 @@ static void numbers_outside_of_their_enums(void) {
         LEAVES(NO_SUCH_NUMBER, lodvarn_set_options(s, other_options(sizeof options, number)));
         LEAVES(NO_SUCH_NUMBER, lodvarn_width((enum lodvarn_mode)number, "a", 1, &out.number));
         LEAVES(NO_SUCH_NUMBER, lodvarn_clusters((enum lodvarn_mode)number, "a", 1, &out.cluster, 1, &out.number));
+        LEAVES(NO_SUCH_NUMBER,
+               lodvarn_clusters_from(s, (enum lodvarn_mode)number, 0, &out.cluster, 1, &out.number, &out.range.from));
         refuse_screen(LODVARN_NO_SUCH_NUMBER, screen_in(number));
     }
     EACH_OUTSIDE(LODVARN_FORWARD, LODVARN_BACKWARD) {
@@ -1161,7 +1216,7 @@ static void numbers_that_are_too_great(void) {
                                           ON(80, 0, 0, n, 0, U), ON(80, 0, 0, 0, n, U)};
         for (size_t k = 0; k < COUNT(screens); k++) refuse_screen(LODVARN_NO_SUCH_NUMBER, screens[k]);
         LEAVES(NO_SUCH_NUMBER, SET(prompt, n));
-        LEAVES(NO_SUCH_NUMBER, lodvarn_row_below(s, &screen, n, &out.number, &out.number));
+        LEAVES(NO_SUCH_NUMBER, lodvarn_row_below(s, &screen, 0, n, &out.number, &out.number));
         LEAVES(NO_SUCH_NUMBER, lodvarn_indent(s, lodvarn_whole_text(), amounts[i], LODVARN_INDENT));
         LEAVES(NO_SUCH_NUMBER, lodvarn_indent(s, lodvarn_whole_text(), amounts[i], LODVARN_DEDENT));
     }
@@ -1292,6 +1347,12 @@ static void offsets_that_are_none(void) {
         PARTS(BAD_OFFSET, lodvarn_insert_at(s, bad, "x", 1));
         LEAVES(BAD_OFFSET, lodvarn_cluster_at(s, bad, &out.cluster));
         LEAVES(BAD_OFFSET, lodvarn_cluster_before(s, bad, &out.cluster));
+        LEAVES(BAD_OFFSET, lodvarn_clusters_from(s, U, bad, &out.cluster, 1, &out.number, &out.range.from));
+        LEAVES(BAD_OFFSET, lodvarn_rows_from(s, &screen, bad, &out.number, 1, &out.number, &out.range.from));
+        if (bad != LODVARN_LINE_START) {
+            LEAVES(BAD_OFFSET, lodvarn_row_above(s, &screen, bad, 1, &out.number, &out.number));
+            LEAVES(BAD_OFFSET, lodvarn_row_below(s, &screen, bad, 1, &out.number, &out.number));
+        }
         LEAVES(BAD_OFFSET, lodvarn_line_at(s, bad, &out.number));
         LEAVES(BAD_OFFSET, lodvarn_movement_range(s, bad, lodvarn_whole_text(), &out.range));
         LEAVES(BAD_OFFSET, lodvarn_movement_target(s, bad, lodvarn_to_text_start(), &out.number));
@@ -1326,13 +1387,14 @@ static int read_all(void) {
     lodvarn_cluster cluster;
     lodvarn_options now = chosen();
     size_t offset, column = LODVARN_OWN_COLUMN;
-    lodvarn_row_above(s, &screen, 1, &column, &offset);
+    lodvarn_row_above(s, &screen, LODVARN_LINE_START, 1, &column, &offset);
     return lodvarn_text(s, &view) > 0 && lodvarn_slice(s, range(0, 1), &view) > 0 && lodvarn_pos(s)
         && lodvarn_text_copy(s, copied, sizeof copied, &offset) > 0 && lodvarn_find(s, 6, " ", 1, B, &covered) > 0
         && lodvarn_line_count(s) && lodvarn_line_at(s, 1, &offset) > 0 && lodvarn_cursor_position(s, &position) > 0
         && lodvarn_line_range(s, 0, &covered) > 0 && lodvarn_movement_range(s, 1, lodvarn_whole_line(), &covered) > 0
         && lodvarn_movement_target(s, 1, lodvarn_chars_back(1), &offset) > 0 && lodvarn_cluster_at(s, 0, &cluster) > 0
-        && lodvarn_cluster_before(s, 1, &cluster) > 0
+        && lodvarn_cluster_before(s, 1, &cluster) > 0 && lodvarn_clusters_from(s, U, 0, &cluster, 1, &offset, &column) > 0
+        && lodvarn_rows_from(s, &screen, 0, &offset, 1, &column, &covered.from) > 0
         && lodvarn_record_entries(s) + lodvarn_group_level(s) && lodvarn_can_undo(s) && !lodvarn_can_redo(s)
         && lodvarn_ring_text(s, 0, &view) > 0 && lodvarn_ring_count(s) && lodvarn_report_count(s) && now.limit
         && lodvarn_save(s, &view) > 0 && lodvarn_last_was_yank(s) + 1;
@@ -1500,10 +1562,10 @@ static void take_sizes(const struct sized *row) {
     size_t starts[2] = {NO, NO}, count = NO, at = NO, column = LODVARN_OWN_COLUMN;
     open_at("\ta\n|b", 64);
     see(row->what, lodvarn_set_options(s, grown_options(row)) == LODVARN_DONE && has_chosen(&plain));
-    see(row->what, lodvarn_row_above(s, grown_screen(row), 1, &column, &at) == LODVARN_DONE && at == 0 && column == 3);
+    see(row->what, lodvarn_row_above(s, grown_screen(row), 0, 1, &column, &at) == LODVARN_DONE && at == 0 && column == 3);
     at = NO, column = LODVARN_OWN_COLUMN;
     must(lodvarn_set_pos(s, 1) > 0);
-    see(row->what, lodvarn_row_below(s, grown_screen(row), 1, &column, &at) == LODVARN_DONE && at == 4 && column == 4);
+    see(row->what, lodvarn_row_below(s, grown_screen(row), 0, 1, &column, &at) == LODVARN_DONE && at == 4 && column == 4);
     lodvarn_close(&s);
     see(row->what, lodvarn_open(&s, grown_options(row), "ab", 2) == LODVARN_DONE && has_chosen(&plain));
     see(row->what, lodvarn_cell(grown_screen(row), 4, "\ta\nb", 4, &cell) == LODVARN_DONE && cell.line == 1
@@ -1520,8 +1582,9 @@ static void refuse_sizes(const struct sized *row) {
     LEAVES(BAD_SIZE, lodvarn_cell(&grown.screen, 0, "a", 1, &out.position));
     LEAVES(BAD_SIZE, lodvarn_offset_at(&grown.screen, corner, "a", 1, &out.number));
     LEAVES(BAD_SIZE, lodvarn_rows(&grown.screen, "a", 1, &out.number, 1, &out.number));
-    LEAVES(BAD_SIZE, lodvarn_row_above(s, &grown.screen, 1, &out.number, &out.number));
-    LEAVES(BAD_SIZE, lodvarn_row_below(s, &grown.screen, 1, &out.number, &out.number));
+    LEAVES(BAD_SIZE, lodvarn_rows_from(s, &grown.screen, 0, &out.number, 1, &out.number, &out.range.from));
+    LEAVES(BAD_SIZE, lodvarn_row_above(s, &grown.screen, 0, 1, &out.number, &out.number));
+    LEAVES(BAD_SIZE, lodvarn_row_below(s, &grown.screen, 0, 1, &out.number, &out.number));
 }
 
 /* Whether the bytes after the structure are 0 up to its size, and those after that as they were. */
@@ -2246,6 +2309,7 @@ int main(void) {
     clusters_are_found();
     cells_and_offsets_are_found();
     rows_are_found();
+    rows_and_clusters_are_found_from_each();
     motions_by_rows_keep_the_column();
     movements_mean_what_they_say();
     movements_are_exported();

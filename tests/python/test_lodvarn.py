@@ -2,7 +2,6 @@
 
 import copy
 import gc
-import hashlib
 import inspect
 import pickle
 import random
@@ -29,7 +28,7 @@ from lodvarn import (  # noqa: E402
     Case, Cell, Cluster, Direction, Mode, Movement, Range, Report, ReportKind, RowCell, Screen, Search, Session, Side,
     Splice, Stop, Word, lib,
 )
-from read_saved import read  # noqa: E402
+from read_saved import read, xxh64  # noqa: E402
 from rows import TESTS, has_calls, rows_of  # noqa: E402
 from typed import MOVEMENTS, NAMES, WORDS, Typed, do  # noqa: E402
 
@@ -156,6 +155,9 @@ class Indexes(Scripts):
             session.pos = 0
             self.assertEqual(session.row_below(screen, 1), (3, 1))
             self.assertIsNone(session.row_below(screen, n=9))
+            session.pos = 2
+            for start in (None, 0, 2, 4):
+                self.assertEqual(session.row_above(screen, start=start), (0, 0))
 
     def test_a_text_is_cut_into_clusters(self):
         self.assertEqual(
@@ -168,6 +170,19 @@ class Indexes(Scripts):
         shorter = type("Shorter", (str,), {"__len__": lambda it: 0})
         for text in ("ab" * 999, shorter("ab" * 999)):
             self.assertEqual([it[:2] for it in lodvarn.clusters(text)][-2:], [("a", 1996), ("b", 1997)])
+
+    def test_rows_and_clusters_begin_at_an_index(self):
+        with Session("é漢字x\n漢e\u0301" + "a" * 99) as session:
+            screen = Screen(4, continuation=1)
+            self.assertEqual(session.rows_from(screen, 0, 3), ([0, 2, 5], 8))
+            self.assertEqual(session.rows_from(screen, 2, 2), ([2, 5], 8))
+            self.assertEqual(session.rows_from(screen, 104, 9), ([104], None))
+            self.assertEqual(session.rows_from(screen, 0, 0), ([], 0))
+            wide, mark = Cluster("漢", 5, 6, 2), Cluster("e\u0301", 6, 8, 1)
+            self.assertEqual(session.clusters_from(4, 3), ([Cluster("\n", 4, 5, 1), wide, mark], 8))
+            self.assertEqual(session.clusters_from(5, 2, Mode.NO_ZWJ), ([wide, mark], 8))
+            self.assertEqual(session.clusters_from(8, 100), ([Cluster("a", i, i + 1, 1) for i in range(8, 107)], None))
+            self.assertEqual(session.clusters_from(107, 1), ([], None))
 
     def test_rows_begin_at_indexes(self):
         for screen, text, wanted in [
@@ -589,8 +604,8 @@ class Saved(Scripts):
 
     def test_other_bytes_raise(self):
         saved = edited().save()
-        other = saved[:-16].replace("日本é".encode(), "本日é".encode(), 1)  # The record does not lead to that text.
-        self.assertRaises(lodvarn.DamagedError, Session.load, other + hashlib.md5(other).digest())
+        other = saved[:-8].replace("日本é".encode(), "本日é".encode(), 1)  # The record does not lead to that text.
+        self.assertRaises(lodvarn.DamagedError, Session.load, other + xxh64(other))
         for at in range(len(saved)):
             flipped = saved[:at] + bytes([saved[at] ^ 32]) + saved[at + 1 :]
             for damaged in (saved[:at], flipped):
@@ -736,7 +751,9 @@ class Faults(Scripts):
             ("^index -1 is outside", session.cluster_at, -1), ("^index 3 is", session.cluster_before, 3),
             ("^index 3 is", session.line_at, 3), (f"^index {2**64} is", session.slice, 0, 2**64),
             ("^index 3 is", session.movement_range, LINE, 3), ("^index 3 is", session.movement_target, START, 3),
-            ("^index 3 is", session.find, "a", 3), ("^index 2 is .* 1$", session.set_text, 2, "é"),
+            ("^index 3 is", session.rows_from, Screen(9), 3, 1), ("^index 3 is", session.clusters_from, 3, 1),
+            ("^index 3 is", session.row_above, Screen(9), None, 1, 3), ("^index 3 is", session.find, "a", 3),
+            ("^index 2 is .* 1$", session.set_text, 2, "é"),
             ("^index 2 is .* 1$", lodvarn.cell, Screen(9), 2, "é"),
             ("^the range ends at 1, before its start 2$", session.replace, 2, 1, "x"),
             ("^the cursor.* would be inside a character$", opened("aé", 1, limit_bytes=9).insert_at, 0, "é"),

@@ -8,3 +8,4 @@ pub mod BlankLemmas
 pub mod OccurrenceLemmas
 pub mod LineLemmas
 pub mod SavingLemmas
+pub mod ChecksumLemmas

@@ -21,3 +21,4 @@ pub mod Watch
 pub mod Sameness
 pub mod Saving
 pub mod SavedRing
+pub mod Checksum

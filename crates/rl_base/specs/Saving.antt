@@ -25,14 +25,11 @@ numbers width ns = flat_map (number width) ns
 
 -- a text with its length before it, and texts so, one after another
 unfoldable pub sized : List ℕ → List ℕ
-sized text = number Four (length text) ++ text
-
-abbrev pub FitsLength : List ℕ → Type 0
-FitsLength text = Fits Four (length text)
+sized text = number Eight (length text) ++ text
 
 -- a text that can be read again
 pub record IsSized (text : List ℕ) : Type 0 where
-  pub fits : FitsLength text
+  pub fits : Fits Eight (length text)
   pub utf8 : IsUtf8 text
 
 unfoldable pub sized_all : List (List ℕ) → List ℕ

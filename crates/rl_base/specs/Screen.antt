@@ -1,9 +1,10 @@
 -- How the rows of a screen show a text: the row and the column of a place, both from 0, and the places where rows begin.
-use Rattle.std.specs.Prelude.{Bool, ◌&&◌, ◌||◌, ◌==◌, ℕ, ◌+◌, ◌-◌, ◌%◌, ◌≤◌, ◌<◌, min, max, nat_le, nat_lt, List, [], ◌∷◌, ◌++◌, length, take, drop, replicate, Some, slice_get, ◌≡◌, if◌then◌else◌}
+use Rattle.std.specs.Prelude.{Bool, false, not, ◌&&◌, ◌||◌, ◌==◌, ℕ, zero, suc, ◌+◌, ◌-◌, ◌%◌, ◌≤◌, ◌<◌, min, max, nat_le, nat_lt, get_or, List, [], ◌∷◌, ◌++◌, length, take, drop, replicate, Some, slice_get, ◌≡◌, if◌then◌else◌}
 use Rattle.std.specs.Char.{is_control}
 use Rattle.std.specs.List.{list_any}
 use Rattle.std.specs.Str.{bytes_eq, chars}
 use Rattle.rl_base.specs.Clusters.{clusters}
+use Rattle.rl_base.specs.Lines.{is_newline}
 use Rattle.rl_base.specs.Widths.{width}
 use Rattle.rl_base.specs.declared.screen.Screen.{Screen}
 
@@ -44,6 +45,11 @@ filled values out = take (length out) (values ++ drop (length values) out)
 -- the same after the first of what was there, as many as a number says
 abbrev pub filled_after : {A : Type 0} → ℕ → List A → List A → List A
 filled_after n values out = take n out ++ filled values (drop n out)
+
+-- no line begins at a place
+abbrev pub is_in_line : List ℕ → ℕ → Bool
+is_in_line text zero = false
+is_in_line text (suc p) = not (is_newline (get_or text p 0))
 
 module _ (screen : Screen) where
   -- the columns of a cluster: of a control character those that the screen says, if it says some
@@ -105,6 +111,18 @@ module _ (screen : Screen) where
   -- the places of a text where its rows begin, from row 0 on
   abbrev pub rows : List ℕ → List ℕ
   rows text = begins 0 (cells_of text)
+
+  -- the column from which a text is laid out from a place on where a row begins: a line begins after its prompt, and what stands
+  -- within a line comes after a full row, which is row 0
+  abbrev pub first_column : List ℕ → ℕ → ℕ
+  first_column text place = if is_in_line text place then screen.columns else if place == 0 then screen.prompt else screen.continuation
+
+  abbrev pub screen_from : List ℕ → ℕ → Screen
+  screen_from text place = record screen { prompt = first_column text place }
+
+  -- the places where rows begin from there on
+  abbrev pub rows_from : List ℕ → ℕ → List ℕ
+  rows_from text place = begins (if is_in_line text place then 1 else 0) (cells place (0, first_column text place) (clusters (drop place text)))
 
   -- a place stands in a row that begins at it or before it, and the next row, if there is one, begins after it
   pub record InRow (text : List ℕ) (place row : ℕ) : Type 0 where

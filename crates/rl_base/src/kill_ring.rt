@@ -12,8 +12,10 @@ ghost use Rattle.rl_base.specs.declared.kill_ring.NewKill.TheVariants.{AfterCurr
 ghost use Rattle.rl_base.specs.KillGroups.{Doing, Kills, ring_done, group_done, no_groups, groups_of, AllKills, NoPops, all_joined};
 
 mod saved;
+mod slots;
 
 use crate::gathered::Gathered;
+use crate::kill_ring::slots::{Slots, index_back};
 use crate::listeners::{DeleteListener, Direction, Refusal};
 use std::alloc::Global;
 use std::marker::Model;
@@ -53,7 +55,7 @@ enum Action {
 pub struct KillRing {
     size: usize,
     rule: NewKill,
-    slots: Vec<Gathered>,
+    slots: Slots,
     // Where the current text stands.
     index: usize,
     // Where the text stands that was begun last.
@@ -68,9 +70,9 @@ impl Model for KillRing {
 
     ghost Value = { Ring };
 
-    ghost view = { λ r. record { size = r.size; rule = r.rule; slots = texts r.slots.items; index = r.index; newest = r.newest; last = r.last; killing = r.killing } };
+    ghost view = { λ r. record { size = r.size; rule = r.rule; slots = texts r.slots.list.items; index = r.index; newest = r.newest; last = r.last; killing = r.killing } };
 
-    ghost invariant = { λ r. IsRing (record { size = r.size; rule = r.rule; slots = texts r.slots.items; index = r.index; newest = r.newest; last = r.last; killing = r.killing }) };
+    ghost invariant = { λ r. IsRing (record { size = r.size; rule = r.rule; slots = texts r.slots.list.items; index = r.index; newest = r.newest; last = r.last; killing = r.killing }) };
 }
 
 impl KillRing {
@@ -81,7 +83,7 @@ impl KillRing {
         KillRing {
             size,
             rule: NewKill::AfterCurrent,
-            slots: Vec::new(alloc),
+            slots: Slots::new(alloc),
             index: 0,
             newest: 0,
             last: Action::Other,
@@ -124,11 +126,11 @@ impl KillRing {
             return Ok(());
         }
         if let Action::Kill = self.last {
-            join(&mut self.slots, self.index, text, dir)?;
+            self.slots.join_text(self.index, text, dir)?;
             return Ok(());
         }
         let index = self.new_index();
-        put(&mut self.slots, index, text)?;
+        self.slots.put(index, text)?;
         self.index = index;
         self.newest = index;
         self.last = Action::Kill;
@@ -140,8 +142,8 @@ impl KillRing {
         ensures { result ≡ new_index self.now }
     {
         match self.rule {
-            NewKill::AfterCurrent => next_index(self.size, self.index, &self.slots),
-            NewKill::AfterNewest => next_index(self.size, self.newest, &self.slots),
+            NewKill::AfterCurrent => next_index(self.size, self.index, self.slots.all()),
+            NewKill::AfterNewest => next_index(self.size, self.newest, self.slots.all()),
         }
     }
 
@@ -163,24 +165,24 @@ impl KillRing {
         self.reset();
     }
 
-    /// Drops its oldest texts as long as all together have more than `bytes` bytes; `usize::MAX` is no bound, and costs a
-    /// comparison. The current text stays the current one. If it went, the newest is current, nothing was done last, and the
+    /// Drops its oldest texts as long as all together have more than `bytes` bytes; `usize::MAX` is no bound. It costs a
+    /// comparison if all fit. The current text stays the current one. If it went, the newest is current, nothing was done last, and the
     /// next kill begins a new text. It takes no memory.
     #[inline(always)]
     pub fn forget(&mut self, bytes: usize)
         ensures { self.new ≡ within_bytes bytes self.old }
     {
-        if bytes < usize::MAX {
+        if self.slots.bytes() > bytes {
             self.forget_oldest(bytes);
         }
     }
 
-    // Drops the oldest texts, if some do not fit.
+    // Drops the oldest texts, of which some do not fit.
     #[inline(never)]
     fn forget_oldest(&mut self, bytes: usize)
         ensures { self.new ≡ cut_to bytes self.old }
     {
-        let kept = fitting_len(bytes, self.newest, &self.slots);
+        let kept = self.slots.fitting_len(bytes, self.newest);
         if kept == self.slots.len() {
             return;
         }
@@ -193,7 +195,7 @@ impl KillRing {
         ensures { self.new ≡ with_newest kept self.old }
     {
         let back = behind(self.newest, self.index, self.slots.len());
-        keep_newest(&mut self.slots, self.newest, kept);
+        self.slots.keep_newest(self.newest, kept);
         let left = self.slots.len();
         self.newest = left.saturating_sub(1);
         if back < left {
@@ -210,10 +212,10 @@ impl KillRing {
         ensures* moved { sem 𝓛 (EndsAs self.entry (yanked self.old)) }
         ensures value { MatchOption result (yank self.old ≡ None) (λ s. yank self.old ≡ Some (string_bytes s.now)) }
     {
-        if let Some(size) = pack_at(&mut self.slots, self.index) {
+        if let Some(size) = self.slots.pack_at(self.index) {
             self.last = Action::Yank(size);
         }
-        text_at(&self.slots, self.index)
+        self.slots.text_at(self.index)
     }
 
     /// Right after a `yank` or another `yank_pop`, goes to the text before the current one, or from the first
@@ -226,7 +228,7 @@ impl KillRing {
         let Action::Yank(size) = self.last else {
             return None;
         };
-        self.index = index_before(self.index, &self.slots);
+        self.index = index_before(self.index, self.slots.all());
         let slot = self.yank()?;
         Some((size, slot))
     }
@@ -257,8 +259,8 @@ impl KillRing {
     pub fn text_back(&self, back: usize) -> Option<&str>
         ensures { MatchOption result (text_back back self.now ≡ None) (λ s. text_back back self.now ≡ Some s.now) }
     {
-        let at = index_back(self.index, back, &self.slots)?;
-        match self.slots.get(at) {
+        let at = index_back(self.index, back, self.slots.all())?;
+        match self.slots.all().get(at) {
             Some(slot) => Some(slot.as_str()),
             None => None,
         }
@@ -326,21 +328,6 @@ fn index_before(index: usize, slots: &[Gathered]) -> usize
     index - 1
 }
 
-// The index of the slot that is so many slots before, round the ring, if there are as many.
-fn index_back(index: usize, back: usize, slots: &[Gathered]) -> Option<usize>
-    requires { index < max 1 (length slots.now) }
-    ensures { MatchOption result (slice_get (back_from index (texts slots.now)) back ≡ None)
-        (λ i. slice_get (back_from index (texts slots.now)) back ≡ slice_get (texts slots.now) i) }
-{
-    if back >= slots.len() {
-        return None;
-    }
-    if back <= index {
-        return Some(index - back);
-    }
-    Some(index + (slots.len() - back))
-}
-
 // How many slots the one at an index stands before the newest, round the ring.
 fn behind(newest: usize, index: usize, slots: usize) -> usize
     requires { index ≤ slots }
@@ -350,108 +337,6 @@ fn behind(newest: usize, index: usize, slots: usize) -> usize
         return newest - index;
     }
     newest + (slots - index)
-}
-
-// The length of the text that stands so many before the one at an index, round the ring, if there are as many.
-fn len_back(index: usize, back: usize, slots: &[Gathered]) -> Option<usize>
-    requires { index < max 1 (length slots.now) }
-    ensures { result ≡ option_map length (slice_get (back_from index (texts slots.now)) back) }
-{
-    let at = index_back(index, back, slots)?;
-    match slots.get(at) {
-        Some(slot) => Some(slot.len()),
-        None => None,
-    }
-}
-
-// How many of the texts fit, from the newest back.
-fn fitting_len(bytes: usize, newest: usize, slots: &[Gathered]) -> usize
-    requires { newest < max 1 (length slots.now) }
-    ensures { result ≡ length (fitting bytes (back_from newest (texts slots.now))) }
-{
-    let mut left = bytes;
-    let mut kept = 0;
-    while let Some(size) = len_back(newest, kept, slots) {
-        if size > left {
-            return kept;
-        }
-        left -= size;
-        kept += 1;
-    }
-    kept
-}
-
-// Keeps so many slots from the newest back, or all, the newest last.
-#[tactic(auto, using(crate::proofs::Ring::BoundLemmas::kept_newest))]
-fn keep_newest(slots: &mut Vec<Gathered>, newest: usize, kept: usize)
-    requires { newest < max 1 (length slots.old.items) }
-    ensures { texts slots.new.items ≡ reverse (take kept (back_from newest (texts slots.old.items))) }
-{
-    let all = slots.len();
-    slots.rotate_left((newest + 1).min(all));
-    slots.drain(..all.saturating_sub(kept));
-}
-
-// Puts a text over the slot at an index, or after all slots.
-#[tactic(auto, using(crate::proofs::Ring::RingLemmas::written))]
-fn put(slots: &mut Vec<Gathered>, index: usize, text: &str) -> Result<(), Refusal>
-    requires { index ≤ length slots.old.items }
-    ensures ok { OnOk result (texts slots.new.items ≡ put_at index text.now (texts slots.old.items)) }
-    ensures err { IfErr result (λ r. (r ≡ NoMemory) × (texts slots.new.items ≡ texts slots.old.items) × PutTakesMemory index text.now slots.old.items) }
-{
-    let slot = Gathered::of(*slots.allocator(), text)?;
-    if index < slots.len() {
-        slots[index] = slot;
-        return Ok(());
-    }
-    slots.push(slot)?;
-    Ok(())
-}
-
-// Joins a text to the slot at an index.
-#[tactic(auto, using(crate::proofs::Ring::RingLemmas::written))]
-fn join(slots: &mut Vec<Gathered>, index: usize, text: &str, mode: Mode) -> Result<(), Refusal>
-    ensures ok { OnOk result (texts slots.new.items ≡ join_at index mode text.now (texts slots.old.items)) }
-    ensures err { IfErr result (λ r. (r ≡ NoMemory) × (texts slots.new.items ≡ texts slots.old.items) × (0 < length text.now)) }
-{
-    if let Some(slot) = slots.get_mut(index) {
-        return join_to(slot, text, mode);
-    }
-    Ok(())
-}
-
-// Joins a text to a slot.
-fn join_to(slot: &mut Gathered, text: &str, mode: Mode) -> Result<(), Refusal>
-    ensures ok { OnOk result (slot.new.text ≡ joined mode slot.old.text text.now) }
-    ensures err { IfErr result (λ r. (r ≡ NoMemory) × (slot.new.text ≡ slot.old.text) × (0 < length text.now)) }
-{
-    match mode {
-        Mode::Append => slot.push_back(text),
-        Mode::Prepend => slot.push_front(text),
-    }
-}
-
-// Packs the text of the slot at an index, and answers its length in bytes.
-#[tactic(auto, using(crate::proofs::Ring::RingLemmas::packing))]
-fn pack_at(slots: &mut Vec<Gathered>, index: usize) -> Option<usize>
-    ensures texts { texts slots.new.items ≡ texts slots.old.items }
-    ensures packed { IsPackedAt index slots.new.items }
-    ensures size { result ≡ option_map length (slice_get (texts slots.old.items) index) }
-{
-    let slot = slots.get_mut(index)?;
-    slot.pack();
-    Some(slot.len())
-}
-
-// Lends the text of the slot at an index.
-fn text_at(slots: &[Gathered], index: usize) -> Option<&String>
-    requires { IsPackedAt index slots.now }
-    ensures { MatchOption result (slice_get (texts slots.now) index ≡ None) (λ s. slice_get (texts slots.now) index ≡ Some (string_bytes s.now)) }
-{
-    match slots.get(index) {
-        Some(slot) => Some(slot.as_string()),
-        None => None,
-    }
 }
 
 /// Whatever is done with a new ring but `forget` and `set_size`, and if no kill is refused, it holds the latest groups

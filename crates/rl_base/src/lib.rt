@@ -1,6 +1,7 @@
 //! What a line of text and its listeners share: places in a text, events, and the traits that hear them.
 #![tactic(auto)]
 
+pub mod checksum;
 mod gathered;
 pub mod kill_ring;
 pub mod laws;

@@ -1,10 +1,10 @@
 //! Numbers and texts as bytes, one after another, as what is saved has them.
 ghost use Rattle.std.specs.Prelude.{◌≡◌, ◌<◌, ◌^◌, ◌++◌, ◌==◌, List, ℕ, All, IfErr, IfSome, option_map, OnOk, Some, length, nat_lt, true};
 ghost use Rattle.std.specs.Str.{IsUtf8};
-ghost use Rattle.rl_base.specs.Saving.{Fits, FitsLength, IsSized, number, numbers, size, sized};
+ghost use Rattle.rl_base.specs.Saving.{Fits, IsSized, number, numbers, size, sized};
 ghost use Rattle.rl_base.specs.declared.saving.LoadFault.TheVariants.{NoMemory};
 ghost use Rattle.rl_base.specs.declared.saving.SaveFault.TheVariants as saves;
-ghost use Rattle.rl_base.specs.declared.saving.Width.TheVariants.{Four};
+ghost use Rattle.rl_base.specs.declared.saving.Width.TheVariants.{Eight, Four};
 
 use crate::listeners::Refusal;
 use byteorder::{ByteOrder, LittleEndian};
@@ -18,7 +18,7 @@ pub enum SaveFault {
     /// A growth found no memory.
     #[error("out of memory")]
     NoMemory = 1,
-    /// A text has 4 GiB or more, or a place is as far.
+    /// A text of the record has 4 GiB or more, or a place is as far.
     #[error("a text is too long to be saved")]
     TooLong = 2,
 }
@@ -128,13 +128,13 @@ fn put_number(out: &mut Vec<u8>, width: Width, given: u64) -> Result<(), SaveFau
     Ok(())
 }
 
-/// Puts a text at the end of bytes, with its length before it.
+/// Puts a text at the end of bytes, with its length before it. It is never too long.
 #[tactic(auto, unfolding(crate::specs::Saving::sized))]
 pub fn put_text(out: &mut Vec<u8>, text: &str) -> Result<(), SaveFault>
-    ensures ok { OnOk result ((out.new.items ≡ out.old.items ++ sized text.now) × FitsLength text.now) }
-    ensures err { IfErr result (λ f. f ≡ saves.TooLong → ¬ (FitsLength text.now)) }
+    ensures ok { OnOk result ((out.new.items ≡ out.old.items ++ sized text.now) × Fits Eight (length text.now)) }
+    ensures err { IfErr result (λ f. f ≡ saves.TooLong → ⊥) }
 {
-    put_number(out, Width::Four, text.len() as u64)?;
+    put_number(out, Width::Eight, text.len() as u64)?;
     out.extend_from_slice(text.as_bytes())?;
     Ok(())
 }
@@ -166,6 +166,13 @@ impl<'t> Unread<'t> {
         ensures { result ≡ (length self.now == 0) }
     {
         self.bytes.is_empty()
+    }
+
+    /// How many bytes are left.
+    pub fn left(&self) -> usize
+        ensures { result ≡ length self.now }
+    {
+        self.bytes.len()
     }
 
     // Reads so many bytes.
@@ -220,7 +227,7 @@ impl<'t> Unread<'t> {
         ensures { (text rest : List ℕ) → IsSized text → self.old ≡ sized text ++ rest
             → (option_map (λ found. found.now) result ≡ Some text) × (self.new ≡ rest) }
     {
-        let len = self.number(Width::Four)?;
+        let len = self.number(Width::Eight)?;
         self.text(len)
     }
 }

@@ -1,7 +1,8 @@
 //! How the rows of a screen show a text.
-ghost use Rattle.std.specs.Prelude.{◌≡◌, ◌+◌, ◌-◌, ◌≤◌, ◌<◌, ◌^◌, ◌++◌, ℕ, List, length, max, replicate};
+ghost use Rattle.std.specs.Prelude.{◌≡◌, ◌+◌, ◌≤◌, ◌<◌, ◌^◌, ◌++◌, ℕ, IfErr, IfOk, List, length, min, replicate, slice_get};
+ghost use Rattle.std.specs.Str.{IsCharBoundary};
 ghost use Rattle.rl_base.specs.declared.screen.Screen.{Screen};
-ghost use Rattle.rl_base.specs.Screen.{InRow, StandsAt, after, cell, columns_of, filled, fitted, filled_after, has_control, is_within, place_at, rows, stands, tabbed, wrapped};
+ghost use Rattle.rl_base.specs.Screen.{InRow, StandsAt, after, cell, columns_of, filled, first_column, fitted, filled_after, has_control, is_in_line, is_within, place_at, rows, rows_from, screen_from, stands, tabbed, wrapped};
 
 use crate::layout::{GraphemeClusterMode, Unit};
 use unicode_segmentation::UnicodeSegmentation;
@@ -143,22 +144,48 @@ impl Screen {
         ensures value { result ≡ place_at self.now text.now cell }
         ensures within { result ≤ length text.now }
     {
+        self.seek(text, cell).0
+    }
+
+    /// The byte place at a column of a row, as `place_at` finds it; an error if there is no such row, which says how many
+    /// there are. It reads the text up to there.
+    pub fn find_in_row(&self, text: &str, row: usize, column: usize) -> Result<usize, usize>
+        ensures ok { IfOk result (λ place. (place ≡ place_at self.now text.now (row, column)) × (row < length (rows self.now text.now))) }
+        ensures within { IfOk result (λ place. place ≤ length text.now) }
+        ensures err { IfErr result (λ height. (height ≡ length (rows self.now text.now)) × (height ≤ row)) }
+    {
+        let (place, last) = self.seek(text, (row, column));
+        if last < row {
+            return Err(last + 1);
+        }
+        Ok(place)
+    }
+
+    // `place_at`, and the row in which the text ends, or the first row that was come to from the cell's on.
+    fn seek(&self, text: &str, cell: (usize, usize)) -> (usize, usize)
+        ensures value { result.0 ≡ place_at self.now text.now cell }
+        ensures within { result.0 ≤ length text.now }
+        ensures row { result.1 < length (rows self.now text.now) }
+        ensures last { result.1 < cell.0 → result.1 + 1 ≡ length (rows self.now text.now) }
+    {
         let mut row: usize = 0;
         let mut column = usize::from(self.prompt);
         let mut place: usize = 0;
         let mut found: usize = 0;
         for cluster in text.graphemes(true) {
-            if !is_within(self.stands(row, column, cluster), cell) {
-                return found;
+            let at = self.stands(row, column, cluster);
+            if !is_within(at, cell) {
+                return (found, at.0);
             }
             found = place;
             (row, column) = self.after(row, column, cluster);
             place += cluster.len();
         }
-        if is_within(self.wrapped(row, column), cell) {
-            return place;
+        let end = self.wrapped(row, column);
+        if is_within(end, cell) {
+            return (place, end.0);
         }
-        found
+        (found, end.0)
     }
 
     /// The byte places of a text where its rows begin, from row 0 on: as many as fit go to `starts`. Answers how many rows
@@ -173,12 +200,90 @@ impl Screen {
         let mut place: usize = 0;
         let mut begun: usize = 0;
         for cluster in text.graphemes(true) {
-            begun = begin_rows(starts, begun, self.stands(row, column, cluster).0, place);
+            let last = self.stands(row, column, cluster).0;
+            begun = begin_rows(starts, begun, (last + 1).saturating_sub(begun), place);
             (row, column) = self.after(row, column, cluster);
             place += cluster.len();
         }
-        begin_rows(starts, begun, self.wrapped(row, column).0, place)
+        let last = self.wrapped(row, column).0;
+        begin_rows(starts, begun, (last + 1).saturating_sub(begun), place)
     }
+
+    // The column from which a text is laid out from a place on where a row begins: at the right edge of the row above, if that
+    // is a row of the same line.
+    fn first_column(&self, text: &str, place: usize) -> Unit
+        requires { place ≤ length text.now }
+        ensures { result ≡ first_column self.now text.now place }
+    {
+        if is_in_line(text, place) {
+            return self.columns;
+        }
+        if place == 0 {
+            self.prompt
+        } else {
+            self.continuation
+        }
+    }
+
+    /// The screen on which a text is laid out from a byte place on where a row begins. Within a line, row 0 is the full row
+    /// above the place.
+    pub fn screen_from(&self, text: &str, place: usize) -> Screen
+        requires { place ≤ length text.now }
+        ensures { result ≡ screen_from self.now text.now place }
+    {
+        let mut on = *self;
+        on.prompt = self.first_column(text, place);
+        on
+    }
+
+    /// The byte places of a text where rows begin, from one where a row begins: as many as fit go to `starts`. Answers how
+    /// many these are, and where the next row begins, if one follows. It reads the text up to there.
+    pub fn rows_from(&self, text: &str, from: usize, starts: &mut [usize]) -> (usize, Option<usize>)
+        requires { IsCharBoundary text.now from }
+        ensures starts { starts.new ≡ filled (rows_from self.now text.now from) starts.old }
+        ensures count { result.0 ≡ min (length starts.old) (length (rows_from self.now text.now from)) }
+        ensures next { result.1 ≡ slice_get (rows_from self.now text.now from) (length starts.old) }
+    {
+        // Within a line the row above is row 0.
+        let above = usize::from(is_in_line(text, from));
+        let mut row: usize = 0;
+        let mut column = usize::from(self.first_column(text, from));
+        let mut place = from;
+        let mut begun: usize = 0;
+        for cluster in text[from..].graphemes(true) {
+            let last = self.stands(row, column, cluster).0;
+            begun = begin_rows(
+                starts,
+                begun,
+                (last + 1).saturating_sub(above + begun),
+                place,
+            );
+            if begun > starts.len() {
+                return (starts.len(), Some(place));
+            }
+            (row, column) = self.after(row, column, cluster);
+            place += cluster.len();
+        }
+        let last = self.wrapped(row, column).0;
+        begun = begin_rows(
+            starts,
+            begun,
+            (last + 1).saturating_sub(above + begun),
+            place,
+        );
+        if begun > starts.len() {
+            return (starts.len(), Some(place));
+        }
+        (begun, None)
+    }
+}
+
+// Whether no line begins at a place.
+fn is_in_line(text: &str, place: usize) -> bool
+    requires { place ≤ length text.now }
+    ensures { result ≡ is_in_line text.now place }
+{
+    place > 0 && text.as_bytes()[place - 1] != b'\n'
 }
 
 fn has_control(cluster: &str) -> bool
@@ -194,16 +299,16 @@ fn is_within(at: (usize, usize), cell: (usize, usize)) -> bool
     at.0 < cell.0 || (at.0 == cell.0 && at.1 <= cell.1)
 }
 
-// Begins the rows up to one, as far as they have not begun, at a place: the first of them is the one numbered `begun`.
-// Answers how many rows have begun then.
-fn begin_rows(starts: &mut [usize], begun: usize, row: usize, place: usize) -> usize
-    requires { row ≤ 2 ^ 63 }
-    ensures starts { (more : List ℕ) → filled_after result more starts.new
-        ≡ filled_after begun (replicate (row + 1 - begun) place ++ more) starts.old }
-    ensures begun { result ≡ max begun (row + 1) }
+// Begins so many rows more at a place, after the `begun` that have begun. Answers how many have begun then.
+fn begin_rows(starts: &mut [usize], begun: usize, more: usize, place: usize) -> usize
+    requires { begun + more < 2 ^ 64 }
+    ensures starts { (rest : List ℕ) → filled_after result rest starts.new ≡ filled_after begun (replicate more place ++ rest) starts.old }
+    ensures begun { result ≡ begun + more }
+    ensures length { length starts.new ≡ length starts.old }
 {
+    let end = begun + more;
     let mut begun = begun;
-    while begun <= row {
+    while begun < end {
         if begun < starts.len() {
             starts[begun] = place;
         }

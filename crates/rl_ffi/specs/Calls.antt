@@ -1,10 +1,12 @@
 -- What a call does to the session that a handle holds. If it holds none, it is left so, and the call answers that it is closed.
-use Rattle.std.specs.Prelude.{◌≡◌, ◌⊎◌, ℕ, ◌<◌, ◌≤◌, ℤ, List, length, Option, Some, None, Result, Ok, Err}
+use Rattle.std.specs.Prelude.{◌≡◌, ◌⊎◌, ℕ, ◌<◌, ◌≤◌, min, ℤ, List, length, Option, Some, None, Result, Ok, Err}
 use Rattle.std.specs.Option.{option_map_or}
 use Rattle.std.specs.Str.{IsUtf8}
+use Rattle.rl_base.specs.Screen.{filled}
 use Rattle.rl_session.specs.State.{State}
 use Rattle.rl_ffi.specs.Answers.{number}
 use Rattle.rl_ffi.specs.Buffers.{put}
+use Rattle.rl_ffi.specs.Numbers.{number_of_given}
 use Rattle.rl_ffi.specs.declared.answers.Answer.{Answer}
 use Rattle.rl_ffi.specs.declared.answers.Answer.TheVariants.{Nothing, Done, NotUtf8, TooSmall, Closed}
 
@@ -91,3 +93,8 @@ abbrev pub Fills : {A : Type 0} → List A → Tale (List A × ℕ)
 Fills values n out out' =
     ((length values ≤ length out.0) × (n ≡ Done) × (out' ≡ (put values out.0, length values)))
     ⊎ ((length out.0 < length values) × (n ≡ TooSmall) × (out' ≡ (out.0, length values)))
+
+-- of values as many as fit are written to the front of a buffer, how many these are, and where the next one is found
+abbrev pub FillsFront : {A : Type 0} → List A → (ℕ → Option ℕ) → Tale (List A × (ℕ × ℕ))
+FillsFront values place n out out' =
+    (n ≡ Done) × (out' ≡ (filled values out.0, (min (length out.0) (length values), number_of_given (place (length out.0)))))

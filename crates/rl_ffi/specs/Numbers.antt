@@ -1,5 +1,5 @@
 -- What the numbers of the calls stand for.
-use Rattle.std.specs.Prelude.{ℕ, ◌==◌, ◌||◌, nat_le, nat_lt, Bool, true, false, Option, Some, None, Result, Ok, Err, if◌then◌else◌}
+use Rattle.std.specs.Prelude.{ℕ, ◌-◌, ◌^◌, unwrap_or, ◌==◌, ◌||◌, nat_le, nat_lt, Bool, true, false, Option, Some, None, Result, Ok, Err, if◌then◌else◌}
 use Rattle.std.specs.Int.{is_in_range}
 use Rattle.std.specs.Option.{option_map}
 use Rattle.rl_base.specs.declared.layout.GraphemeClusterMode.{GraphemeClusterMode}
@@ -35,6 +35,13 @@ kind_number kind.Folded = 8
 abbrev pub named : {A : Type 0} → Option A → Result A Answer
 named None = Err NoSuchNumber
 named (Some x) = Ok x
+
+-- a place or a column that may be left out: the greatest number stands for none; and the number of one
+abbrev pub given_of : ℕ → Option ℕ
+given_of number = if number == 2 ^ 64 - 1 then None else Some number
+
+abbrev pub number_of_given : Option ℕ → ℕ
+number_of_given given = unwrap_or given (2 ^ 64 - 1)
 
 -- a number of columns, which has 16 bits; how much an indent inserts or deletes, which has 8
 abbrev pub unit_of : ℕ → Result ℕ Answer

@@ -1,5 +1,5 @@
 -- What the calls tell that change nothing.
-use Rattle.std.specs.Prelude.{◌≡◌, ◌⊎◌, ℕ, ◌+◌, ◌-◌, ◌<◌, ◌≤◌, List, [], ◌∷◌, ◌++◌, drop, take, reverse, length, slice_range, Option, Some, None, option_map, Result}
+use Rattle.std.specs.Prelude.{◌≡◌, ◌⊎◌, ℕ, ◌+◌, ◌-◌, ◌<◌, ◌≤◌, List, [], ◌∷◌, ◌++◌, drop, take, reverse, length, slice_get, slice_range, Option, Some, None, option_map, Result}
 use Rattle.std.specs.Str.{IsCharBoundary}
 use Rattle.std.specs.declared.ops.Range.{Range}
 use Rattle.rl_base.specs.Clusters.{clusters}
@@ -12,9 +12,10 @@ use Rattle.rl_line.specs.LineRanges.{IsRange}
 use Rattle.rl_session.specs.Commands.{line_place, with_cursor}
 use Rattle.rl_session.specs.State.{State}
 use Rattle.rl_ffi.specs.Buffers.{put}
-use Rattle.rl_ffi.specs.Calls.{Tale, Telling, Writes, of_bytes, told_where, where_named}
-use Rattle.rl_ffi.specs.Numbers.{direction_of}
+use Rattle.rl_ffi.specs.Calls.{FillsFront, Tale, Telling, Writes, of_bytes, told_where, where_named}
+use Rattle.rl_ffi.specs.Numbers.{direction_of, mode_of}
 use Rattle.rl_ffi.specs.Reach.{Covers, Leads}
+use Rattle.rl_ffi.specs.Texts.{measured}
 use Rattle.rl_ffi.specs.declared.answers.Answer.{Answer}
 use Rattle.rl_ffi.specs.declared.answers.Answer.TheVariants.{BadOffset, Done, Nothing, TooSmall}
 use Rattle.rl_ffi.specs.declared.shapes.CCluster.{CCluster}
@@ -90,3 +91,15 @@ TellsCluster text mode place = told_where (IsCharBoundary text place) BadOffset 
 unfoldable pub TellsClusterBefore : List ℕ → GraphemeClusterMode → ℕ → Tale CCluster
 TellsClusterBefore text mode place =
     told_where (IsCharBoundary text place) BadOffset (Writes (last_cluster mode place (reverse (clusters (take place text)))))
+
+-- where one of some clusters begins
+abbrev pub begin_of : List CCluster → ℕ → Option ℕ
+begin_of cs k = option_map (λ (c : CCluster). c.from) (slice_get cs k)
+
+-- the clusters of a text from a place on
+unfoldable pub FillsClusters : GraphemeClusterMode → List ℕ → ℕ → Tale (List CCluster × (ℕ × ℕ))
+FillsClusters mode text from = told_where (IsCharBoundary text from) BadOffset
+    (FillsFront (measured mode from (clusters (drop from text))) (begin_of (measured mode from (clusters (drop from text)))))
+
+abbrev pub TellsClustersFrom : ℕ → ℕ → Telling (List CCluster × (ℕ × ℕ))
+TellsClustersFrom mode from s = where_named (mode_of mode) (λ (m : GraphemeClusterMode). FillsClusters m s.line.text from)

@@ -1,14 +1,13 @@
 -- What the calls tell that lay a text out on a screen.
-use Rattle.std.specs.Prelude.{◌⊎◌, ℕ, ◌^◌, ◌-◌, ◌==◌, ◌&&◌, nat_le, nat_lt, Bool, List, Option, Some, None, Result, Ok, Err, if◌then◌else◌}
+use Rattle.std.specs.Prelude.{◌⊎◌, ℕ, ◌&&◌, nat_le, nat_lt, Bool, List, slice_get, Option, Some, Result, Ok, Err, if◌then◌else◌}
+use Rattle.std.specs.Option.{IfSome}
 use Rattle.std.specs.Str.{IsCharBoundary}
-use Rattle.rl_base.specs.Lines.{line_number}
-use Rattle.rl_base.specs.Screen.{cell, place_at, rows}
+use Rattle.rl_base.specs.Screen.{cell, place_at, rows, rows_from}
 use Rattle.rl_base.specs.declared.layout.GraphemeClusterMode.{GraphemeClusterMode}
 use Rattle.rl_base.specs.declared.screen.Screen.{Screen}
-use Rattle.rl_line.specs.Rows.{kept_column, own_cell}
-use Rattle.rl_line.specs.Rows as motion
-use Rattle.rl_ffi.specs.Calls.{Fills, Tale, Telling, Writes, of_bytes, refuses, where_named}
-use Rattle.rl_ffi.specs.Numbers.{count_of, mode_of}
+use Rattle.rl_line.specs.Line.{Line}
+use Rattle.rl_ffi.specs.Calls.{Fills, FillsFront, Tale, Telling, Writes, of_bytes, refuses, told_where, where_named}
+use Rattle.rl_ffi.specs.Numbers.{count_of, given_of, mode_of}
 use Rattle.rl_ffi.specs.declared.answers.Answer.{Answer}
 use Rattle.rl_ffi.specs.declared.answers.Answer.TheVariants.{BadOffset, NoSuchNumber}
 use Rattle.rl_ffi.specs.declared.shapes.CPosition.{CPosition}
@@ -46,17 +45,24 @@ TellsPlace screen at text =
 abbrev pub TellsRows : CScreen → List ℕ → Tale (List ℕ × ℕ)
 TellsRows screen text = where_named (screen_of screen) (λ (on : Screen). of_bytes text (Fills (rows on text)))
 
--- the column that a motion by rows is given: the greatest number stands for the cursor's
-abbrev pub column_of : ℕ → Option ℕ
-column_of number = if number == 2 ^ 64 - 1 then None else Some number
+-- the places where rows begin from a place of a text on. No abbreviation, so that it is one fact for the search, as is what a
+-- motion by rows tells
+unfoldable pub FillsRows : Screen → List ℕ → ℕ → Tale (List ℕ × (ℕ × ℕ))
+FillsRows on text from =
+    told_where (IsCharBoundary text from) BadOffset (FillsFront (rows_from on text from) (slice_get (rows_from on text from)))
 
--- a motion by so many rows from the cursor, up or down, to the column that was handed in: the place to which it leads, and the
--- column that it keeps to
-abbrev pub TellsRow : (Screen → List ℕ → ℕ → ℕ → ℕ → Option (ℕ × ℕ) → Type 0) → CScreen → ℕ → Telling (ℕ × ℕ)
-TellsRow Comes screen n s answer out out' =
-    let text = s.line.text in
-    let cursor = s.line.cursor in
-    where_named (screen_of screen) (λ (on : Screen). where_named (count_of n) (λ (k : ℕ) answer out out'.
-    (told : Option (ℕ × ℕ)) × motion.Tells on text (Comes on text (line_number text cursor) (own_cell on text cursor).0 k)
-    (kept_column on text (column_of out.1) cursor) told
-    × Writes told answer out out')) answer out out'
+abbrev pub TellsRowsFrom : CScreen → ℕ → Telling (List ℕ × (ℕ × ℕ))
+TellsRowsFrom screen from s = where_named (screen_of screen) (λ (on : Screen). FillsRows on s.line.text from)
+
+-- a motion by rows from the cursor, up or down: the place to which it leads, and the column that it keeps to
+abbrev pub Motion : Type 1
+Motion = Screen → List ℕ → Option ℕ → ℕ → Option ℕ → ℕ → Option (ℕ × ℕ) → Type 0
+
+-- it is told by a place where a row begins, if one is given, and by the column that was handed in
+unfoldable pub TellsRowOf : Motion → Screen → ℕ → ℕ → Line → Tale (ℕ × ℕ)
+TellsRowOf Leads on from k line = told_where (IfSome (given_of from) (λ (place : ℕ). IsCharBoundary line.text place)) BadOffset (λ answer out out'.
+    (told : Option (ℕ × ℕ)) × Leads on line.text (given_of from) k (given_of out.1) line.cursor told × Writes told answer out out')
+
+abbrev pub TellsRow : Motion → CScreen → ℕ → ℕ → Telling (ℕ × ℕ)
+TellsRow Leads screen from n s =
+    where_named (screen_of screen) (λ (on : Screen). where_named (count_of n) (λ (k : ℕ). TellsRowOf Leads on from k s.line))

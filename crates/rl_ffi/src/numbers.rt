@@ -1,7 +1,7 @@
 //! What the numbers of the calls stand for. Each function answers `NoSuchNumber` for a number that stands for nothing,
 //! and `Nothing` for a count of 0.
 ghost use Rattle.std.specs.Prelude.{◌≡◌};
-ghost use Rattle.rl_ffi.specs.Numbers.{amount_of, case_of, char_of, count_of, dedents_of, direction_of, kind_number, mode_number, mode_of, movement_by, movement_of, named, side_of, unit_of};
+ghost use Rattle.rl_ffi.specs.Numbers.{amount_of, case_of, char_of, count_of, dedents_of, direction_of, given_of, kind_number, mode_number, mode_of, movement_by, movement_of, named, number_of_given, side_of, unit_of};
 
 use crate::answers::Answer;
 use crate::shapes::CMovement;
@@ -41,6 +41,23 @@ pub(crate) fn count_of(number: usize) -> Result<RepeatCount, Answer>
         return Err(Answer::Nothing);
     }
     unit_of(number)
+}
+
+// A place or a column that C may leave out: the greatest number stands for none.
+pub(crate) fn given_of(number: usize) -> Option<usize>
+    ensures { result ≡ given_of number }
+{
+    if number == usize::MAX {
+        return None;
+    }
+    Some(number)
+}
+
+// The number of such a place.
+pub(crate) fn number_of_given(given: Option<usize>) -> usize
+    ensures { result ≡ number_of_given given }
+{
+    given.unwrap_or(usize::MAX)
 }
 
 // A number of columns.

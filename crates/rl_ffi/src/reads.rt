@@ -1,20 +1,24 @@
 //! The calls that change nothing of a session.
-ghost use Rattle.std.specs.Prelude.{◌≡◌, Some, false, is_some, length};
+ghost use Rattle.std.specs.Prelude.{◌≡◌, Some, drop, false, is_some, length, min};
 ghost use Rattle.std.specs.Option.{option_map};
+ghost use Rattle.std.specs.Str.{IsCharBoundary};
+ghost use Rattle.rl_base.specs.Clusters.{clusters};
 ghost use Rattle.rl_base.specs.KillRing.{text_back, yank_size};
 ghost use Rattle.rl_base.specs.Lines.{lines};
+ghost use Rattle.rl_base.specs.Screen.{filled};
 ghost use Rattle.rl_line.specs.LineRanges.{range_of_line};
 ghost use Rattle.rl_line.specs.Record.{is_saved};
 ghost use Rattle.rl_line.specs.Units.{has_change, last_of, level, redo_of};
 ghost use Rattle.rl_session.specs.State.{State};
 ghost use Rattle.rl_ffi.specs.Calls.{Finds, Tells, Writes};
 ghost use Rattle.rl_ffi.specs.Reach.{Leads};
-ghost use Rattle.rl_ffi.specs.Reads.{CopiesText, Lends, TellsCluster, TellsClusterBefore, TellsCovers, TellsFound, TellsLineAt, TellsSlice, TellsTarget, cursor_position, range_shape};
+ghost use Rattle.rl_ffi.specs.Reads.{CopiesText, FillsClusters, Lends, TellsCluster, TellsClusterBefore, TellsClustersFrom, TellsCovers, TellsFound, TellsLineAt, TellsSlice, TellsTarget, begin_of, cursor_position, range_shape};
+ghost use Rattle.rl_ffi.specs.Texts.{measured};
 
 use crate::answers::Answer;
 use crate::buffers::put;
 use crate::handle::{Handle, of};
-use crate::numbers::direction_of;
+use crate::numbers::{direction_of, mode_of, number_of_given};
 use crate::reach::{Reach, covers, reach_of};
 use crate::shapes::{CCluster, CMovement, CPosition, CRange};
 use crate::texts::text_of;
@@ -320,4 +324,65 @@ pub fn lodvarn_cluster_before(s: &mut Handle, place: usize, cluster: &mut CClust
     ensures { Tells (λ (s : State). TellsClusterBefore s.line.text s.options.mode place) s.old result s.new cluster.old cluster.new }
 {
     of!(s, session => measure_before(session.line().as_str(), session.options().mode, place, cluster))
+}
+
+// Cuts a text into its clusters from a place on, of which as many as fit go to `out`. Answers how many these are, and
+// where the next one begins, if one follows.
+fn cut_from(
+    mode: GraphemeClusterMode,
+    text: &str,
+    from: usize,
+    out: &mut [CCluster],
+) -> (usize, Option<usize>)
+    requires { IsCharBoundary text.now from }
+    ensures written { out.new ≡ filled (measured mode from (clusters (drop from text.now))) out.old }
+    ensures count { result.0 ≡ min (length out.old) (length (measured mode from (clusters (drop from text.now)))) }
+    ensures next { result.1 ≡ begin_of (measured mode from (clusters (drop from text.now))) (length out.old) }
+{
+    let mut count: usize = 0;
+    let mut from = from;
+    for cluster in text[from..].graphemes(true) {
+        if count == out.len() {
+            return (count, Some(from));
+        }
+        let to = from + cluster.len();
+        let columns = usize::from(mode.width(cluster));
+        out[count] = CCluster { from, to, columns };
+        count += 1;
+        from = to;
+    }
+    (count, None)
+}
+
+#[tactic(auto, unfolding(crate::specs::Reads::FillsClusters))]
+fn write_clusters(
+    mode: GraphemeClusterMode,
+    text: &str,
+    from: usize,
+    out: &mut [CCluster],
+    count: &mut usize,
+    next: &mut usize,
+) -> Answer
+    ensures { FillsClusters mode text.now from result (out.old, (count.old, next.old)) (out.new, (count.new, next.new)) }
+{
+    if !text.is_char_boundary(from) {
+        return Answer::BadOffset;
+    }
+    let (written, after) = cut_from(mode, text, from, out);
+    *count = written;
+    *next = number_of_given(after);
+    Answer::Done
+}
+
+pub fn lodvarn_clusters_from(
+    s: &mut Handle,
+    mode: u32,
+    from: usize,
+    out: &mut [CCluster],
+    count: &mut usize,
+    next: &mut usize,
+) -> i32
+    ensures { Tells (TellsClustersFrom mode from) s.old result s.new (out.old, (count.old, next.old)) (out.new, (count.new, next.new)) }
+{
+    of!(s, session, by = mode_of(mode) => write_clusters(by, session.line().as_str(), from, out, count, next))
 }

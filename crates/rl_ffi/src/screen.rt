@@ -1,17 +1,21 @@
 //! The calls that lay a text out on a screen.
-ghost use Rattle.std.specs.Prelude.{◌≡◌};
+ghost use Rattle.std.specs.Prelude.{◌≡◌, IfErr, IfOk, IfSome};
+ghost use Rattle.std.specs.Str.{IsCharBoundary};
 ghost use Rattle.rl_base.specs.Screen.{rows};
-ghost use Rattle.rl_line.specs.Rows.{Above, Below};
+ghost use Rattle.rl_line.specs.Rows.{TellsAbove, TellsBelow};
 ghost use Rattle.rl_ffi.specs.Answers.{merged};
 ghost use Rattle.rl_ffi.specs.Calls.{Answers, Fills, Tells, Writes};
-ghost use Rattle.rl_ffi.specs.Screen.{TellsCell, TellsPlace, TellsRow, TellsRows, column_of, screen_of};
+ghost use Rattle.rl_ffi.specs.Numbers.{given_of};
+ghost use Rattle.rl_ffi.specs.Screen.{FillsRows, TellsCell, TellsPlace, TellsRow, TellsRowOf, TellsRows, TellsRowsFrom, screen_of};
+ghost use Rattle.rl_ffi.specs.declared.answers.Answer.TheVariants.{BadOffset};
 
 use crate::answers::{Answer, Outcome, merged};
 use crate::handle::{Handle, of};
-use crate::numbers::{count_of, mode_of, unit_of};
+use crate::numbers::{count_of, given_of, mode_of, number_of_given, unit_of};
 use crate::shapes::{CPosition, CScreen};
 use crate::texts::text_of;
-use rl_base::Screen;
+use rl_base::{RepeatCount, Screen};
+use rl_line::LineBuffer;
 
 // The screen, unless it is none: it has a column at least.
 fn screen_of(screen: &CScreen) -> Result<Screen, Answer>
@@ -96,14 +100,52 @@ pub fn lodvarn_rows(screen: &CScreen, text: &[u8], starts: &mut [usize], count: 
     merged(find_rows(screen, text, starts, count)).number()
 }
 
-// The column that a motion by rows is given: the greatest number stands for the cursor's.
-fn column_of(number: usize) -> Option<usize>
-    ensures { result ≡ column_of number }
+// Writes where rows begin from a place of the text on, as far as that fits, and where the next one begins.
+#[tactic(auto, unfolding(crate::specs::Screen::FillsRows))]
+fn fill_from(
+    on: &Screen,
+    text: &str,
+    from: usize,
+    starts: &mut [usize],
+    count: &mut usize,
+    next: &mut usize,
+) -> Answer
+    ensures { FillsRows on.now text.now from result (starts.old, (count.old, next.old)) (starts.new, (count.new, next.new)) }
 {
-    if number == usize::MAX {
-        return None;
+    if !text.is_char_boundary(from) {
+        return Answer::BadOffset;
     }
-    Some(number)
+    let (written, after) = on.rows_from(text, from, starts);
+    *count = written;
+    *next = number_of_given(after);
+    Answer::Done
+}
+
+pub fn lodvarn_rows_from(
+    s: &mut Handle,
+    screen: &CScreen,
+    from: usize,
+    starts: &mut [usize],
+    count: &mut usize,
+    next: &mut usize,
+) -> i32
+    ensures { Tells (TellsRowsFrom screen.now from) s.old result s.new (starts.old, (count.old, next.old)) (starts.new, (count.new, next.new)) }
+{
+    of!(s, session, on = screen_of(screen) => fill_from(&on, session.line().as_str(), from, starts, count, next))
+}
+
+// A place of the text that C may leave out.
+fn place_of(text: &str, number: usize) -> Result<Option<usize>, Answer>
+    ensures ok { IfOk result (λ given. (given ≡ given_of number) × IfSome given (λ place. IsCharBoundary text.now place)) }
+    ensures err { IfErr result (λ why. (why ≡ BadOffset) × (¬ (IfSome (given_of number) (λ place. IsCharBoundary text.now place)))) }
+{
+    let Some(place) = given_of(number) else {
+        return Ok(None);
+    };
+    if !text.is_char_boundary(place) {
+        return Err(Answer::BadOffset);
+    }
+    Ok(Some(place))
 }
 
 // Writes the place to which a motion by rows leads, and the column that it keeps to, if it leads anywhere.
@@ -120,32 +162,66 @@ fn write_row(told: Option<(usize, usize)>, place: &mut usize, column: &mut usize
     }
 }
 
+#[tactic(auto, unfolding(crate::specs::Screen::TellsRowOf))]
+fn find_above(
+    line: &LineBuffer,
+    on: &Screen,
+    from: usize,
+    n: RepeatCount,
+    column: &mut usize,
+    place: &mut usize,
+) -> Outcome
+    ensures { TellsRowOf TellsAbove on.now from n line.now (merged result) (place.old, column.old) (place.new, column.new) }
+{
+    let from = place_of(line.as_str(), from)?;
+    let told = line.row_above(on, from, n, given_of(*column));
+    Ok(write_row(told, place, column))
+}
+
 pub fn lodvarn_row_above(
     s: &mut Handle,
     screen: &CScreen,
+    from: usize,
     n: usize,
     column: &mut usize,
     place: &mut usize,
 ) -> i32
-    ensures { Tells (TellsRow Above screen.now n) s.old result s.new (place.old, column.old) (place.new, column.new) }
+    ensures { Tells (TellsRow TellsAbove screen.now from n) s.old result s.new (place.old, column.old) (place.new, column.new) }
 {
     of!(s, session, on = screen_of(screen), k = count_of(n) => {
         session.index_lines();
-        write_row(session.line().row_above(&on, k, column_of(*column)), place, column)
+        merged(find_above(session.line(), &on, from, k, column, place))
     })
+}
+
+#[tactic(auto, unfolding(crate::specs::Screen::TellsRowOf))]
+fn find_below(
+    line: &LineBuffer,
+    on: &Screen,
+    from: usize,
+    n: RepeatCount,
+    column: &mut usize,
+    place: &mut usize,
+) -> Outcome
+    ensures { TellsRowOf TellsBelow on.now from n line.now (merged result) (place.old, column.old) (place.new, column.new) }
+{
+    let from = place_of(line.as_str(), from)?;
+    let told = line.row_below(on, from, n, given_of(*column));
+    Ok(write_row(told, place, column))
 }
 
 pub fn lodvarn_row_below(
     s: &mut Handle,
     screen: &CScreen,
+    from: usize,
     n: usize,
     column: &mut usize,
     place: &mut usize,
 ) -> i32
-    ensures { Tells (TellsRow Below screen.now n) s.old result s.new (place.old, column.old) (place.new, column.new) }
+    ensures { Tells (TellsRow TellsBelow screen.now from n) s.old result s.new (place.old, column.old) (place.new, column.new) }
 {
     of!(s, session, on = screen_of(screen), k = count_of(n) => {
         session.index_lines();
-        write_row(session.line().row_below(&on, k, column_of(*column)), place, column)
+        merged(find_below(session.line(), &on, from, k, column, place))
     })
 }

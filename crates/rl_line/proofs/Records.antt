@@ -1,5 +1,6 @@
 -- The record: its entries and groups, and how a line goes over them.
 pub mod PatchLemmas
+pub mod ReachLemmas
 pub mod RecordLemmas
 pub mod EntryLemmas
 pub mod LastLemmas
@@ -34,6 +35,8 @@ pub mod RoundLemmas
 pub mod UnitingLemmas
 pub mod WaitingLemmas
 pub mod UnitLawLemmas
+pub mod FrontLemmas
 pub mod ForgettingLemmas
+pub mod TallyLemmas
 pub mod RedoLemmas
 pub mod Laws

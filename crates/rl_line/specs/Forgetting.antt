@@ -1,7 +1,8 @@
 -- Forgetting: the oldest units of a record go if more of it is kept than is wanted.
-use Rattle.std.specs.Prelude.{◌≡◌, ℕ, ◌+◌, ◌-◌, ◌^◌, ◌≤◌, ◌&&◌, ◌||◌, nat_le, Bool, List, [], ◌∷◌, length, take, drop, reverse, if◌then◌else◌}
-use Rattle.rl_line.specs.Record.{Entry, Record, new_text, old_text, point_past}
-use Rattle.rl_line.specs.Units.{UndoUnit, Open, Whole, together, units}
+use Rattle.std.specs.Prelude.{◌≡◌, true, ℕ, ◌+◌, ◌-◌, ◌^◌, ◌<◌, ◌≤◌, ◌&&◌, ◌||◌, nat_le, Bool, List, [], ◌∷◌, length, take, drop, replicate, reverse, if◌then◌else◌}
+use Rattle.rl_line.specs.Record.{Entry, End, Record, new_text, old_text, point_past}
+use Rattle.rl_line.specs.Units.{UndoUnit, Open, Whole, oldest_is_open, together, units}
+use Rattle.rl_line.specs.declared.forgetting.Tally.{Tally}
 
 -- how many bytes of text entries hold: what their changes took out, and what they put in
 abbrev pub bytes_held : List Entry → ℕ
@@ -40,11 +41,19 @@ abbrev pub forgotten : ℕ → ℕ → Record → Record
 forgotten most bytes r =
     record r { recorded = kept_within most bytes r.recorded; saved = point_past (length r.recorded - length (kept_within most bytes r.recorded)) r.saved }
 
--- what private functions say of it: from the place k on entries fit, and from none before it
-pub record FitsFrom (most bytes : ℕ) (es : List Entry) (k : ℕ) : Type 0 where
-  pub within : k ≤ length es
-  pub from : (j : ℕ) → fits most bytes (drop j es) ≡ nat_le k j
+-- ---- what private functions say
+-- a record without its first k entries
+abbrev pub without_first : ℕ → Record → Record
+without_first k r = record r { recorded = drop k r.recorded; saved = point_past k r.saved }
 
--- the first n entries go, and no others
-abbrev pub ForgetsFirst : ℕ → ℕ → List Entry → ℕ → Type 0
-ForgetsFirst most bytes es n = (n ≤ length es) × (drop n es ≡ kept_within most bytes es)
+-- what a tally says of the first m entries, of which `gone` are forgotten
+pub record Counts (gone : ℕ) (tally : Tally) (m : ℕ) (es : List Entry) : Type 0 where
+  pub counted : tally.counted ≤ m
+  pub held : bytes_held (take tally.counted es) ≡ tally.held
+  pub looked : tally.opened ≤ m
+  pub opened : gone < tally.opened → oldest_is_open (units (drop gone (take tally.opened es))) ≡ true
+
+-- the first of the entries are forgotten, and are Ends; what is counted holds of all but the last entry
+pub record FrontGone (gone : ℕ) (tally : Tally) (es : List Entry) : Type 0 where
+  pub ends : take gone es ≡ replicate gone End
+  pub counts : Counts gone tally (length es - 1) es

@@ -1,16 +1,16 @@
 -- The plans of indenting and dedenting the lines of a range.
-use Rattle.std.specs.Prelude.{ℕ, ◌+◌, ◌-◌, ◌/◌, ◌%◌, ◌==◌, nat_lt, min, max, Bool, true, false, List, [], ◌∷◌, ◌++◌, length, take, slice_range, if◌then◌else◌}
+use Rattle.std.specs.Prelude.{ℕ, ◌+◌, ◌-◌, ◌/◌, ◌%◌, ◌==◌, nat_lt, min, max, Bool, true, false, List, [], ◌∷◌, ◌++◌, length, take, drop, slice_range, if◌then◌else◌}
 use Rattle.std.specs.List.{repeat}
 use Rattle.std.specs.Str.{trim_start}
 use Rattle.std.specs.declared.ops.Range.{Range}
 use Rattle.rl_base.specs.Event.{InsertStr, Delete}
-use Rattle.rl_base.specs.Lines.{lines, line_number, start_of_line}
+use Rattle.rl_base.specs.Lines.{lines, line_number, start_of_line, text_of_line}
 use Rattle.rl_base.specs.Text.{greatest_boundary}
 use Rattle.rl_base.specs.declared.listeners.Direction.TheVariants.{Forward}
 use Rattle.rl_base.specs.declared.motion.Movement.{Movement}
-use Rattle.rl_line.specs.Line.{Line}
+use Rattle.rl_line.specs.Line.{Line, between}
 use Rattle.rl_line.specs.Plan.{Step, Plan, after_steps, bytes_of, single}
-use Rattle.rl_line.specs.Ranges.{indented, text_in}
+use Rattle.rl_line.specs.Ranges.{indented}
 
 -- the first line that holds a byte of a range, and the last; an empty range counts as a byte of the line that it lies in
 abbrev pub first_line : List ℕ → Range ℕ → ℕ
@@ -56,16 +56,25 @@ lines_plan dedent n (text ∷ more) i cursor =
     let one = line_plan dedent n text i cursor in
     after_steps one.steps (lines_plan dedent n more (one.answer + 1) one.cursor)
 
--- the same for the line in that range
-abbrev pub shift_plan : Line → Range ℕ → Bool → ℕ → Plan ℕ
-shift_plan line r dedent n = line_plan dedent n (text_in line r) r.start line.cursor
+-- the same for the line that begins at i
+abbrev pub shift_plan : Line → ℕ → Bool → ℕ → Plan ℕ
+shift_plan line i dedent n = line_plan dedent n (text_of_line (drop i line.text) 0) i line.cursor
 
--- the lines that hold a byte of what the movement covers, from the first to the last
+-- how many spaces go in at the start of each line
+abbrev pub spaces_each : Bool → ℕ → ℕ
+spaces_each dedent n = if dedent then 0 else n
+
+-- the lines that hold a byte of what the movement covers, by their numbers
+abbrev pub indented_lines : Line → Movement → Range ℕ
+indented_lines line mvt = let r = indented line mvt in between (first_line line.text r) (final_line line.text r + 1)
+
+-- the steps for the lines with those numbers
+abbrev pub shift_lines_plan : Line → Range ℕ → Bool → ℕ → Plan Bool
+shift_lines_plan line ks dedent n = lines_plan dedent n (slice_range (lines line.text) ks.start ks.end) (start_of_line line.text ks.start) line.cursor
+
+-- the lines that hold a byte of what the movement covers are indented, or dedented
 abbrev pub indent_plan : Line → Movement → ℕ → Bool → Plan Bool
-indent_plan line mvt n dedent =
-    let r = indented line mvt in
-    let first = first_line line.text r in
-    lines_plan dedent n (slice_range (lines line.text) first (final_line line.text r + 1)) (start_of_line line.text first) line.cursor
+indent_plan line mvt n dedent = shift_lines_plan line (indented_lines line mvt) dedent n
 
 -- whether a byte goes in or out then
 abbrev pub indent_changes : Line → Movement → ℕ → Bool → Bool

@@ -1,6 +1,7 @@
 pub mod LineStarts
 pub mod Line
 pub mod RoomyLine
+pub mod Gapped
 pub mod LineRanges
 pub mod Plan
 pub mod Motions
@@ -20,5 +21,7 @@ pub mod Forgetting
 pub mod Trying
 pub mod Undo
 pub mod Walk
+pub mod Blocks
+pub mod Retrace
 pub mod Calls
 pub mod SavedRecord

@@ -1,50 +1,72 @@
 -- The rows of a screen on which each line of a text is laid out by itself, and where motions over them go.
-use Rattle.std.specs.Prelude.{◌≡◌, ℕ, zero, suc, ◌+◌, ◌-◌, ◌<◌, ◌≤◌, List, length, Option, Some, None, unwrap_or, MatchOption}
-use Rattle.rl_base.specs.Lines.{last_line, line_number, start_of_line, text_of_line}
-use Rattle.rl_base.specs.Screen.{cell, place_at, rows}
+use Rattle.std.specs.Prelude.{◌≡◌, ◌&&◌, ℕ, ◌+◌, ◌-◌, ◌<◌, ◌≤◌, nat_le, nat_lt, List, length, slice_range, Option, Some, None, unwrap_or, MatchOption, if◌then◌else◌}
+use Rattle.rl_base.specs.Lines.{end_of_line, last_line, line_number, start_of_line}
+use Rattle.rl_base.specs.Screen.{cell, place_at, rows, screen_from}
 use Rattle.rl_base.specs.declared.screen.Screen.{Screen}
 
--- the screen as line k has it: a line after the first begins after the other prompt
-abbrev pub on_line : Screen → ℕ → Screen
-on_line screen zero = screen
-on_line screen (suc k) = record screen { prompt = screen.continuation }
+module _ (text : List ℕ) where
+  -- what follows a place in line k
+  abbrev pub rest_of_line : ℕ → ℕ → List ℕ
+  rest_of_line k from = slice_range text from (end_of_line text k)
+
+  -- the start of the line of a place
+  abbrev pub own_start : ℕ → ℕ
+  own_start place = start_of_line text (line_number text place)
+
+  -- where the line of a place is laid out from: at the given place, if that lies between the line's start and the place
+  abbrev pub near : Option ℕ → ℕ → ℕ
+  near None place = own_start place
+  near (Some from) place = if nat_le (own_start place) from && nat_le from place then from else own_start place
 
 module _ (screen : Screen) (text : List ℕ) where
-  -- how many rows line k takes; one that ends at the right edge has one more, for the cursor there
-  abbrev pub height : ℕ → ℕ
-  height k = length (rows (on_line screen k) (text_of_line text k))
+  -- how many rows that takes, if a row begins at the place; one that ends at the right edge has one more, for the cursor there
+  abbrev pub height : ℕ → ℕ → ℕ
+  height k from = length (rows (screen_from screen text from) (rest_of_line text k from))
 
-  -- the row of a place in line k, from 0, and its column there
-  abbrev pub cell_in_line : ℕ → ℕ → ℕ × ℕ
-  cell_in_line k place = cell (on_line screen k) (text_of_line text k) (place - start_of_line text k)
+  -- the row of a later place of the line, from 0, and its column there
+  abbrev pub cell_after : ℕ → ℕ → ℕ → ℕ × ℕ
+  cell_after k from place = cell (screen_from screen text from) (rest_of_line text k from) (place - from)
 
-  -- the row and the column of a place in the line that it lies in
-  abbrev pub own_cell : ℕ → ℕ × ℕ
-  own_cell place = cell_in_line (line_number text place) place
+  -- the place at a column of such a row, or the last one before that column
+  abbrev pub place_in_row : ℕ → ℕ → ℕ → ℕ → ℕ
+  place_in_row k from row column = from + place_at (screen_from screen text from) (rest_of_line text k from) (row, column)
 
-  -- the place at a column of a row of line k, or the last one before that column
-  abbrev pub place_in_row : ℕ → ℕ → ℕ → ℕ
-  place_in_row k row column = start_of_line text k + place_at (on_line screen k) (text_of_line text k) (row, column)
+  -- for a motion up by n rows: at the line's start, if the given place lies below the row that it leads to
+  abbrev pub near_above : Option ℕ → ℕ → ℕ → ℕ
+  near_above given n place = if nat_lt n (cell_after (line_number text place) (near text given place) place).0 then near text given place else own_start text place
 
-  -- the row that lies n rows below a row of line k, by its line and its number there: in that line, or n rows less in the next;
-  -- none below the last line
-  pub data Below : ℕ → ℕ → ℕ → Option (ℕ × ℕ) → Type 0 where
-    stays_below : {k row n : ℕ} → row + n < height k → Below k row n (Some (k, row + n))
-    goes_below : {k row n left : ℕ} {to : Option (ℕ × ℕ)} → k < last_line text → row + n ≡ height k + left → Below (k + 1) 0 left to → Below k row n to
-    stops_below : {k row n : ℕ} → k ≡ last_line text → height k ≤ row + n → Below k row n None
+  -- the row that lies n rows below a row of line k, by its line, where that is laid out from, and its number there: in that line, or
+  -- n rows less in the next; none below the last line
+  pub data Below : ℕ → ℕ → ℕ → ℕ → Option (ℕ × (ℕ × ℕ)) → Type 0 where
+    stays_below : {k from row n : ℕ} → row + n < height k from → Below k from row n (Some (k, (from, row + n)))
+    goes_below : {k from row n left : ℕ} {to : Option (ℕ × (ℕ × ℕ))} → k < last_line text → row + n ≡ height k from + left
+        → Below (k + 1) (start_of_line text (k + 1)) 0 left to → Below k from row n to
+    stops_below : {k from row n : ℕ} → k ≡ last_line text → height k from ≤ row + n → Below k from row n None
 
   -- the row that lies n rows above a row of line k: in that line, or in the one before, counted from its last row; none above
   -- the first line
-  pub data Above : ℕ → ℕ → ℕ → Option (ℕ × ℕ) → Type 0 where
-    stays_above : {k row n : ℕ} → n ≤ row → Above k row n (Some (k, row - n))
-    goes_above : {k row n left : ℕ} {to : Option (ℕ × ℕ)} → n ≡ row + 1 + left → Above k (height k - 1) left to → Above (k + 1) row n to
-    stops_above : {row n : ℕ} → row < n → Above 0 row n None
-
-  -- the column to which motions by rows keep: the one that is given, or that of the place
-  abbrev pub kept_column : Option ℕ → ℕ → ℕ
-  kept_column given place = unwrap_or given (own_cell place).1
+  pub data Above : ℕ → ℕ → ℕ → ℕ → Option (ℕ × (ℕ × ℕ)) → Type 0 where
+    stays_above : {k from row n : ℕ} → n ≤ row → Above k from row n (Some (k, (from, row - n)))
+    goes_above : {k from row n left : ℕ} {to : Option (ℕ × (ℕ × ℕ))} → n ≡ row + 1 + left
+        → Above k (start_of_line text k) (height k (start_of_line text k) - 1) left to → Above (k + 1) from row n to
+    stops_above : {from row n : ℕ} → row < n → Above 0 from row n None
 
   -- a motion by rows tells the place at the column of the row that it comes to, and that column; nothing if there is no such row
-  abbrev pub Tells : (Option (ℕ × ℕ) → Type 0) → ℕ → Option (ℕ × ℕ) → Type 0
+  abbrev pub Tells : (Option (ℕ × (ℕ × ℕ)) → Type 0) → ℕ → Option (ℕ × ℕ) → Type 0
   Tells Comes column told =
-      MatchOption told (Comes None) (λ t. (to : ℕ × ℕ) × Comes (Some to) × (t ≡ (place_in_row to.0 to.1 column, column)))
+      MatchOption told (Comes None) (λ t. (to : ℕ × (ℕ × ℕ)) × Comes (Some to) × (t ≡ (place_in_row to.0 to.1.0 to.1.1 column, column)))
+
+  -- the motions of a place by n rows: to the given column, or to that of the place
+  abbrev pub TellsBelow : Option ℕ → ℕ → Option ℕ → ℕ → Option (ℕ × ℕ) → Type 0
+  TellsBelow given n column place told =
+      let k = line_number text place in
+      let from = near text given place in
+      let at = cell_after k from place in
+      Tells (Below k from at.0 n) (unwrap_or column at.1) told
+
+  abbrev pub TellsAbove : Option ℕ → ℕ → Option ℕ → ℕ → Option (ℕ × ℕ) → Type 0
+  TellsAbove given n column place told =
+      let k = line_number text place in
+      let from = near_above given n place in
+      let at = cell_after k from place in
+      Tells (Above k from at.0 n) (unwrap_or column at.1) told

@@ -50,6 +50,13 @@ opens (Whole es ∷ us) = opens us
 abbrev pub level : List Entry → ℕ
 level es = opens (units es)
 
+-- whether the oldest unit is the Begin of an open group, of units that are listed the latest first
+abbrev pub oldest_is_open : List UndoUnit → Bool
+oldest_is_open [] = false
+oldest_is_open (Open ∷ []) = true
+oldest_is_open (Whole es ∷ []) = false
+oldest_is_open (u ∷ (v ∷ vs)) = oldest_is_open (v ∷ vs)
+
 -- the units that an undo of n takes off: the last n, at least one, or all if there are fewer
 abbrev pub last_units : ℕ → List Entry → List UndoUnit
 last_units n es = take (max n 1) (units es)

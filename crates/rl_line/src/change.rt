@@ -8,6 +8,7 @@ ghost use Rattle.rl_base.specs.declared.listeners.Refusal.TheVariants.{NoMemory}
 ghost use Rattle.rl_line.specs.Plan.{NeverRefuses, listener_after};
 ghost use Rattle.rl_line.specs.Record.{bytes_back, cursors_of, entry_of, event_of, freshness_joined, freshness_told, inverse, is_parted, new_text, old_text, with_cursors, flipped, swapped};
 ghost use Rattle.rl_line.specs.Undo.{Reaches, count_over, cursor_after, cursor_told, cursor_stands, line_back, steps_ahead};
+ghost use Rattle.rl_line.specs.Retrace.{walk_after};
 ghost use Rattle.rl_line.specs.Walk.{WalksOver};
 ghost use Rattle.rl_line.specs.Units.{is_begin, is_change, is_end};
 ghost use Rattle.rl_line.specs.Change.{Outgrows, text_after, text_back, place, entry_to_undo, greatest_back_over, length_back, order, entries_to_undo, way_back};
@@ -322,6 +323,23 @@ impl Change {
         }
     }
 
+    // Goes over the change in a text, if it fits there, and its cursors, if they were told, stand between two characters before
+    // it and after. Answers whether all that is so.
+    #[tactic(auto, using(crate::proofs::Records::RetraceLemmas::both_cursors))]
+    fn walks(&self, text: &mut Patched, way: Way) -> Result<bool, Refusal>
+        ensures walks { IfOk result (λ walks. walks ≡ is_some (walk_after (inverse (entry_to_undo way self.now)) text.old)) }
+        ensures done { IfOk result (λ walks. walks ≡ true → walk_after (inverse (entry_to_undo way self.now)) text.old ≡ Some text.new) }
+        ensures err { IfErr result (λ r. r ≡ NoMemory) }
+    {
+        if !self.stands(text, way.back(), true) {
+            return Ok(false);
+        }
+        if !self.patch(text, way)? {
+            return Ok(false);
+        }
+        Ok(self.stands(text, way, true))
+    }
+
     /// Whether a text can go over the change, so that the cursor, if it was told, stands between two characters then. It looks
     /// only where the change and the cursor are.
     #[tactic(auto, using(crate::proofs::Records::ChangeLemmas::over_one))]
@@ -334,23 +352,6 @@ impl Change {
             None => true,
         }
     }
-}
-
-/// Goes over a change in a line, which has room for the result.
-pub(crate) fn go_over(line: &mut RoomyLine, change: &Change, way: Way)
-    requires follows { IsSome (line_back (entry_to_undo way change.now ∷ []) line.old.line) }
-    requires room { length_back (entry_to_undo way change.now) (length line.old.line.text) ≤ line.old.bytes }
-    ensures line { line_back (entry_to_undo way change.now ∷ []) line.old.line ≡ Some line.new.line }
-    ensures bytes { line.old.bytes ≤ line.new.bytes }
-{
-    // So the proof knows that this is UTF-8, and within the limit.
-    let _text = line.text.as_str();
-    let Some(place) = change.place() else {
-        return;
-    };
-    let (going, coming) = change.texts(way);
-    let after = change.cursor_over(way).unwrap_or(place + coming.len());
-    line.swap_in(place, place + going.len(), coming, after);
 }
 
 /// Tells a listener that a text gave way to another, and that the cursor went from `before` to `after`. Inlined, since an
@@ -406,21 +407,22 @@ pub(crate) fn nth_on(way: Way, changes: &[Change], left: usize) -> &Change
     }
 }
 
-/// Finds room for the longest text on the way over the changes. Inlined, as `nth_on` is, so that the way is known at
-/// compile time.
+/// Finds room for the longest text on the way over the changes, and answers how much longer that is. Inlined, as `nth_on`
+/// is, so that the way is known at compile time.
 #[inline(always)]
 pub(crate) fn find_room_over(
     line: &mut RoomyLine,
     changes: &[Change],
     way: Way,
-) -> Result<(), Refusal>
+) -> Result<usize, Refusal>
     ensures line { line.new.line ≡ line.old.line }
-    ensures room { OnOk result (greatest_back_over (entries_to_undo way changes.now) (length line.old.line.text) ≤ line.new.bytes) }
+    ensures growth { IfOk result (λ growth. length line.old.line.text + growth ≡ greatest_back_over (entries_to_undo way changes.now) (length line.old.line.text)) }
+    ensures room { IfOk result (λ growth. length line.old.line.text + growth ≤ line.new.bytes) }
     ensures err { IfErr result (λ r. (r ≡ NoMemory) × Outgrows (entries_to_undo way changes.now) (length line.old.line.text)) }
 {
     let growth = growth_over(changes, way, line.len())?;
     line.find_room(growth)?;
-    Ok(())
+    Ok(growth)
 }
 
 // The most by which a text of `len` bytes grows on the way over the changes. Inlined, so that the way is known at compile
@@ -444,8 +446,8 @@ fn growth_over(changes: &[Change], way: Way, len: usize) -> Result<usize, Refusa
     Ok(longest - len)
 }
 
-/// Whether a text can go over the changes and come back, with each cursor that was told standing between two characters.
-#[tactic(auto, using(crate::proofs::Records::RetraceLemmas::retraces))]
+/// Whether a text can go over the changes, with both cursors of each, if they were told, standing between two characters. So
+/// it can come back, too.
 pub(crate) fn retraces(
     alloc: Global,
     text: &str,
@@ -455,10 +457,16 @@ pub(crate) fn retraces(
     ensures ok { IfOk result (λ answer. answer ≡ true ↔ WalksOver way (map entry_of changes.now) text.now) }
     ensures err { IfErr result (λ r. r ≡ NoMemory) }
 {
-    let Some(there) = text_over(alloc, text, changes, way, true)? else {
-        return Ok(false);
-    };
-    Ok(patch_over(alloc, there.as_str(), changes, way.back(), true)?.is_some())
+    let mut now = Patched::new(alloc, text);
+    let mut left = changes.len();
+    while left > 0 {
+        left -= 1;
+        let change = nth_on(way, changes, left);
+        if !change.walks(&mut now, way)? {
+            return Ok(false);
+        }
+    }
+    Ok(true)
 }
 
 /// Whether a text of `len` bytes keeps to a limit all the way over the changes.
@@ -516,8 +524,8 @@ pub(crate) fn text_over(
     changes: &[Change],
     way: Way,
     asks: bool,
-) -> Result<Option<String>, Refusal>
-    ensures ok { IfOk result (λ over. option_map string_bytes over ≡ text_back asks (entries_to_undo way changes.now) text.now) }
+) -> Result<Option<Vec<u8>>, Refusal>
+    ensures ok { IfOk result (λ over. option_map (λ text. text.items) over ≡ text_back asks (entries_to_undo way changes.now) text.now) }
     ensures err { IfErr result (λ r. (r ≡ NoMemory) × (0 < length text.now + bytes_back (entries_to_undo way changes.now))) }
 {
     match patch_over(alloc, text, changes, way, asks)? {

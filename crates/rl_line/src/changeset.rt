@@ -1,5 +1,5 @@
 //! The record of the changes of a line, which undoes them, in groups where they were made in groups, and redoes them.
-ghost use Rattle.std.specs.Prelude.{◌≡◌, ◌<◌, ◌≤◌, ◌&&◌, not, [], ◌∷◌, ◌++◌, drop, map, min, take, true, false, length, All, IsSome, Some, IfOk, IfErr, IfSome, OnOk, OnErr};
+ghost use Rattle.std.specs.Prelude.{◌≡◌, ◌<◌, ◌≤◌, ◌&&◌, not, [], ◌∷◌, ◌++◌, drop, map, min, option_map, take, true, false, length, All, IsSome, Some, IfOk, IfErr, IfSome, OnOk, OnErr};
 ghost use Rattle.rl_base.specs.Event.{InsertChar, InsertStr, Delete, Replace};
 ghost use Rattle.rl_base.specs.declared.listeners.Direction.TheVariants.{Forward};
 ghost use Rattle.rl_base.specs.declared.listeners.Refusal.TheVariants.{NoMemory};
@@ -17,10 +17,9 @@ mod within;
 
 use self::questions::last_text;
 use crate::change::{Change, Freshness, Way, count_over};
-use crate::entries::{self, Entries};
-use crate::forgetting::oldest_len;
 use crate::line_buffer::LineBuffer;
-use crate::units;
+use crate::recent::Recent;
+use crate::{entries, units};
 use rl_base::{ChangeListener, DeleteListener, Direction, NoListener, Refusal, RepeatCount};
 use std::alloc::Global;
 use std::marker::Model;
@@ -35,7 +34,7 @@ use std::marker::Model;
 /// join, it keeps the first cursor before and the last one after.
 #[derive(Drop)]
 pub struct Changeset {
-    entries: Entries,
+    entries: Recent,
     // How many groups are open, so that no call has to count them over the whole record.
     level: usize,
 }
@@ -68,7 +67,7 @@ impl Changeset {
         ensures { result ≡ no_changes }
     {
         Changeset {
-            entries: Entries::new(alloc),
+            entries: Recent::new(alloc),
             level: 0,
         }
     }
@@ -91,15 +90,17 @@ impl Changeset {
         self.level
     }
 
-    /// How many units were made in the group that was opened last and is open; None if no group is open. An undo of no more
-    /// stays in that group.
-    pub fn units_in_group(&self) -> Option<usize>
-        ensures { result ≡ units_in_group self.now.recorded }
+    /// How many units were made in the group that was opened last and is open, or `most` if these are fewer; None if no
+    /// group is open. An undo of no more stays in that group. It looks at no more than `most` units, and the one before.
+    pub fn units_in_group(&self, most: RepeatCount) -> Option<RepeatCount>
+        ensures { result ≡ option_map (min most) (units_in_group self.now.recorded) }
     {
         if self.level == 0 {
             return None;
         }
-        Some(units::open_size(self.recorded()).saturating_sub(1))
+        let limit = usize::from(most);
+        let size = units::open_size_to(self.recorded(), limit + 1);
+        Some(size.saturating_sub(1).min(limit) as RepeatCount)
     }
 
     /// Whether an undo of one unit would find a change: something is recorded, and the last entry is not the begin of an
@@ -503,7 +504,8 @@ impl Changeset {
         Ok(changed)
     }
 
-    // What is recorded, and what waits to be redone.
+    // What is recorded, and what waits to be redone. Inlined, since a large caller would else keep two calls in each redo.
+    #[inline(always)]
     fn recorded(&self) -> &[Change]
         ensures entries { map entry_of result.now ≡ self.now.recorded }
         ensures matched { IsMatched (map entry_of result.now) }
@@ -511,6 +513,7 @@ impl Changeset {
         self.entries.recorded()
     }
 
+    #[inline(always)]
     fn pending(&self) -> &[Change]
         ensures entries { map entry_of result.now ≡ self.now.pending }
         ensures matched { IsMatched (map entry_of result.now) }
@@ -554,21 +557,22 @@ impl Changeset {
     /// Forgets the oldest changes and closed groups, one after another, as long as more than `entries` entries are
     /// recorded, or as their texts, old and new, have more than `bytes` bytes; `usize::MAX` is no bound. It never forgets
     /// a part of a group: it stops at the begin of an open one. What was undone stays, and an undo goes back to the text
-    /// with which the rest begins. It takes no memory. With no bound on bytes it costs nothing if so few are recorded.
-    // Inlined, so that it is a comparison then. If nothing is left recorded, the next change joins nothing, and
+    /// with which the rest begins. It takes no memory, and time for what it forgets and what was recorded since the last call.
+    // Inlined, so that it is two comparisons without a bound. If nothing is left recorded, the next change joins nothing, and
     // cursors that are told go to none, whatever `fresh` says.
     #[inline(always)]
     #[tactic(auto, using(crate::proofs::Records::ForgettingLemmas::none_forgotten))]
     pub fn forget(&mut self, entries: usize, bytes: usize)
         ensures { self.new ≡ forgotten entries bytes self.old }
     {
-        if self.entries.len() > entries {
-            self.forget_oldest(entries, bytes);
+        let len = self.entries.len();
+        if entries == usize::MAX && bytes == usize::MAX {
             return;
         }
-        if bytes < usize::MAX {
-            self.forget_oldest(entries, bytes);
+        if len <= entries && bytes == usize::MAX {
+            return;
         }
+        self.forget_oldest(entries, bytes);
     }
 
     // Forgets what is beyond the bound, if anything is.
@@ -576,8 +580,7 @@ impl Changeset {
     fn forget_oldest(&mut self, entries: usize, bytes: usize)
         ensures { self.new ≡ forgotten entries bytes self.old }
     {
-        let count = oldest_len(self.recorded(), entries, bytes);
-        self.entries.drop_first(count);
+        self.entries.forget(self.level, entries, bytes);
     }
 }
 

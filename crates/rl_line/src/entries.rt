@@ -1,13 +1,13 @@
 //! The entries of a record: what an event makes of them, and how its groups are closed. A function that records drops what
 //! was undone; refused, it leaves every entry.
-ghost use Rattle.std.specs.Prelude.{◌≡◌, ◌+◌, ◌^◌, ◌≤◌, ◌<◌, ◌-◌, [], ◌∷◌, ◌++◌, All, encode_utf8, length, map, take, drop, true, false, None, IfOk, IfErr, IfSome, OnOk, OnErr, reverse};
+ghost use Rattle.std.specs.Prelude.{◌≡◌, ◌+◌, ◌^◌, ◌≤◌, ◌<◌, ◌-◌, [], ◌∷◌, ◌++◌, All, encode_utf8, length, map, take, drop, set, true, false, None, IfOk, IfErr, IfSome, OnOk, OnErr, reverse};
 ghost use Rattle.std.specs.Option.{option_map_or};
 ghost use Rattle.std.specs.Vec.{vec_len, vec_capacity};
 ghost use Rattle.rl_base.specs.Event.{InsertChar, InsertStr, Delete, Replace, Cursors};
 ghost use Rattle.rl_base.specs.declared.listeners.Direction.TheVariants.{Forward};
 ghost use Rattle.rl_base.specs.declared.listeners.Refusal.TheVariants.{NoMemory};
 ghost use Rattle.rl_line.specs.declared.change.Freshness.TheVariants.{Added, Stale};
-ghost use Rattle.rl_line.specs.Record.{Begin, Changed, Insertion, IsOfKind, untold, entry_of, freshness_at, freshness_told, is_at, is_saved, kept_point, no_changes, parted, point_past, record_step, saved_here, arrived, flipped, inverse};
+ghost use Rattle.rl_line.specs.Record.{Begin, Changed, End, Insertion, IsOfKind, untold, entry_of, freshness_at, freshness_told, is_at, is_saved, kept_point, no_changes, parted, point_past, record_step, saved_here, arrived, flipped, inverse};
 ghost use Rattle.rl_line.specs.Units.{adds_end, end_one, end_times, ends_in_begin, ends_in_end, grouped_from, point_closed, point_moved, still_waiting, truncated, with_closed, IsMatched, level, there_and_back};
 ghost use Rattle.rl_line.specs.Entries.{Joins, added, cut_at, settled};
 
@@ -110,6 +110,7 @@ impl Entries {
         self.list.as_slice()
     }
 
+    #[inline(always)]
     #[tactic(auto, using(crate::proofs::Records::MoveLemmas::parts_of_lists))]
     pub(crate) fn recorded(&self) -> &[Change]
         ensures { map entry_of result.now ≡ self.now.recorded }
@@ -117,6 +118,7 @@ impl Entries {
         &self.list[..self.recorded]
     }
 
+    #[inline(always)]
     #[tactic(auto, using(crate::proofs::Records::MoveLemmas::parts_of_lists))]
     pub(crate) fn pending(&self) -> &[Change]
         ensures { map entry_of result.now ≡ self.now.pending }
@@ -443,6 +445,14 @@ impl Entries {
         self.fresh = freshness_at(self.recorded, self.saved);
     }
 
+    /// Makes an End of a recorded entry, whose texts are dropped.
+    pub(crate) fn blank(&mut self, at: usize)
+        requires { at < length self.old.recorded }
+        ensures { self.new ≡ record self.old { recorded = set self.old.recorded at End } }
+    {
+        self.list[at] = Change::End;
+    }
+
     /// Drops the first `count` entries. The others move once.
     pub(crate) fn drop_first(&mut self, count: usize)
         requires { count ≤ length self.old.recorded }
@@ -483,7 +493,7 @@ fn kept_point(saved: Option<usize>, len: usize) -> Option<usize>
 }
 
 /// The save point once the first `count` entries are gone.
-fn point_past(saved: Option<usize>, count: usize) -> Option<usize>
+pub(crate) fn point_past(saved: Option<usize>, count: usize) -> Option<usize>
     ensures { result ≡ point_past count saved }
 {
     saved?.checked_sub(count)

@@ -25,7 +25,8 @@ mod ranges;
 mod rows;
 mod transpositions;
 
-use crate::change::{Change, Way, find_room_over, go_over, nth_on, tell_over, tell_swap};
+use crate::change::{Change, Way, find_room_over, tell_swap};
+use crate::going::{gap_range, go_over_each, go_over_with_gap};
 use crate::patched::leads_by;
 use crate::roomy_line::RoomyLine;
 pub use deletions::{can_delete_by, is_by_characters, kill_agrees_with_copy};
@@ -317,9 +318,9 @@ impl LineBuffer {
         };
         let (going, coming) = change.texts(way);
         let to = at + going.len();
+        let after = change.cursor_over(way).unwrap_or(at + coming.len());
         self.line.find_room_instead(at, to, coming)?;
         let before = self.line.pos();
-        let after = change.cursor_over(way).unwrap_or(at + coming.len());
         self.line.swap_in(at, to, coming, after);
         tell_swap(at, going, coming, before, after, listener);
         Ok(())
@@ -372,14 +373,10 @@ impl LineBuffer {
     {
         // So the proof knows that this is UTF-8.
         let _text = self.line.as_str();
-        find_room_over(&mut self.line, changes, way)?;
-        let mut left = changes.len();
-        while left > 0 {
-            left -= 1;
-            let change = nth_on(way, changes, left);
-            let before = self.line.pos();
-            go_over(&mut self.line, change, way);
-            tell_over(change, way, before, self.line.pos(), listener);
+        let growth = find_room_over(&mut self.line, changes, way)?;
+        match gap_range(changes, way, self.line.len(), growth) {
+            Some(range) => go_over_with_gap(&mut self.line, changes, way, range, growth, listener),
+            None => go_over_each(&mut self.line, changes, way, listener),
         }
         Ok(())
     }

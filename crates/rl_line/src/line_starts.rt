@@ -1,5 +1,5 @@
 //! The table of a line's text: the places right after its newlines, in order, where its lines begin except the first.
-ghost use Rattle.std.specs.Prelude.{◌≡◌, [], ◌+◌, ◌-◌, ◌^◌, ◌<◌, ◌≤◌, ◌++◌, ◌==◌, ◌&&◌, nat_le, true, All, map, take, drop, get_or, length, count_by, encode_utf8, vec_len, vec_capacity};
+ghost use Rattle.std.specs.Prelude.{◌≡◌, List, ℕ, [], ◌+◌, ◌-◌, ◌^◌, ◌<◌, ◌≤◌, ◌++◌, ◌==◌, ◌&&◌, nat_le, true, All, map, take, drop, get_or, length, count_by, encode_utf8, vec_len, vec_capacity};
 ghost use Rattle.std.specs.List.{insert_slice, replace_range};
 ghost use Rattle.std.specs.Str.{IsCharBoundary};
 ghost use Rattle.rl_base.specs.Lines.{is_newline, line_number};
@@ -244,10 +244,12 @@ pub(crate) fn exchange_starts(
     part: &str,
     come: usize,
 ) -> bool
-    requires range { IsRange text.now from to }
+    requires order { from ≤ to }
+    requires end { to ≤ length text.now }
     requires table { IsTable starts.old.places.items starts.old.border text.now }
     requires come { come ≡ count_by is_newline part.now }
-    ensures { result ≡ true → IsTable starts.new.places.items starts.new.border (replace_range text.now from to part.now) }
+    ensures table { result ≡ true → IsTable starts.new.places.items starts.new.border (replace_range text.now from to part.now) }
+    ensures border { result ≡ true → starts.new.border ≡ line_number text.now from + come }
 {
     let first = starts.line_number(text, from);
     starts.move_border(text, first);
@@ -255,11 +257,34 @@ pub(crate) fn exchange_starts(
         return true;
     }
     let gone = starts.line_number(text, to) - first;
+    put_starts(starts, gone, from, part.as_bytes(), come)
+}
+
+/// Updates it for a part that comes back at a place where the border is.
+pub(crate) fn fill_starts(starts: &mut LineStarts, at: usize, part: &[u8]) -> bool
+    requires within { starts.old.border ≤ vec_len starts.old.places }
+    requires fits { at + length part.now < 2 ^ 64 }
+    ensures { result ≡ true → (text : List ℕ) → IsTable starts.old.places.items starts.old.border text → at ≤ length text → starts.old.border ≡ line_number text at → IsTable starts.new.places.items starts.new.border (replace_range text at at part.now) }
+{
+    let come = newlines(part);
+    put_starts(starts, 0, at, part, come)
+}
+
+// At the border, which is at a place, `gone` starts give way to those of a part with `come` newlines.
+#[inline(always)]
+fn put_starts(starts: &mut LineStarts, gone: usize, at: usize, part: &[u8], come: usize) -> bool
+    requires within { starts.old.border + gone ≤ vec_len starts.old.places }
+    requires come { come ≡ count_by is_newline part.now }
+    requires fits { at + length part.now < 2 ^ 64 }
+    ensures places { result ≡ true → starts.new.places.items ≡ take starts.old.border starts.old.places.items ++ (after_newlines (at + 1) part.now ++ drop (starts.old.border + gone) starts.old.places.items) }
+    ensures border { result ≡ true → starts.new.border ≡ starts.old.border + come }
+{
+    let first = starts.border;
     if starts.places.reserve(come.saturating_sub(gone)).is_err() {
         return false;
     }
     open_gap(&mut starts.places, first, gone, come);
-    put_after_newlines(&mut starts.places[first..], from, part);
+    put_after_newlines(&mut starts.places[first..], at, part);
     starts.border = first + come;
     true
 }
@@ -303,13 +328,13 @@ fn open_gap(places: &mut Vec<usize>, at: usize, gone: usize, come: usize)
 // Puts the places after the newlines of a part that begins at `at` before those that stay.
 #[inline(never)]
 #[tactic(auto, using(crate::proofs::Lines::LineStartLemmas::found_starts))]
-fn put_after_newlines(places: &mut [usize], at: usize, part: &str)
+fn put_after_newlines(places: &mut [usize], at: usize, part: &[u8])
     requires within { count_by is_newline part.now ≤ length places.old }
     requires fits { at + length part.now < 2 ^ 64 }
     ensures { places.new ≡ after_newlines (at + 1) part.now ++ drop (count_by is_newline part.now) places.old }
 {
     let mut n = 0;
-    for newline in memchr_iter(b'\n', part.as_bytes()) {
+    for newline in memchr_iter(b'\n', part) {
         places[n] = at + newline + 1;
         n += 1;
     }

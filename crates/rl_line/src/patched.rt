@@ -1,14 +1,13 @@
 //! A text that changes in one part, without a copy of what stands around it.
-ghost use Rattle.std.specs.Prelude.{◌≡◌, ◌<◌, ◌≤◌, ◌+◌, ◌&&◌, length, true, IfErr, IfOk, OnOk};
+ghost use Rattle.std.specs.Prelude.{◌≡◌, ◌<◌, ◌≤◌, ◌+◌, ◌&&◌, length, true, false, IfErr, IfOk, OnOk};
 ghost use Rattle.std.specs.List.{replace_range};
 ghost use Rattle.std.specs.Option.{option_map_or};
-ghost use Rattle.std.specs.Str.{IsCharBoundary};
-ghost use Rattle.std.specs.String.{string_bytes};
+ghost use Rattle.std.specs.Str.{IsCharBoundary, IsUtf8};
 ghost use Rattle.rl_base.specs.Text.{is_boundary, stands_at};
 ghost use Rattle.rl_base.specs.declared.listeners.Refusal.TheVariants.{NoMemory};
 ghost use Rattle.rl_line.specs.LineRanges.{IsRange};
 
-use crate::swap::swap_text;
+use crate::blocks::{Blocks, Part};
 use rl_base::Refusal;
 use std::alloc::Global;
 use std::marker::Model;
@@ -20,21 +19,20 @@ pub(crate) struct Patched<'t> {
     from: usize,
     to: usize,
     // What stands there instead of what the text has from `from` to `to`.
-    part: String,
+    part: Blocks,
 }
 
 impl<'t> Model for Patched<'t> {
     ghost use Rattle.std.specs.Prelude.{ℕ, List};
     ghost use Rattle.std.specs.List.{replace_range};
     ghost use Rattle.std.specs.Str.{IsUtf8};
-    ghost use Rattle.std.specs.String.{string_bytes};
     ghost use Rattle.rl_line.specs.LineRanges.{IsRange};
 
     ghost Value = { List ℕ };
 
-    ghost view = { λ p. replace_range p.text.now p.from p.to (string_bytes p.part) };
+    ghost view = { λ p. replace_range p.text.now p.from p.to p.part };
 
-    ghost invariant = { λ p. IsUtf8 p.text.now × IsRange p.text.now p.from p.to };
+    ghost invariant = { λ p. IsUtf8 p.text.now × IsRange p.text.now p.from p.to × IsUtf8 p.part };
 }
 
 impl<'t> Patched<'t> {
@@ -47,7 +45,7 @@ impl<'t> Patched<'t> {
             text,
             from: 0,
             to: 0,
-            part: String::new(alloc),
+            part: Blocks::new(alloc),
         }
     }
 
@@ -55,18 +53,7 @@ impl<'t> Patched<'t> {
     pub(crate) fn is_boundary(&self, at: usize) -> bool
         ensures { result ≡ is_boundary self.now at }
     {
-        is_boundary_with(self.text, self.from, self.to, self.part.as_str(), at)
-    }
-
-    // If nothing gave way yet, the part may be anywhere: it begins here, so that nothing before is copied.
-    fn begin_at(&mut self, at: usize)
-        requires { IsCharBoundary self.old at }
-        ensures { self.new ≡ self.old }
-    {
-        if self.part.is_empty() && self.from == self.to {
-            self.from = at;
-            self.to = at;
-        }
+        is_boundary_in(self.text, self.from, self.to, &self.part, at)
     }
 
     /// Replaces a text at a place by another, if it stands there. Answers whether it does.
@@ -77,87 +64,153 @@ impl<'t> Patched<'t> {
         ensures err { IfErr result (λ r. (r ≡ NoMemory) × (0 < length self.old + length coming.now)) }
     {
         // So the proof knows how long a text can be.
-        let _len = self.text.len();
+        let (_text, _part) = (self.text.len(), self.part.len());
         let Some(end) = at.checked_add(going.len()) else {
             return Ok(false);
         };
-        if !self.is_boundary(at) {
+        if !reach(
+            self.text,
+            &mut self.from,
+            &mut self.to,
+            &mut self.part,
+            at,
+            end,
+        )? {
             return Ok(false);
         }
-        if !self.is_boundary(end) {
-            return Ok(false);
-        }
-        self.begin_at(at);
-        widen_down(self.text, &mut self.from, self.to, &mut self.part, at)?;
-        widen_up(self.text, self.from, &mut self.to, &mut self.part, end)?;
         let start = at - self.from;
-        if !stands_at(self.part.as_str(), start, going) {
+        if !self.part.stands_at(start, going) {
             return Ok(false);
         }
-        self.part.reserve(coming.len())?;
-        swap_text(&mut self.part, start, start + going.len(), coming);
+        self.part.remove(start, going.len());
+        self.part.insert(start, coming.as_bytes())?;
         Ok(true)
     }
 
     /// A copy of the text as it is now.
-    pub(crate) fn whole(&self, alloc: Global) -> Result<String, Refusal>
-        ensures ok { IfOk result (λ text. string_bytes text ≡ self.now) }
+    pub(crate) fn whole(&self, alloc: Global) -> Result<Vec<u8>, Refusal>
+        ensures ok { IfOk result (λ text. text.items ≡ self.now) }
         ensures err { IfErr result (λ r. (r ≡ NoMemory) × (0 < length self.now)) }
     {
-        let mut whole = String::new(alloc);
-        whole.push_str(&self.text[..self.from])?;
-        whole.push_str(self.part.as_str())?;
-        whole.push_str(&self.text[self.to..])?;
+        let mut whole = Vec::new(alloc);
+        whole.extend_from_slice(self.text[..self.from].as_bytes())?;
+        self.part.copy_to(&mut whole)?;
+        whole.extend_from_slice(self.text[self.to..].as_bytes())?;
         Ok(whole)
     }
 }
 
-// Widens the part that gave way down to a place.
-#[tactic(auto, using(crate::proofs::Records::PatchLemmas::widened))]
+// Whether a character begins at a place of a text whose part gave way.
+fn is_boundary_in(text: &str, from: usize, to: usize, part: &Blocks, at: usize) -> bool
+    requires patch { IsRange text.now from to }
+    requires utf8 { IsUtf8 part.now }
+    ensures { result ≡ is_boundary (replace_range text.now from to part.now) at }
+{
+    if at <= from {
+        return text.is_char_boundary(at);
+    }
+    let past = at - from;
+    let size = part.size();
+    if past <= size {
+        return part.is_boundary(past);
+    }
+    match (past - size).checked_add(to) {
+        Some(there) => text.is_char_boundary(there),
+        None => false,
+    }
+}
+
+// Widens the part that gave way until two places lie in it, if they stand between two characters. Answers whether they do,
+// or they lay there before.
+#[tactic(auto, using(crate::proofs::Records::ReachLemmas::reaches))]
+fn reach(
+    text: &str,
+    from: &mut usize,
+    to: &mut usize,
+    part: &mut Blocks,
+    at: usize,
+    end: usize,
+) -> Result<bool, Refusal>
+    requires order { at ≤ end }
+    requires patch { IsRange text.now from.old to.old }
+    requires utf8 { IsUtf8 part.old }
+    ensures patch { IsRange text.now from.new to.new }
+    ensures utf8 { IsUtf8 part.new }
+    ensures same { OnOk result (replace_range text.now from.new to.new part.new ≡ replace_range text.now from.old to.old part.old) }
+    ensures lies { IfOk result (λ lies. lies ≡ true → (from.new ≤ at) × (end ≤ from.new + length part.new)) }
+    ensures not { IfOk result (λ lies. lies ≡ false → ¬ (IsCharBoundary (replace_range text.now from.old to.old part.old) at × IsCharBoundary (replace_range text.now from.old to.old part.old) end)) }
+    ensures err { IfErr result (λ r. (r ≡ NoMemory) × (0 < length (replace_range text.now from.old to.old part.old))) }
+{
+    if *from <= at && end - *from <= part.size() {
+        return Ok(true);
+    }
+    if !is_boundary_in(text, *from, *to, part, at) {
+        return Ok(false);
+    }
+    if !is_boundary_in(text, *from, *to, part, end) {
+        return Ok(false);
+    }
+    widen_down(text, from, to, part, at)?;
+    widen_up(text, *from, to, part, end)?;
+    Ok(true)
+}
+
+// Widens the part that gave way down to a place. If nothing gave way yet, it may be anywhere: it begins there, so that
+// nothing is copied.
+#[tactic(auto, using(crate::proofs::Records::ReachLemmas::widens))]
 fn widen_down(
     text: &str,
     from: &mut usize,
-    to: usize,
-    part: &mut String,
+    to: &mut usize,
+    part: &mut Blocks,
     at: usize,
 ) -> Result<(), Refusal>
-    requires patch { IsRange text.now from.old to }
-    requires at { IsCharBoundary (replace_range text.now from.old to (string_bytes part.old)) at }
-    ensures patch { IsRange text.now from.new to }
-    ensures same { replace_range text.now from.new to (string_bytes part.new) ≡ replace_range text.now from.old to (string_bytes part.old) }
+    requires patch { IsRange text.now from.old to.old }
+    requires utf8 { IsUtf8 part.old }
+    requires at { IsCharBoundary (replace_range text.now from.old to.old part.old) at }
+    ensures patch { IsRange text.now from.new to.new }
+    ensures utf8 { IsUtf8 part.new }
+    ensures same { OnOk result (replace_range text.now from.new to.new part.new ≡ replace_range text.now from.old to.old part.old) }
     ensures holds { OnOk result (from.new ≤ at) }
-    ensures err { IfErr result (λ r. (r ≡ NoMemory) × (0 < length (replace_range text.now from.old to (string_bytes part.old)))) }
+    ensures err { IfErr result (λ r. (r ≡ NoMemory) × (0 < length (replace_range text.now from.old to.old part.old))) }
 {
+    if part.size() == 0 && *from == *to {
+        *from = at;
+        *to = at;
+        return Ok(());
+    }
     if *from <= at {
         return Ok(());
     }
-    part.insert_str(0, &text[at..*from])?;
+    part.insert(0, text[at..*from].as_bytes())?;
     *from = at;
     Ok(())
 }
 
 // Widens it up to a place.
-#[tactic(auto, using(crate::proofs::Records::PatchLemmas::widened))]
+#[tactic(auto, using(crate::proofs::Records::ReachLemmas::widens))]
 fn widen_up(
     text: &str,
     from: usize,
     to: &mut usize,
-    part: &mut String,
+    part: &mut Blocks,
     end: usize,
 ) -> Result<(), Refusal>
     requires patch { IsRange text.now from to.old }
-    requires end { IsCharBoundary (replace_range text.now from to.old (string_bytes part.old)) end }
+    requires utf8 { IsUtf8 part.old }
+    requires end { IsCharBoundary (replace_range text.now from to.old part.old) end }
     ensures patch { IsRange text.now from to.new }
-    ensures same { replace_range text.now from to.new (string_bytes part.new) ≡ replace_range text.now from to.old (string_bytes part.old) }
-    ensures holds { OnOk result (end ≤ from + length (string_bytes part.new)) }
-    ensures err { IfErr result (λ r. (r ≡ NoMemory) × (0 < length (replace_range text.now from to.old (string_bytes part.old)))) }
+    ensures utf8 { IsUtf8 part.new }
+    ensures same { OnOk result (replace_range text.now from to.new part.new ≡ replace_range text.now from to.old part.old) }
+    ensures holds { OnOk result (end ≤ from + length part.new) }
+    ensures err { IfErr result (λ r. (r ≡ NoMemory) × (0 < length (replace_range text.now from to.old part.old))) }
 {
-    let past = from + part.len();
-    if end <= past {
+    let (size, past) = (part.size(), end.saturating_sub(from));
+    if past <= size {
         return Ok(());
     }
-    let more = *to + (end - past);
-    part.push_str(&text[*to..more])?;
+    let more = *to + (past - size);
+    part.insert(size, text[*to..more].as_bytes())?;
     *to = more;
     Ok(())
 }

@@ -1,7 +1,7 @@
 //! The units of a list of entries, which an undo or a redo goes over, and how many groups are open after it.
-ghost use Rattle.std.specs.Prelude.{◌≡◌, ◌+◌, ◌^◌, ◌≤◌, ◌<◌, ◌&&◌, [], ◌∷◌, drop, length, nat_le, map, take, true, None, IfSome};
+ghost use Rattle.std.specs.Prelude.{◌≡◌, ◌+◌, ◌^◌, ◌≤◌, ◌<◌, ◌&&◌, [], ◌∷◌, drop, length, min, nat_le, map, take, true, None, IfSome};
 ghost use Rattle.rl_line.specs.Record.{entry_of};
-ghost use Rattle.rl_line.specs.Units.{IsMatched, has_change, is_change, is_whole, last_of, level, open_size, redo_of};
+ghost use Rattle.rl_line.specs.Units.{IsMatched, has_change, is_change, is_whole, last_of, level, oldest_is_open, open_size, redo_of, units};
 ghost use Rattle.rl_line.specs.Entries.{deep};
 
 use crate::change::Change;
@@ -85,6 +85,39 @@ pub(crate) fn level_at(entries: &[Change], len: usize, last: usize) -> usize
     level
 }
 
+/// Whether a group with which the entries begin, and that is open after the first `from` of them, is open after all. It counts
+/// back from the last entry, after which `last` groups are open, to see whether one is after each.
+#[tactic(auto, using(crate::proofs::Records::TallyLemmas::opens_at))]
+pub(crate) fn stays_open(entries: &[Change], from: usize, last: usize) -> bool
+    requires matched { IsMatched (map entry_of entries.now) }
+    requires last { last ≡ level (map entry_of entries.now) }
+    ensures { result ≡ true → oldest_is_open (units (take from (map entry_of entries.now))) ≡ true → oldest_is_open (units (map entry_of entries.now)) ≡ true }
+{
+    let mut groups = last;
+    let mut at = entries.len();
+    while at > from {
+        if groups == 0 {
+            return false;
+        }
+        at -= 1;
+        groups = level_before(&entries[at], groups);
+    }
+    true
+}
+
+// How many groups are open before an entry, if `level` are open after it, and some are.
+fn level_before(entry: &Change, level: usize) -> usize
+    requires some { 0 < level }
+    requires small { level < 2 ^ 63 }
+    ensures { deep result (entry_of entry.now ∷ []) ≡ level }
+{
+    match entry {
+        Change::Begin => level - 1,
+        Change::End => level + 1,
+        Change::Insert(_, _, _) | Change::Delete(_, _, _) | Change::Replace(_, _, _) => level,
+    }
+}
+
 /// The change that makes up the last `n` units, or the last unit if `n` is 0, if they are one change alone.
 #[inline(always)]
 #[tactic(auto, using(crate::proofs::Records::EntryLemmas::at_the_end))]
@@ -156,15 +189,27 @@ fn last_len(entries: &[Change], n: usize) -> usize
 }
 
 /// How many units the group has that was opened last and is open, its Begin among them; all if none is open.
-#[tactic(auto, using(crate::proofs::Records::EntryLemmas::sizes))]
 pub(crate) fn open_size(entries: &[Change]) -> usize
     requires { IsMatched (map entry_of entries.now) }
     ensures { result ≡ open_size (map entry_of entries.now) }
+{
+    open_size_to(entries, usize::MAX)
+}
+
+/// The same if it is less than `most`, else a number that is not: it looks at no more than the last `most` units.
+#[tactic(auto, using(crate::proofs::Records::EntryLemmas::sizes))]
+pub(crate) fn open_size_to(entries: &[Change], most: usize) -> usize
+    requires { IsMatched (map entry_of entries.now) }
+    ensures same { min most result ≡ min most (open_size (map entry_of entries.now)) }
+    ensures few { result ≤ length entries.now }
 {
     let mut units: usize = 0;
     let mut depth: usize = 0;
     let mut at = entries.len();
     while at > 0 {
+        if units >= most {
+            return units;
+        }
         at -= 1;
         match entries[at] {
             Change::Begin if depth == 0 => return units + 1,

@@ -56,7 +56,18 @@ fn the_oldest_changes_are_forgotten(rt: HostRuntime) -> Result<(), Fail> {
         (Call::Undo(1), 1, "ab", 2, 1, 0),
         (Call::Undo(9), 1, "a", 1, 0, 0),
     ];
-    goes(&rt, rt.alloc(), "", KEPT)
+    goes(&rt, rt.alloc(), "", KEPT)?;
+    // what was counted before an undo, and joined after it, is counted anew
+    const JOINED: &[Step] = &[
+        (Call::Yank("ab"), 1, "ab", 2, 1, 0),
+        (Call::Yank("c"), 1, "abc", 3, 2, 0),
+        (Call::Forget(9, 9), 1, "abc", 3, 2, 0),
+        (Call::Undo(1), 1, "ab", 2, 1, 0),
+        (Call::Insert('d', 1), 1, "abd", 3, 1, 0),
+        (Call::Forget(9, 3), 1, "abd", 3, 1, 0),
+        (Call::Forget(9, 2), 1, "abd", 3, 0, 0),
+    ];
+    goes(&rt, rt.alloc(), "", JOINED)
 }
 
 #[test]
@@ -113,8 +124,13 @@ fn no_part_of_a_group_is_forgotten(rt: HostRuntime) -> Result<(), Fail> {
         (Call::Undo(1), 1, "ab", 2, 3, 2),
         (Call::Redo, 1, "abc", 3, 4, 2),
         (Call::End, 1, "abc", 3, 6, 0),
-        (Call::Forget(6, 1), 1, "abc", 3, 0, 0),
-        (Call::Undo(1), 0, "abc", 3, 0, 0),
+        (Call::Reopen, 1, "abc", 3, 5, 1),
+        (Call::Forget(0, 0), 1, "abc", 3, 5, 1),
+        (Call::Yank("d"), 1, "abcd", 4, 6, 1),
+        (Call::End, 1, "abcd", 4, 7, 0),
+        (Call::Forget(7, 3), 1, "abcd", 4, 7, 0),
+        (Call::Forget(7, 2), 1, "abcd", 4, 0, 0),
+        (Call::Undo(1), 0, "abcd", 4, 0, 0),
     ];
     goes(&rt, rt.alloc(), "", OPEN)
 }

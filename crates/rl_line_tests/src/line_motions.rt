@@ -1,6 +1,6 @@
 //! Motions over lines, and their numbers, with answers from outside.
 use crate::line_buffer::{holds, line_of};
-use rl_base::{GraphemeClusterMode, Layout, Movement, RepeatCount, Unit};
+use rl_base::{GraphemeClusterMode, Layout, Movement, RepeatCount, Screen, Unit};
 use rl_line::LineBuffer;
 use std::alloc::Global;
 use std::process::Abort;
@@ -241,6 +241,66 @@ fn lines_are_numbered(rt: HostRuntime) -> Result<(), Fail> {
     ];
     for (text, pos, number, ranges) in ROWS {
         numbers(&rt, rt.alloc(), text, *pos, *number, ranges)?;
+    }
+    Ok(())
+}
+
+// Where a motion by rows leads, and the column that it keeps to.
+type Target = Option<(usize, usize)>;
+
+// A cursor goes one row up and down on a screen of four columns, and so if its line is laid out from that place.
+fn goes_by_rows(
+    rt: &impl Abort,
+    line: &LineBuffer,
+    from: usize,
+    above: Target,
+    below: Target,
+) -> Result<(), Fail> {
+    let screen = Screen {
+        mode: GraphemeClusterMode::Unicode,
+        columns: 4,
+        prompt: 1,
+        continuation: 2,
+        tab: 0,
+        controls: 0,
+    };
+    assert!(rt;
+        line.as_str().is_char_boundary(from),
+        "{from} is no boundary"
+    );
+    assert!(rt;
+        line.row_above(&screen, None, 1, None) == above,
+        "above, from {from}"
+    );
+    assert!(rt;
+        line.row_above(&screen, Some(from), 1, None) == above,
+        "above, by {from}"
+    );
+    assert!(rt;
+        line.row_below(&screen, None, 1, None) == below,
+        "below, from {from}"
+    );
+    assert!(rt;
+        line.row_below(&screen, Some(from), 1, None) == below,
+        "below, by {from}"
+    );
+    Ok(())
+}
+
+#[test]
+fn rows_above_and_below(rt: HostRuntime) -> Result<(), Fail> {
+    // The rows abc, defg, and an empty one; hi, and jk.
+    const ROWS: &[(usize, usize, Target, Target)] = &[
+        (5, 3, Some((1, 2)), Some((7, 2))),
+        (5, 0, Some((1, 2)), Some((7, 2))),
+        (7, 7, Some((3, 0)), Some((8, 0))),
+        (11, 10, Some((8, 1)), None),
+        (11, 3, Some((8, 1)), None),
+        (1, 3, None, Some((5, 2))),
+    ];
+    for (pos, from, above, below) in ROWS {
+        let line = line_of(&rt, rt.alloc(), "abcdefg\nhijk", *pos)?;
+        goes_by_rows(&rt, &line, *from, *above, *below)?;
     }
     Ok(())
 }

@@ -1,9 +1,10 @@
 -- A session as bytes.
 use Rattle.std.specs.Prelude.{◌≡◌, ◌<◌, ◌≤◌, ◌^◌, ℕ, Bool, true, false, List, [], ◌∷◌, ◌++◌, All, length}
 use Rattle.std.specs.Str.{IsCharBoundary, IsUtf8}
-use Rattle.md5.specs.Md5.{md5}
+use Rattle.std.specs.Int.{to_le_bytes, w64}
+use Rattle.rl_base.specs.Checksum.{xxh64}
 use Rattle.rl_base.specs.SavedRing.{IsSavedRing, saved_ring}
-use Rattle.rl_base.specs.Saving.{Fits, FitsLength, numbers}
+use Rattle.rl_base.specs.Saving.{Fits, numbers}
 use Rattle.rl_base.specs.Watch.{new_watch}
 use Rattle.rl_base.specs.declared.layout.GraphemeClusterMode.{GraphemeClusterMode}
 use Rattle.rl_base.specs.declared.layout.GraphemeClusterMode.TheVariants.{Unicode, WcWidth, NoZwj}
@@ -45,9 +46,13 @@ saved_state s = saved_line s ++ (saved_ring s.pair.ring ++ saved_record s.pair.c
 abbrev pub heading : List ℕ
 heading = 108 ∷ 111 ∷ 100 ∷ 118 ∷ 97 ∷ 114 ∷ 110 ∷ 1 ∷ []
 
+-- the checksum of bytes, its lowest byte first
+unfoldable pub checksum : List ℕ → List ℕ
+checksum bytes = to_le_bytes w64 (xxh64 bytes)
+
 -- bytes with the heading before them, and the checksum of both after them
 unfoldable pub sealed : List ℕ → List ℕ
-sealed bytes = (heading ++ bytes) ++ md5 (heading ++ bytes)
+sealed bytes = (heading ++ bytes) ++ checksum (heading ++ bytes)
 
 -- a session as bytes
 abbrev pub saved_session : State → List ℕ
@@ -69,7 +74,6 @@ pub record IsSavedState (s : State) : Type 0 where
   pub ring : IsSavedRing s.pair.ring
   pub changes : IsSavedRecord s.pair.changes
 
--- its texts and places are not too long to be saved
+-- the texts and places of its record are not too long to be saved
 pub record FitsSaving (s : State) : Type 0 where
-  pub ring : All FitsLength s.pair.ring.slots
   pub entries : All FitsEntry (s.pair.changes.recorded ++ s.pair.changes.pending)

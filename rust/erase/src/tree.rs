@@ -33,8 +33,8 @@ const LIBRARIES: &str = "rl_base rl_line rl_session";
 const FOR_C: &str = "rl_ffi";
 const PROGRAMS: &str = "rl_line_tests rl_refusals rl_script rl_tests";
 // The kit's ports, each with the modules that allocate or read, which are not needed.
-const PORTS: &str = "arrayvec array_vec impls iter, byteorder io, itoa, md5, \
-    memchr, ucd_bidi, ucd_breaks, ucd_category, ucd_derived, \
+const PORTS: &str = "arrayvec array_vec impls iter, byteorder io, itoa, memchr, \
+    ucd_bidi, ucd_breaks, ucd_category, ucd_derived, \
     ucd_emoji, ucd_table, unicode_segmentation, unicode_width";
 // What of the kit's core says how the case of a character changes.
 const CASES: [&str; 3] = ["case_tables", "cases", "tables"];

@@ -61,8 +61,8 @@ pub use record::Group;
 pub use texts::run_script;
 pub use texts::{clusters, first_cluster, last_cluster, width};
 pub use words::{
-    At, Case, CharSearch, Cluster, Direction, Error, Inserted, Mode, Movement, Options, Position,
-    ReportKind, RowTarget, Screen, Side, Word,
+    At, Case, CharSearch, Cluster, Direction, Error, Filled, Inserted, Mode, Movement, Options,
+    Position, ReportKind, RowTarget, Screen, Side, Word,
 };
 
 use alloc::vec::Vec;

@@ -2,8 +2,11 @@
 use crate::proved::rl_base;
 use crate::proved::rl_line::LineBuffer;
 use crate::proved::stand_in::alloc::Global;
-use crate::texts::{first_cluster, last_cluster};
-use crate::words::{Cluster, Direction, Error, Movement, Options, Position, RowTarget, Screen};
+use crate::proved::unicode_segmentation::UnicodeSegmentation;
+use crate::texts::{first_cluster, last_cluster, width};
+use crate::words::{
+    Cluster, Direction, Error, Filled, Mode, Movement, Options, Position, RowTarget, Screen,
+};
 use crate::{Core, Session};
 use core::ops::{Bound, Range, RangeBounds};
 use core::sync::atomic::Ordering;
@@ -172,38 +175,122 @@ impl Session {
         self.asked_at(from, movement, Core::destination)
     }
 
+    /// The byte offsets where the rows of the text begin on a screen, from a row that begins at the byte offset `from`,
+    /// itself the first: as many as fit go to `starts`. Gives how many these are, and where the next row begins, if one
+    /// follows. `from` is 0, the start of a line, or an offset that this method or [`Screen::rows`] gave. It reads the
+    /// text up to there.
+    ///
+    /// Two rows begin at one offset if no cluster fits in the first, as after a prompt up to the right edge. So that the
+    /// next offset leads on then, `starts` must have room for two.
+    ///
+    /// ```
+    /// # use lodvarn::{Error, Filled, Screen, Session};
+    /// let session = Session::builder().text("abcdef\nghi").open()?;
+    /// let mut starts = [0; 2];
+    /// let filled = session.rows_from(&Screen::new(4), 4, &mut starts)?;
+    /// assert_eq!((starts, filled), ([4, 7], Filled { count: 2, next: None }));
+    /// # Ok::<(), Error>(())
+    /// ```
+    /// # Errors
+    /// [`Error::BadOffset`].
+    pub fn rows_from(
+        &self,
+        on: &Screen,
+        from: usize,
+        starts: &mut [usize],
+    ) -> Result<Filled, Error> {
+        self.slice(from..)?;
+        let (count, next) = on.to_core().rows_from(self.text(), from, starts);
+        Ok(Filled { count, next })
+    }
+
+    /// The grapheme clusters of the text from the byte offset `from` on, with their columns in a mode, as many as fit in
+    /// `clusters`. Gives how many these are, and where the next one begins, if one follows. It reads the text up to
+    /// there.
+    /// # Errors
+    /// [`Error::BadOffset`].
+    pub fn clusters_from(
+        &self,
+        mode: Mode,
+        mut from: usize,
+        clusters: &mut [Cluster],
+    ) -> Result<Filled, Error> {
+        let mut count = 0;
+        for cluster in self.slice(from..)?.graphemes(true) {
+            let place = match clusters.get_mut(count) {
+                Some(place) => place,
+                None => {
+                    let next = Some(from);
+                    return Ok(Filled { count, next });
+                }
+            };
+            let (to, columns) = (from + cluster.len(), width(mode, cluster));
+            *place = Cluster { from, to, columns };
+            (count, from) = (count + 1, to);
+        }
+        let next = None;
+        Ok(Filled { count, next })
+    }
+
     /// Where the cursor goes `n` rows up on a screen: to the last offset of that row whose column is not after
     /// `column`, or the cursor's if it is `None`. `None` if there are fewer rows, or `n` is 0. Each line is laid out by
     /// itself, the first after the prompt of the screen, and the others after its continuation.
+    ///
+    /// In a long line give in `from` the start of a row of the cursor's line at or above the cursor's row and the one
+    /// it leads to, as given by [`rows_from`](Session::rows_from): the line is laid out only from there. `None` stands
+    /// for the start of the line, and so does an offset in another line or after the cursor, or below the row that it
+    /// leads to.
     ///
     /// ```
     /// # use lodvarn::{Error, RowTarget, Screen, Session};
     /// let (screen, column) = (Screen::new(4), 3);
     /// let mut session = Session::builder().text("abcdef\n\nghi").open()?;
-    /// let above = session.row_above(&screen, 1, None);
+    /// let above = session.row_above(&screen, 1, None, None)?;
     /// assert_eq!(above, Some(RowTarget { offset: 7, column }));
     /// session.set_pos(7)?;
-    /// let above = session.row_above(&screen, 2, Some(column));
+    /// let above = session.row_above(&screen, 2, Some(column), None)?;
     /// assert_eq!(above, Some(RowTarget { offset: 3, column }));
     /// # Ok::<(), Error>(())
     /// ```
-    #[must_use]
-    pub fn row_above(&self, on: &Screen, n: u16, column: Option<usize>) -> Option<RowTarget> {
-        if n == 0 {
-            return None;
-        }
-        let (offset, column) = self.lines().row_above(&on.to_core(), n, column)?;
-        Some(RowTarget { offset, column })
+    /// # Errors
+    /// [`Error::BadOffset`].
+    pub fn row_above(
+        &self,
+        on: &Screen,
+        n: u16,
+        column: Option<usize>,
+        from: Option<usize>,
+    ) -> Result<Option<RowTarget>, Error> {
+        let on = on.to_core();
+        self.row(from, n, |line| line.row_above(&on, from, n, column))
     }
 
     /// Where the cursor goes `n` rows down on a screen, as [`row_above`](Session::row_above) does for rows up.
-    #[must_use]
-    pub fn row_below(&self, on: &Screen, n: u16, column: Option<usize>) -> Option<RowTarget> {
+    /// # Errors
+    /// [`Error::BadOffset`].
+    pub fn row_below(
+        &self,
+        on: &Screen,
+        n: u16,
+        column: Option<usize>,
+        from: Option<usize>,
+    ) -> Result<Option<RowTarget>, Error> {
+        let on = on.to_core();
+        self.row(from, n, |line| line.row_below(&on, from, n, column))
+    }
+
+    // What a motion by rows gives, if it is by some and `from` is a boundary.
+    fn row(
+        &self,
+        from: Option<usize>,
+        n: u16,
+        motion: impl Fn(&LineBuffer) -> Option<(usize, usize)>,
+    ) -> Result<Option<RowTarget>, Error> {
+        self.slice(from.unwrap_or(0)..)?;
         if n == 0 {
-            return None;
+            return Ok(None);
         }
-        let (offset, column) = self.lines().row_below(&on.to_core(), n, column)?;
-        Some(RowTarget { offset, column })
+        Ok(motion(self.lines()).map(|(offset, column)| RowTarget { offset, column }))
     }
 
     /// The first grapheme cluster from a byte offset on. `None` at the end of the text. The time that it takes depends

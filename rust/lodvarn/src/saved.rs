@@ -22,8 +22,8 @@ impl Session {
     /// # Ok::<(), Error>(())
     /// ```
     /// # Errors
-    /// [`Error::NoRoom`] if a text of the record or of the ring has 4 GiB or more, or an offset in the record is as
-    /// far; [`Error::NoMemory`].
+    /// [`Error::NoRoom`] if a text of the record has 4 GiB or more, or an offset in it is as far;
+    /// [`Error::NoMemory`].
     pub fn to_bytes(&self) -> Result<Vec<u8>, Error> {
         Ok(self.core.save()?.into_std())
     }

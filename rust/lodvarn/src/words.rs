@@ -336,6 +336,16 @@ pub struct RowTarget {
     pub column: usize,
 }
 
+/// What a call wrote that fills a slice, by [`Session::rows_from`](crate::Session::rows_from) and
+/// [`Session::clusters_from`](crate::Session::clusters_from).
+#[derive(Clone, Copy, Debug, PartialEq, Eq, Hash)]
+pub struct Filled {
+    /// How many.
+    pub count: usize,
+    /// The byte offset where the next one begins, or `None` if none follows.
+    pub next: Option<usize>,
+}
+
 /// A grapheme cluster of a text.
 #[derive(Clone, Copy, Debug, PartialEq, Eq, Hash)]
 pub struct Cluster {

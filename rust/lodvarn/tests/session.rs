@@ -1,8 +1,8 @@
 //! What a session has beside the calls of scripts: how it is built, what it refuses, where it may go, and the guards of
 //! groups.
 use lodvarn::{
-    At, Case, CharSearch, Direction, Error, Group, Inserted, Mode, Movement, Options, RowTarget,
-    Screen, Session, Word,
+    At, Case, CharSearch, Cluster, Direction, Error, Filled, Group, Inserted, Mode, Movement,
+    Options, RowTarget, Screen, Session, Word,
 };
 use std::ops::Bound::{self, Excluded, Included, Unbounded};
 use std::panic::{catch_unwind, AssertUnwindSafe};
@@ -396,12 +396,16 @@ fn bytes_are_typed_by_characters() -> Result<(), Error> {
     Ok(())
 }
 
+const SCREEN: Screen = Screen::new(4);
+
+fn target(offset: usize, column: usize) -> Option<RowTarget> {
+    Some(RowTarget { offset, column })
+}
+
 #[test]
 fn a_cursor_goes_by_rows() -> Result<(), Error> {
-    const SCREEN: Screen = Screen::new(4);
     assert!(catch_unwind(|| Screen::new(0)).is_err());
     // The rows abcd, ef, an empty one, and ghi. How many a cursor goes up, or down, and by which column.
-    let target = |offset, column| Some(RowTarget { offset, column });
     let rows = [
         (11, -1, None, target(7, 3)),
         (11, -2, None, target(6, 3)),
@@ -416,11 +420,45 @@ fn a_cursor_goes_by_rows() -> Result<(), Error> {
     for (pos, n, column, wanted) in rows {
         let session = Session::builder().text("abcdef\n\nghi").pos(pos).open()?;
         let went = match u16::try_from(n) {
-            Ok(n) => session.row_below(&SCREEN, n, column),
-            Err(_) => session.row_above(&SCREEN, -n as u16, column),
+            Ok(n) => session.row_below(&SCREEN, n, column, None)?,
+            Err(_) => session.row_above(&SCREEN, -n as u16, column, None)?,
         };
         assert_eq!(went, wanted, "{n} from {pos}");
     }
+    Ok(())
+}
+
+#[test]
+fn rows_and_clusters_begin_at_an_offset() -> Result<(), Error> {
+    let mut session = Session::builder().text("abcdefghi\n漢e\u{301}").open()?;
+    let filled = |count, next| Ok(Filled { count, next });
+    let (from, to, columns) = (9, 10, 1);
+    let newline = Cluster { from, to, columns };
+    let (mut starts, mut clusters) = ([9; 2], [newline; 2]);
+    assert_eq!(
+        session.rows_from(&SCREEN, 4, &mut starts),
+        filled(2, Some(10))
+    );
+    assert_eq!(starts, [4, 8]);
+    assert_eq!(session.rows_from(&SCREEN, 10, &mut starts), filled(1, None));
+    assert_eq!(starts, [10, 8]);
+    let mode = Mode::Unicode;
+    let mut cut = |from| session.clusters_from(mode, from, &mut clusters);
+    assert_eq!((cut(13), cut(9)), (filled(1, None), filled(2, Some(13))));
+    let (from, to, columns) = (10, 13, 2);
+    assert_eq!(clusters, [newline, Cluster { from, to, columns }]);
+    session.set_pos(9)?;
+    for from in [None, Some(0), Some(4), Some(8), Some(10)] {
+        assert_eq!(session.row_above(&SCREEN, 1, None, from)?, target(5, 1));
+        assert_eq!(session.row_below(&SCREEN, 1, Some(3), from)?, target(16, 3));
+    }
+    let none = Err(Error::BadOffset);
+    assert_eq!(session.rows_from(&SCREEN, 11, &mut starts), none);
+    assert_eq!(session.clusters_from(mode, 17, &mut clusters), none);
+    assert_eq!(
+        session.row_below(&SCREEN, 1, None, Some(11)),
+        Err(Error::BadOffset)
+    );
     Ok(())
 }
 

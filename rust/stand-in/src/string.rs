@@ -124,7 +124,8 @@ impl String {
         // A byte alone is a character, and takes no call where there is room.
         if let [byte] = part.as_bytes() {
             if self.0.len() < self.0.capacity() {
-                self.0.push(char::from(*byte));
+                // SAFETY: that byte is a whole text.
+                unsafe { self.0.as_mut_vec() }.push(*byte);
                 return Ok(());
             }
         }
@@ -133,9 +134,26 @@ impl String {
         Ok(())
     }
 
-    /// Kit `String::insert`: puts a character in at a place.
+    /// Kit `String::insert`: puts a character in at a place. An ASCII one takes no call but `memmove` where there is room.
     #[inline]
     pub fn insert(&mut self, at: usize, c: char) -> Result<(), AllocError> {
+        if !c.is_ascii() || self.0.len() == self.0.capacity() || !self.is_char_boundary(at) {
+            return self.insert_any(at, c);
+        }
+        // SAFETY: there is room for a byte, which is a character, and comes between two characters.
+        unsafe {
+            let bytes = self.0.as_mut_vec();
+            let place = bytes.as_mut_ptr().add(at);
+            core::ptr::copy(place, place.add(1), bytes.len() - at);
+            *place = c as u8;
+            bytes.set_len(bytes.len() + 1);
+        }
+        Ok(())
+    }
+
+    #[cold]
+    #[inline(never)]
+    fn insert_any(&mut self, at: usize, c: char) -> Result<(), AllocError> {
         self.reserve(c.len_utf8())?;
         self.0.insert(at, c);
         Ok(())

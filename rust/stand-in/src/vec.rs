@@ -85,6 +85,13 @@ impl<T> Vec<T> {
         self.0.drain(range)
     }
 
+    /// Kit `Vec::split_off`: the elements from `at` on, in an array of their own. Refused, it takes none.
+    pub fn split_off(&mut self, at: usize) -> Result<Vec<T>, AllocError> {
+        let mut rest = Vec::with_capacity(Global, self.0.len() - at)?;
+        rest.0.extend(self.0.drain(at..));
+        Ok(rest)
+    }
+
     /// Kit `Vec::as_slice`.
     pub fn as_slice(&self) -> &[T] {
         &self.0

@@ -112,8 +112,11 @@ const TEXTS: &[Row<String, RustString>] = &[
     (7, |s| s.push('x'), |s| s.push('x')),
     (9, |s| s.push('∂'), |s| s.push('∂')),
     (6, |s| s.push_str(""), |_| {}),
+    (7, |s| s.push_str("x"), |s| s.push('x')),
     (10, |s| s.push_str("xyß"), |s| s.push_str("xyß")),
     (7, |s| s.insert(0, 'x'), |s| s.insert(0, 'x')),
+    (7, |s| s.insert(3, 'x'), |s| s.insert(3, 'x')),
+    (7, |s| s.insert(6, 'x'), |s| s.insert(6, 'x')),
     (9, |s| s.insert(1, '∂'), |s| s.insert(1, '∂')),
     (8, |s| s.insert(6, 'ß'), |s| s.insert(6, 'ß')),
     (6, |s| s.insert_str(3, ""), |_| {}),
@@ -165,6 +168,36 @@ fn a_value_changes_as_rusts_or_stays() {
         list
     };
     ask_all(LISTS, list, |list| (list.to_vec(), list.capacity()));
+}
+
+#[test]
+#[should_panic(expected = "is_char_boundary")]
+fn no_character_comes_into_another() {
+    let mut text = String::with_capacity(Global, 9).unwrap();
+    text.push_str("aß∂").unwrap();
+    let _ = text.insert(2, 'x');
+}
+
+#[test]
+fn an_array_is_cut_in_two_or_stays() {
+    type Two = (Vec<u16>, Option<Vec<u16>>);
+    let make = || -> Two {
+        let mut list = Vec::new(Global);
+        list.extend_from_slice(&[1, 2, 3]).unwrap();
+        (list, None)
+    };
+    for at in 0..=3 {
+        let call = |two: &mut Two| {
+            two.1 = Some(two.0.split_off(at)?);
+            Ok(())
+        };
+        let check = |two: &Two, asked: Option<usize>| {
+            let kept = asked.map_or(3, |_| at);
+            assert_eq!(two.0[..], [1, 2, 3][..kept]);
+            assert_eq!(two.1.as_deref(), asked.map(|_| &[1, 2, 3][at..]));
+        };
+        each_refused(make, call, check);
+    }
 }
 
 type Make = fn() -> Result<String, AllocError>;

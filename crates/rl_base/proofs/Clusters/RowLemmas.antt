@@ -5,12 +5,12 @@ use Rattle.rl_base.specs.Screen.{after, begins, cells, filled_after, is_within, 
 use Rattle.rl_base.specs.declared.screen.Screen.{Screen}
 use Rattle.rl_base.proofs.Clusters.CellLemmas.{first_cell, within-after}
 
-get-replicated : (m i p : ℕ) (ys : List ℕ) → i < m → slice_get (replicate m p ++ ys) i ≡ Some p
+pub get-replicated : (m i p : ℕ) (ys : List ℕ) → i < m → slice_get (replicate m p ++ ys) i ≡ Some p
 get-replicated (suc m) zero p ys lt = refl
 get-replicated (suc m) (suc i) p ys lt = get-replicated m i p ys (omega arith)
 get-replicated zero i p ys lt = absurd (omega (arith, lt))
 
-get-past : (m i j p : ℕ) (ys : List ℕ) → j ≡ m + i → slice_get (replicate m p ++ ys) j ≡ slice_get ys i
+pub get-past : (m i j p : ℕ) (ys : List ℕ) → j ≡ m + i → slice_get (replicate m p ++ ys) j ≡ slice_get ys i
 get-past zero i j p ys e = ap (slice_get ys) (omega (arith, e))
 get-past (suc m) i zero p ys e = absurd (omega (arith, e))
 get-past (suc m) i (suc j) p ys e = get-past m i j p ys (omega (arith, e))
@@ -118,25 +118,31 @@ fill-nothing zero out = fill-all out
 fill-nothing (suc b) [] = refl
 fill-nothing (suc b) (x ∷ out) = ap (λ l. x ∷ l) (fill-nothing b out)
 
+pub fill-past_all : {A : Type 0} (n : ℕ) (xs out : List A) → length out ≤ n → filled_after n xs out ≡ out
+fill-past_all zero xs [] le = refl
+fill-past_all (suc n) xs [] le = refl
+fill-past_all zero xs (x ∷ out) le = absurd (omega (arith, le))
+fill-past_all (suc n) xs (x ∷ out) le = ap (λ l. x ∷ l) (fill-past_all n xs out (omega arith))
+
 -- one row more begins: its place is written if there is space for it
-next-row : (row begun p : ℕ) → begun ≤ row → replicate (row + 1 - begun) p ≡ p ∷ replicate (row + 1 - (begun + 1)) p
-next-row row begun p le =
-    let one : row + 1 - begun ≡ suc (row + 1 - (begun + 1)) = omega (arith, le) in
+next-row : (end begun p : ℕ) → begun < end → replicate (end - begun) p ≡ p ∷ replicate (end - (begun + 1)) p
+next-row end begun p lt =
+    let one : end - begun ≡ suc (end - (begun + 1)) = omega (arith, lt) in
     ap (λ n. replicate n p) one
 
-pub filled-one : (row begun p : ℕ) (more out : List ℕ) → begun ≤ row → begun < length out
-    → filled_after (begun + 1) (replicate (row + 1 - (begun + 1)) p ++ more) (slice_set out begun p) ≡ filled_after begun (replicate (row + 1 - begun) p ++ more) out
-filled-one row begun p more out le lt =
-    let xs = replicate (row + 1 - (begun + 1)) p ++ more in
+pub filled-one : (end begun p : ℕ) (more out : List ℕ) → begun < end → begun < length out
+    → filled_after (begun + 1) (replicate (end - (begun + 1)) p ++ more) (slice_set out begun p) ≡ filled_after begun (replicate (end - begun) p ++ more) out
+filled-one end begun p more out le lt =
+    let xs = replicate (end - (begun + 1)) p ++ more in
     let next : begun + 1 ≡ suc begun = omega arith in
-    ap (λ n. filled_after n xs (slice_set out begun p)) next ∙ fill-one begun p xs out lt ∙ sym (ap (λ l. filled_after begun (l ++ more) out) (next-row row begun p le))
+    ap (λ n. filled_after n xs (slice_set out begun p)) next ∙ fill-one begun p xs out lt ∙ sym (ap (λ l. filled_after begun (l ++ more) out) (next-row end begun p le))
 
-pub filled-past : (row begun p : ℕ) (more out : List ℕ) → begun ≤ row → length out ≤ begun
-    → filled_after (begun + 1) (replicate (row + 1 - (begun + 1)) p ++ more) out ≡ filled_after begun (replicate (row + 1 - begun) p ++ more) out
-filled-past row begun p more out le lt =
-    let xs = replicate (row + 1 - (begun + 1)) p ++ more in
+pub filled-past : (end begun p : ℕ) (more out : List ℕ) → begun < end → length out ≤ begun
+    → filled_after (begun + 1) (replicate (end - (begun + 1)) p ++ more) out ≡ filled_after begun (replicate (end - begun) p ++ more) out
+filled-past end begun p more out le lt =
+    let xs = replicate (end - (begun + 1)) p ++ more in
     let next : begun + 1 ≡ suc begun = omega arith in
-    ap (λ n. filled_after n xs out) next ∙ fill-none begun p xs out lt ∙ sym (ap (λ l. filled_after begun (l ++ more) out) (next-row row begun p le))
+    ap (λ n. filled_after n xs out) next ∙ fill-none begun p xs out lt ∙ sym (ap (λ l. filled_after begun (l ++ more) out) (next-row end begun p le))
 
 -- how many rows have begun after those of one place and of the places after it
 pub count-on : (begun row p : ℕ) (ys : List ℕ) → begun + length (replicate (row + 1 - begun) p ++ ys) ≡ max begun (row + 1) + length ys
@@ -144,3 +150,32 @@ count-on begun row p ys =
     let len = length-append (replicate (row + 1 - begun) p) ys in
     let one = length-replicate (row + 1 - begun) p in
     grind (arith, nat_tests, len, one)
+
+-- the row in which the clusters end is not above the one in which they begin, and as many rows have begun then
+abbrev pub end_cell : Screen → ℕ × ℕ → List (List ℕ) → ℕ × ℕ
+end_cell screen at [] = wrapped screen.columns at
+end_cell screen at (cluster ∷ more) = end_cell screen (after screen at cluster) more
+
+pub ends-below : (screen : Screen) (at : ℕ × ℕ) (cs : List (List ℕ)) → (first_cell screen at cs).0 ≤ (end_cell screen at cs).0
+ends-below screen at [] = omega arith
+ends-below screen at (cluster ∷ more) =
+    let next = first_cell screen (after screen at cluster) more in
+    omega (arith, rows-grow (stands screen at cluster) next (within-after screen at cluster more), ends-below screen (after screen at cluster) more)
+
+pub count-to_end : (screen : Screen) (begun place : ℕ) (at : ℕ × ℕ) (cs : List (List ℕ)) → begun ≤ (first_cell screen at cs).0 + 1
+    → begun + length (begins begun (cells screen place at cs)) ≡ (end_cell screen at cs).0 + 1
+count-to_end screen begun place at [] le =
+    let w = wrapped screen.columns at in
+    let all = count-on begun w.0 place [] in
+    grind (arith, nat_tests)
+count-to_end screen begun place at (cluster ∷ more) le =
+    let w = stands screen at cluster in
+    let b = max begun (w.0 + 1) in
+    let next = first_cell screen (after screen at cluster) more in
+    let grows : w.0 ≤ next.0 = rows-grow w next (within-after screen at cluster more) in
+    count-on begun w.0 place (begins b (cells screen (place + length cluster) (after screen at cluster) more))
+    ∙ count-to_end screen b (place + length cluster) (after screen at cluster) more (grind (arith, nat_tests))
+
+-- a cell after another is not in a row above it
+pub rows-past : (a b : ℕ × ℕ) → is_within a b ≡ false → b.0 ≤ a.0
+rows-past a b e = grind (arith, nat_tests)

@@ -1,41 +1,153 @@
 -- Which texts of a ring fit a bound, and the ring of its newest texts alone.
-use Rattle.rl_base.proofs.Common.{◌≡◌, ℕ, ◌+◌, ◌-◌, ◌<◌, ◌≤◌, Bool, true, false, cond, min, List, [], ◌∷◌, ◌++◌, length, take, drop, get_or, reverse, Some, None, option_map, refl, sym, ap, ◌∙◌, inl, inr, arith, slice_get, slice_get_cases, slice_get-get_or, drop_more, drop_all, take_at, take-append-drop, reverse-append, reverse-reverse, length-reverse, length-append, length-take, length-drop, length-map, map-append, ap₂, ◌^◌, ◌==◌, cond-true, cond-false, nat_le, nat_lt, Gathering, texts, Ring, IsRing, Other, back_from, newest_first, fitting, left_with, with_newest, cut_to, resized, within_bytes, Action, NewKill, cases_lt}
-use Rattle.std.proofs.lemmas.List.{drop-map, take-map, take_min}
+use Rattle.rl_base.proofs.Common.{◌≡◌, ℕ, ◌+◌, ◌-◌, ◌<◌, ◌≤◌, Bool, true, false, cond, min, List, [], ◌∷◌, ◌++◌, length, take, drop, get_or, reverse, Some, None, option_map, refl, sym, ap, ◌∙◌, inl, inr, arith, slice_get, slice_get_cases, slice_get-get_or, drop_more, drop_all, take_at, take-append-drop, reverse-append, reverse-reverse, length-reverse, length-append, length-take, length-drop, length-map, map-append, ap₂, ◌^◌, ◌==◌, cond-true, cond-false, nat_le, nat_lt, Gathering, texts, Ring, IsRing, Other, back_from, newest_first, fitting, left_with, with_newest, cut_to, resized, within_bytes, Action, NewKill, cases_lt, eq-eqb, unwrap_or, zero, suc, sum_by-append, sum_by-cons, take_all, take_more, length-take-le, eqb-true, eqb-false, sum_by, put_at, join_at, Mode, slice_set}
+use Rattle.std.proofs.lemmas.List.{drop-map, get_or_past, take-map, take_min}
+use Rattle.std.proofs.lemmas.List.Sums.{sum_by-set}
+use Rattle.std.proofs.lemmas.Option.{unwrap_or-slice_get}
+use Rattle.rl_base.specs.KillRing.{joined}
+use Rattle.rl_base.specs.declared.kill_ring.Mode.TheVariants.{Append, Prepend}
+use Rattle.rl_base.proofs.Ring.RingLemmas.{join-is}
 use Rattle.std.proofs.lemmas.Bool.{le-leb, lt-leb}
 
 length-back : (slots : List (List ℕ)) (i : ℕ) → length (back_from i slots) ≡ length slots
 length-back slots i = simp (length-append, length-reverse, length-take, length-drop) (omega arith)
 
--- ---- as many as fit
--- the text that comes next, if there is one
-fitting-at : (ts : List (List ℕ)) (left k size : ℕ) → option_map length (slice_get ts k) ≡ Some size
-    → fitting left (drop k ts) ≡ cond (nat_le size left) (get_or ts k [] ∷ fitting (left - size) (drop (k + 1) ts)) []
-fitting-at ts left k size e =
-    let at : k < length ts = elim (slice_get_cases ts k).1 [ inl some ↦ some.1 | inr past ↦ absurd (cc (e, past.1)) ] in
-    let is : size ≡ length (get_or ts k []) = cc (e, slice_get-get_or ts k [] at) in
-    ap (fitting left) (drop_more ts k [] at) ∙ ap (λ n. cond (nat_le n left) (get_or ts k [] ∷ fitting (left - n) (drop (k + 1) ts)) []) (sym is)
+-- ---- how many bytes there are
+pub sum-reverse : (ts : List (List ℕ)) → sum_by length (reverse ts) ≡ sum_by length ts
+sum-reverse [] = refl
+sum-reverse (t ∷ ts) =
+    ap (sum_by length) (reverse-append (t ∷ []) ts) ∙ sum_by-append length (reverse ts) (t ∷ [])
+    ∙ omega (arith, sum-reverse ts, sum_by-cons length t ts, sum_by-cons length t [])
 
-pub counted-within : (xs : List Gathering) (i k size : ℕ) → option_map length (slice_get (back_from i (texts xs)) k) ≡ Some size → k < length xs
-counted-within xs i k size e =
-    elim (slice_get_cases (back_from i (texts xs)) k).1 [
-      | inl some ↦ (let at = some.1 in omega (arith, length-back (texts xs) i, length-map xs (λ (g : Gathering). g.text)))
-      | inr past ↦ absurd (cc (e, past.1))
+sum-back : (slots : List (List ℕ)) (i : ℕ) → sum_by length (back_from i slots) ≡ sum_by length slots
+sum-back slots i =
+    let cut = ap (sum_by length) (take-append-drop (i + 1) slots) in
+    omega (
+      arith,
+      cut,
+      sum_by-append length (take (i + 1) slots) (drop (i + 1) slots),
+      sum_by-append length (reverse (take (i + 1) slots)) (reverse (drop (i + 1) slots)),
+      sum-reverse (take (i + 1) slots),
+      sum-reverse (drop (i + 1) slots),
+    )
+
+-- one more text, and one less
+sum-take : (ts : List (List ℕ)) (k : ℕ) → k < length ts → sum_by length (take (k + 1) ts) ≡ sum_by length (take k ts) + length (get_or ts k [])
+sum-take ts k at =
+    omega (arith, ap (sum_by length) (take_more ts k [] at), sum_by-append length (take k ts) (get_or ts k [] ∷ []), sum_by-cons length (get_or ts k []) [])
+
+sum-drop : (ts : List (List ℕ)) (k : ℕ) → k < length ts → sum_by length (drop k ts) ≡ length (get_or ts k []) + sum_by length (drop (k + 1) ts)
+sum-drop ts k at = ap (sum_by length) (drop_more ts k [] at) ∙ sum_by-cons length (get_or ts k []) (drop (k + 1) ts)
+
+pub one-counted : (ts : List (List ℕ)) (k : ℕ) → length (get_or ts k []) ≤ sum_by length ts
+one-counted [] k = omega arith
+one-counted (t ∷ ts) zero = omega (arith, sum_by-cons length t ts)
+one-counted (t ∷ ts) (suc k) = omega (arith, one-counted ts k, sum_by-cons length t ts)
+
+pub put-counted : (slots : List (List ℕ)) (i : ℕ) (text : List ℕ) → i ≤ length slots
+    → sum_by length (put_at i text slots) + length (get_or slots i []) ≡ sum_by length slots + length text
+put-counted slots i text h = through (i == length slots) refl
+  where
+    through : (b : Bool) → (i == length slots) ≡ b
+        → sum_by length (cond b (slots ++ text ∷ []) (slice_set slots i text)) + length (get_or slots i []) ≡ sum_by length slots + length text
+    through true e =
+        let past : get_or slots i [] ≡ [] = get_or_past slots i [] (omega (arith, eqb-true i (length slots) e)) in
+        omega (arith, ap length past, sum_by-append length slots (text ∷ []))
+    through false e = sum_by-set length slots i text [] (omega (arith, eqb-false i (length slots) e))
+
+pub join-counted : (slots : List (List ℕ)) (i : ℕ) (mode : Mode) (text : List ℕ) → i < length slots
+    → sum_by length (join_at i mode text slots) ≡ sum_by length slots + length text
+join-counted slots i mode text at =
+    let len = length-joined mode (get_or slots i []) text in
+    omega (arith, len, ap (sum_by length) (join-is slots i mode text), sum_by-set length slots i (joined mode (get_or slots i []) text) [] at)
+  where
+    length-joined : (mode : Mode) (old text : List ℕ) → length (joined mode old text) ≡ length old + length text
+    length-joined Append old text = length-append old text
+    length-joined Prepend old text = omega (arith, length-append text old)
+
+-- the same of what the code counts
+pub put-counts : (now slots : List (List ℕ)) (i : ℕ) (text : List ℕ) (bytes others at : ℕ) → now ≡ put_at i text slots → i ≤ length slots
+    → at ≡ length (get_or slots i []) → others ≡ sum_by length slots - at → bytes ≡ others + length text → bytes ≡ sum_by length now
+put-counts now slots i text bytes others at is h len rest sum =
+    omega (arith, ap (sum_by length) is, put-counted slots i text h, one-counted slots i, len, rest, sum)
+
+pub join-counts : (now slots : List (List ℕ)) (i : ℕ) (mode : Mode) (text : List ℕ) (bytes all : ℕ) → now ≡ join_at i mode text slots → i < length slots
+    → all ≡ sum_by length slots → bytes ≡ all + length text → bytes ≡ sum_by length now
+join-counts now slots i mode text bytes all is at were sum = omega (arith, ap (sum_by length) is, join-counted slots i mode text at, were, sum)
+
+pub ruleset counting = (put-counts, join-counts, one-counted)
+
+-- one text in two lists, or none
+pub got-same : {A : Type 0} (xs ys : List A) (i j : ℕ) (d : A) → slice_get xs i ≡ slice_get ys j → get_or xs i d ≡ get_or ys j d
+got-same xs ys i j d is = sym (unwrap_or-slice_get xs i d) ∙ ap (λ o. unwrap_or o d) is ∙ unwrap_or-slice_get ys j d
+
+pub got-none : {A : Type 0} (xs : List A) (i : ℕ) (d : A) → slice_get xs i ≡ None → get_or xs i d ≡ d
+got-none xs i d none = sym (unwrap_or-slice_get xs i d) ∙ ap (λ o. unwrap_or o d) none
+
+-- a text put after all
+pub put-end : (slots : List (List ℕ)) (i : ℕ) (text : List ℕ) → i ≡ length slots → put_at i text slots ≡ slots ++ text ∷ []
+put-end slots i text end = cond-true (i == length slots) _ _ (eq-eqb i (length slots) end)
+
+-- the bytes of the first so many from the newest back, and of the others
+pub kept-and-gone : (xs : List Gathering) (newest kept all : ℕ) → all ≡ sum_by length (texts xs)
+    → all ≡ sum_by length (take kept (back_from newest (texts xs))) + sum_by length (drop kept (back_from newest (texts xs)))
+kept-and-gone xs newest kept all is =
+    let ts = back_from newest (texts xs) in
+    omega (arith, is, sum-back (texts xs) newest, ap (sum_by length) (take-append-drop kept ts), sum_by-append length (take kept ts) (drop kept ts))
+
+-- ---- as many as fit
+fits-whole : (room : ℕ) (ts : List (List ℕ)) → sum_by length ts ≤ room → fitting room ts ≡ ts
+fits-whole room [] le = refl
+fits-whole room (t ∷ ts) le =
+    let sum = sum_by-cons length t ts in
+    cond-true (nat_le (length t) room) _ _ (le-leb (length t) room (omega arith)) ∙ ap (λ l. t ∷ l) (fits-whole (room - length t) ts (omega arith))
+
+fits-not_last : (room : ℕ) (ts : List (List ℕ)) (t : List ℕ) → room < sum_by length (ts ++ t ∷ []) → fitting room (ts ++ t ∷ []) ≡ fitting room ts
+fits-not_last room [] t lt = cond-false (nat_le (length t) room) _ _ (lt-leb (length t) room (omega arith))
+fits-not_last room (x ∷ xs) t lt =
+    let sum = sum_by-cons length x (xs ++ t ∷ []) in
+    elim (cases_lt room (length x)) [
+      | inl over ↦ cond-false (nat_le (length x) room) _ _ (lt-leb (length x) room over) ∙ sym (cond-false (nat_le (length x) room) _ _ (lt-leb (length x) room over))
+      | inr under ↦ ap (λ l. cond (nat_le (length x) room) (x ∷ l) []) (fits-not_last (room - length x) xs t (omega arith))
     ]
 
-pub fits-next : (ts : List (List ℕ)) (left k size all : ℕ) → option_map length (slice_get ts k) ≡ Some size → size ≤ left
-    → k + length (fitting left (drop k ts)) ≡ all → k + 1 + length (fitting (left - size) (drop (k + 1) ts)) ≡ all
-fits-next ts left k size all e le h =
-    let one = ap length (fitting-at ts left k size e ∙ cond-true (nat_le size left) _ _ (le-leb size left le)) in omega arith
+-- the first so many of the texts from the newest back, how many bytes they have, and that no more fit
+pub record Kept (room : ℕ) (ts : List (List ℕ)) (kept left : ℕ) : Type 0 where
+  pub within : kept ≤ length ts
+  pub sum : left ≡ sum_by length (take kept ts)
+  pub fit : fitting room ts ≡ fitting room (take kept ts)
 
-pub fits-no_more : (ts : List (List ℕ)) (left k size all : ℕ) → option_map length (slice_get ts k) ≡ Some size → left < size
-    → k + length (fitting left (drop k ts)) ≡ all → k ≡ all
-fits-no_more ts left k size all e lt h =
-    let none = ap length (fitting-at ts left k size e ∙ cond-false (nat_le size left) _ _ (lt-leb size left lt)) in omega arith
+pub kept-all : (room : ℕ) (xs : List Gathering) (newest kept left : ℕ) → kept ≡ length xs → left ≡ sum_by length (texts xs) → Kept room (back_from newest (texts xs)) kept left
+kept-all room xs newest kept left all sum =
+    let ts = back_from newest (texts xs) in
+    let len : length ts ≡ length xs = length-back (texts xs) newest ∙ length-map xs (λ (g : Gathering). g.text) in
+    let whole : take kept ts ≡ ts = take_all kept ts (omega arith) in
+    record { within = omega arith; sum = sum ∙ sym (ap (sum_by length) whole ∙ sum-back (texts xs) newest); fit = ap (fitting room) (sym whole) }
 
-pub fits-all : (ts : List (List ℕ)) (left k all : ℕ) → option_map length (slice_get ts k) ≡ None → k + length (fitting left (drop k ts)) ≡ all → k ≡ all
-fits-all ts left k all e h =
-    let past : length ts ≤ k = elim (slice_get_cases ts k).1 [ inl some ↦ absurd (cc (e, some.2)) | inr past ↦ past.0 ] in
-    let none = ap (λ l. length (fitting left l)) (drop_all k ts past) in omega arith
+pub kept-some : (room : ℕ) (ts : List (List ℕ)) (kept left : ℕ) → Kept room ts kept left → room < left → 0 < kept
+kept-some room ts kept left h over = elim (cases_lt 0 kept) [
+  | inl some ↦ some
+  | inr none ↦ (let zero_kept : kept ≡ 0 = omega arith in absurd (omega (arith, h.sum ∙ ap (λ k. sum_by length (take k ts)) zero_kept)))
+]
+
+pub kept-less : (room : ℕ) (ts : List (List ℕ)) (all kept left : ℕ) → Kept room ts all left → room < left → kept + 1 ≡ all
+    → (length (get_or ts kept []) ≤ left) × Kept room ts kept (left - length (get_or ts kept []))
+kept-less room ts all kept left h over one =
+    let at : kept < length ts = omega (arith, h.within) in
+    let whole = h.sum ∙ ap (λ k. sum_by length (take k ts)) (sym one) in
+    let sum = whole ∙ sum-take ts kept at in
+    let more = take_more ts kept [] at in (
+      omega arith,
+      record {
+        within = omega arith;
+        sum = omega arith;
+        fit = h.fit ∙ ap (λ k. fitting room (take k ts)) (sym one) ∙ ap (fitting room) more
+            ∙ fits-not_last room (take kept ts) (get_or ts kept []) (omega (arith, whole, ap (sum_by length) more));
+      },
+    )
+
+pub kept-fits : (room : ℕ) (ts : List (List ℕ)) (kept left : ℕ) → Kept room ts kept left → left ≤ room → kept ≡ length (fitting room ts)
+kept-fits room ts kept left h le =
+    sym (ap length (h.fit ∙ fits-whole room (take kept ts) (omega (arith, h.sum))) ∙ length-take-le kept ts h.within)
 
 -- ---- the slots that stay
 -- the last of a list are the first of it turned round
@@ -109,6 +221,18 @@ resized-keeps P size r left stays = by (size == r.size)
 
 pub within-unbounded : (r : Ring) → within_bytes (2 ^ 64 - 1) r ≡ r
 within-unbounded r = cond-true (nat_le (2 ^ 64 - 1) (2 ^ 64 - 1)) r (cut_to (2 ^ 64 - 1) r) (le-leb (2 ^ 64 - 1) (2 ^ 64 - 1) (omega arith))
+
+-- if all fit, nothing goes
+pub within-whole : (bytes : ℕ) (r : Ring) → sum_by length r.slots ≤ bytes → within_bytes bytes r ≡ r
+within-whole bytes r le =
+    let all = fits-whole bytes (newest_first r) (omega (arith, sum-back r.slots r.newest)) in
+    let whole : length (fitting bytes (newest_first r)) ≡ length r.slots = ap length all ∙ length-back r.slots r.newest in
+    let stays : cut_to bytes r ≡ r = cond-true (length (fitting bytes (newest_first r)) == length r.slots) _ _ (eq-eqb _ _ whole) in
+    by (nat_le (2 ^ 64 - 1) bytes) stays
+  where
+    by : (b : Bool) → cut_to bytes r ≡ r → cond b r (cut_to bytes r) ≡ r
+    by true stays = refl
+    by false stays = stays
 
 -- texts that fit the size are a ring, the newest last
 IsRing-texts : (size : ℕ) (rule : NewKill) (ts : List (List ℕ)) (index : ℕ) (last : Action) (killing : Bool) → length ts ≤ size → index ≤ length ts - 1

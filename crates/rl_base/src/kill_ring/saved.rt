@@ -1,30 +1,42 @@
 //! A kill ring as bytes, and back.
-ghost use Rattle.std.specs.Prelude.{◌≡◌, ◌++◌, List, ℕ, All, IfErr, IfOk, IfSome, OnOk, Some, false, length};
+ghost use Rattle.std.specs.Prelude.{◌≡◌, ◌-◌, ◌^◌, ◌++◌, List, ℕ, All, IfErr, IfOk, IfSome, OnOk, Some, false, length, min};
 ghost use Rattle.rl_base.specs.Gathered.{texts};
 ghost use Rattle.rl_base.specs.KillRing.{IsRing, Ring};
 ghost use Rattle.rl_base.specs.SavedRing.{IsSavedRing, last_number, ring_numbers, rule_number, saved_ring, yanked_number};
-ghost use Rattle.rl_base.specs.Saving.{FitsLength, IsOfPart, IsSized, Loads, sized_all};
+ghost use Rattle.rl_base.specs.Saving.{IsOfPart, IsSized, Loads, sized_all};
 ghost use Rattle.rl_base.specs.declared.kill_ring.Action.{Action};
 ghost use Rattle.rl_base.specs.declared.kill_ring.NewKill.{NewKill};
 ghost use Rattle.rl_base.specs.declared.saving.LoadFault.TheVariants.{NoMemory};
 ghost use Rattle.rl_base.specs.declared.saving.SaveFault.TheVariants.{TooLong};
 
 use crate::gathered::Gathered;
+use crate::kill_ring::slots::Slots;
 use crate::kill_ring::{Action, KillRing, NewKill};
 use crate::saving::{LoadFault, SaveFault, Unread, Width, put_numbers, put_text};
 use std::alloc::Global;
 
+// How many bytes a slot has at least.
+const SLOT: usize = 8;
+
 impl KillRing {
     /// Puts the ring at the end of bytes, from which `load` makes it again, if no kill is on. Refused, it leaves any bytes.
-    /// `TooLong` comes only if a text has 4 GiB or more.
+    /// It is never too long.
     pub fn save(&self, out: &mut Vec<u8>) -> Result<(), SaveFault>
         ensures ok { OnOk result (out.new.items ≡ out.old.items ++ saved_ring self.now) }
         ensures loads { OnOk result (self.now.killing ≡ false → IsSavedRing self.now) }
-        ensures err { IfErr result (λ f. f ≡ TooLong → ¬ (All FitsLength self.now.slots)) }
+        ensures err { IfErr result (λ f. f ≡ TooLong → ⊥) }
     {
         put_numbers(out, Width::Eight, &self.numbers())?;
-        put_slots(out, &self.slots)?;
+        put_slots(out, self.slots.all())?;
         Ok(())
+    }
+
+    /// How many bytes `save` puts, or the greatest `usize` if they are more.
+    pub fn saved_len(&self) -> usize
+        ensures { result ≡ min (length (saved_ring self.now)) (2 ^ 64 - 1) }
+    {
+        let heads = self.slots.len().saturating_mul(SLOT).saturating_add(56);
+        self.slots.bytes().saturating_add(heads)
     }
 
     fn numbers(&self) -> [u64; 7]
@@ -60,8 +72,8 @@ impl KillRing {
 }
 
 // The ring of these numbers and slots, if there is one.
-fn ring_of(head: [u64; 7], slots: Vec<Gathered>) -> Option<KillRing>
-    ensures loaded { (ring : Ring) → IsSavedRing ring → head ≡ ring_numbers ring → texts slots.items ≡ ring.slots → result ≡ Some ring }
+fn ring_of(head: [u64; 7], slots: Slots) -> Option<KillRing>
+    ensures loaded { (ring : Ring) → IsSavedRing ring → head ≡ ring_numbers ring → texts slots.list.items ≡ ring.slots → result ≡ Some ring }
     ensures idle { IfSome result (λ ring. ring.killing ≡ false) }
 {
     let rule = rule_of(head[1])?;
@@ -134,7 +146,7 @@ fn last_of(number: u64, yanked: usize) -> Option<Action>
 fn put_slots(out: &mut Vec<u8>, slots: &[Gathered]) -> Result<(), SaveFault>
     ensures ok { OnOk result (out.new.items ≡ out.old.items ++ sized_all (texts slots.now)) }
     ensures loads { OnOk result (All IsSized (texts slots.now)) }
-    ensures err { IfErr result (λ f. f ≡ TooLong → ¬ (All FitsLength (texts slots.now))) }
+    ensures err { IfErr result (λ f. f ≡ TooLong → ⊥) }
 {
     for slot in slots {
         put_text(out, slot.as_str())?;
@@ -143,17 +155,19 @@ fn put_slots(out: &mut Vec<u8>, slots: &[Gathered]) -> Result<(), SaveFault>
 }
 
 #[tactic(auto, unfolding(crate::specs::Saving::sized_all))]
-fn load_slots(alloc: Global, bytes: &mut Unread, count: u64) -> Result<Vec<Gathered>, LoadFault>
-    ensures ok { IfOk result (λ made. (slots : List (List ℕ)) (rest : List ℕ) → length slots ≡ count → All IsSized slots → bytes.old ≡ sized_all slots ++ rest → (texts made.items ≡ slots) × (bytes.new ≡ rest)) }
+fn load_slots(alloc: Global, bytes: &mut Unread, count: u64) -> Result<Slots, LoadFault>
+    ensures ok { IfOk result (λ made. (slots : List (List ℕ)) (rest : List ℕ) → length slots ≡ count → All IsSized slots → bytes.old ≡ sized_all slots ++ rest → (texts made.list.items ≡ slots) × (bytes.new ≡ rest)) }
     ensures err { IfErr result (λ f. (slots : List (List ℕ)) (rest : List ℕ) → length slots ≡ count → All IsSized slots → bytes.old ≡ sized_all slots ++ rest → f ≡ NoMemory) }
     ensures part { IfErr result IsOfPart }
 {
-    let mut made = Vec::new(alloc);
+    let most = bytes.left() / SLOT;
+    let mut made = Slots::with_room(alloc, count.min(most as u64) as usize)?;
     for i in 0..count {
         let Some(text) = bytes.sized_text() else {
             return Err(LoadFault::Damaged);
         };
-        made.push(Gathered::of(alloc, text)?)?;
+        let at = made.len();
+        made.put(at, text)?;
     }
     Ok(made)
 }

@@ -244,7 +244,7 @@ module _ (text : List ℕ) (low high : ℕ) (order : low ≤ high) (within : hig
       ∙ ap (λ l. start ++ (l ++ rest)) (twice len passed there) ∙ sym kept-high
 
 -- a table of n places, of which those from number k on were written over
-written-after : (k n : ℕ) (old new more : List ℕ) → length old ≡ n → k ≤ n → length new ≡ n - k
+pub written-after : (k n : ℕ) (old new more : List ℕ) → length old ≡ n → k ≤ n → length new ≡ n - k
     → take n (put_mid k (length old - k) old new ++ more) ≡ take k old ++ new
 written-after k n old new more len le size = grind (arith, common_steps)
 

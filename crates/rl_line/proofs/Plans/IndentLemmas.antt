@@ -1,14 +1,14 @@
 -- The steps of an indent: the parts that spaces go in by, the places after a change at the start of a line, and the
 -- lines that are left.
-use Rattle.rl_line.proofs.Common.{common_steps, Some, ◌≡◌, ℕ, zero, suc, ◌+◌, ◌-◌, ◌*◌, sum, length-append, ◌/◌, ◌%◌, ◌<◌, ◌≤◌, Bool, true, false, List, [], ◌∷◌, ◌++◌, length, take, drop, slice_range, min, refl, sym, ap, ap₂, subst, ◌∙◌, arith, append_assoc, ltb-true, ltb-false, eqb, eqb-true, drop-cons, if◌then◌else◌, repeat, insert_slice, remove_range, replace_range, is_some, IsAscii, IsCharBoundary, IsUtf8, trim_start, nat_tests, drop-drop, append-nil, get_or-drop, get_or-take, take-append-drop, take-take, length-drop, sum_by-append, sum_by-cons, length-between, IsCharBoundary-end, IsCharBoundary-from_drop, IsAscii-nil, IsAscii-cons, same_Some, Event, InsertStr, Delete, apply, Direction, lines, last_line, line_number, text_of_line, start_of_line, end_of_line, greatest_boundary, Forward, Refusal, blanks, line_plan, lines_plan, spaces, parts, put_spaces, pushed, pulled, Plan, Step, after, Taken, Completed, Done, Halted, after_steps, single, Line, stepped, length-take-le, length-take, Movement, lt-ltb, nat_lt, max}
+use Rattle.rl_line.proofs.Common.{common_steps, Range, NoMemory, or_no_memory, inl, Some, ◌≡◌, ℕ, zero, suc, ◌+◌, ◌-◌, ◌*◌, sum, length-append, ◌/◌, ◌%◌, ◌<◌, ◌≤◌, Bool, true, false, List, [], ◌∷◌, ◌++◌, length, take, drop, slice_range, min, refl, sym, ap, ap₂, subst, ◌∙◌, arith, append_assoc, ltb-true, ltb-false, eqb, eqb-true, drop-cons, if◌then◌else◌, repeat, insert_slice, remove_range, replace_range, is_some, IsAscii, IsCharBoundary, IsUtf8, trim_start, nat_tests, drop-drop, append-nil, get_or-drop, get_or-take, take-append-drop, take-take, length-drop, sum_by-append, sum_by-cons, length-between, IsCharBoundary-end, IsCharBoundary-from_drop, IsAscii-nil, IsAscii-cons, same_Some, Event, InsertStr, Delete, apply, Direction, lines, last_line, line_number, text_of_line, start_of_line, end_of_line, greatest_boundary, Forward, Refusal, blanks, line_plan, lines_plan, spaces, parts, put_spaces, pushed, pulled, Plan, Step, after, Taken, Completed, Done, Halted, after_steps, single, Line, stepped, length-take-le, length-take, Movement, lt-ltb, nat_lt, max}
 use Rattle.rl_base.proofs.Texts.LineLemmas.{count_of_lines, count-parts, end-from, lies, lines-after, lines_some, newlines-line, start-next, text-between}
 use Rattle.rl_base.proofs.Texts.TextLemmas.{drop-after, removed-is_replaced, greatest_boundary-is}
 use Rattle.rl_base.proofs.Texts.EventLemmas.{Deletes-from_IsSome, Inserts-from_IsSome}
 use Rattle.rl_line.proofs.Lines.LineStartLemmas.{newlines-append, newlines-replaced}
 use Rattle.rl_line.proofs.Plans.EditLemmas.{length-repeat}
-use Rattle.rl_line.proofs.Plans.PlanLemmas.{first_step, Halted-back, Halted-front, Taken-append, Taken-nil}
+use Rattle.rl_line.proofs.Plans.PlanLemmas.{first_step, Halted-at_first, Halted-back, Halted-front, Taken-append}
 use Rattle.rl_base.proofs.Texts.BlankLemmas.{trim_start-blanks}
-use Rattle.rl_line.specs.Indents.{final_line, first_line, indent_changes}
+use Rattle.rl_line.specs.Indents.{final_line, first_line, indent_changes, indented_lines, spaces_each}
 use Rattle.rl_line.specs.Plan.{bytes_of}
 use Rattle.rl_line.specs.Ranges.{indented}
 
@@ -70,19 +70,16 @@ take-own zero l = refl
 take-own (suc k) [] = refl
 take-own (suc k) (x ∷ l) = ap (λ t. x ∷ t) (take-own k l)
 
--- the plan of a dedent, where `part` is the line's text
-pub line_plan-dedent : (text : List ℕ) (i j n gone cursor place : ℕ) (part : List ℕ) → i ≤ j → j ≤ length text → part ≡ slice_range text i j → gone ≡ length (blanks n part)
-    → place ≡ pulled i gone cursor → line_plan true n (slice_range text i j) i cursor ≡ single (Delete i (slice_range text i (i + gone)) Forward) place (j - gone)
-line_plan-dedent text i j n gone cursor place part order within part_is gone_is place_is =
-    let width : length part ≡ j - i = ap length part_is ∙ length-between text i j within in
+-- the plan of a dedent, where `part` is the text of the line at i
+pub line_plan-dedent : (text : List ℕ) (i n gone cursor place : ℕ) (part : List ℕ) → part ≡ slice_range text i (i + length part) → gone ≡ length (blanks n part) → place ≡ pulled i gone cursor
+    → line_plan true n part i cursor ≡ single (Delete i (slice_range text i (i + gone)) Forward) place (i + length part - gone)
+line_plan-dedent text i n gone cursor place part part_is gone_is place_is =
     let first = greatest_boundary part (min n (length part - length (trim_start part))) in
-    let short : gone ≤ j - i = omega (arith, width, length-take first part) in
+    let short : gone ≤ i + length part - i = omega (arith, length-take first part) in
     let is : blanks n part ≡ slice_range text i (i + gone) =
-    sym (take-own first part) ∙ ap (λ k. take k part) (sym gone_is) ∙ ap (take gone) part_is ∙ front-between text i j gone short in
-    let stop : i + length part - gone ≡ j - gone = omega (arith, width) in
-    ap (λ s. line_plan true n s i cursor) (sym part_is)
-    ∙ ap₂ (λ (s : List ℕ) (k : ℕ). single (Delete i s Forward) (pulled i k cursor) (i + length part - k)) is (sym gone_is)
-    ∙ ap₂ (λ (at : ℕ) (answer : ℕ). single (Delete i (slice_range text i (i + gone)) Forward) at answer) (sym place_is) stop
+    sym (take-own first part) ∙ ap (λ k. take k part) (sym gone_is) ∙ ap (take gone) part_is ∙ front-between text i (i + length part) gone short in
+    ap₂ (λ (s : List ℕ) (k : ℕ). single (Delete i s Forward) (pulled i k cursor) (i + length part - k)) is (sym gone_is)
+    ∙ ap (λ (at : ℕ). single (Delete i (slice_range text i (i + gone)) Forward) at (i + length part - gone)) (sym place_is)
 
 -- ---- what a shift of a line leaves: as many newlines, and after k what stood after q
 record KeepsAfter (old new : List ℕ) (q k : ℕ) : Type 0 where
@@ -161,10 +158,10 @@ KeepsAfter-line_plan true n part i q cursor old new is inside none h =
 
 -- ---- from line to line
 -- the lines before line k are done: those that are left are as they were, from where line k begins now
-pub record LinesDone {L : Type 0} (step : L → Event → L) (dedent : Bool) (n : ℕ) (plan : Plan Bool) (old now : Line) (before here : L) (k final : ℕ) : Type 0 where
+pub record LinesDone {L : Type 0} (step : L → Event → L) (dedent : Bool) (n : ℕ) (plan : Plan Bool) (old now : Line) (before here : L) (k end : ℕ) : Type 0 where
   pub done : List Step
   pub taken : Taken step done old now before here
-  pub left : plan ≡ after_steps done (lines_plan dedent n (slice_range (lines old.text) k (final + 1)) (start_of_line now.text k) now.cursor)
+  pub left : plan ≡ after_steps done (lines_plan dedent n (slice_range (lines old.text) k end) (start_of_line now.text k) now.cursor)
   pub rest : drop k (lines now.text) ≡ drop k (lines old.text)
   pub count : last_line now.text ≡ last_line old.text
 
@@ -187,66 +184,53 @@ ends_line old new k stop l kept =
     }
 
 module _ {L : Type 0} (step : L → Event → L) (dedent : Bool) (n : ℕ) where
-  pub LinesDone-none : (plan : Plan Bool) (line : Line) (before : L) (first final : ℕ)
-      → plan ≡ lines_plan dedent n (slice_range (lines line.text) first (final + 1)) (start_of_line line.text first) line.cursor
-      → LinesDone step dedent n plan line line before before first final
-  LinesDone-none plan line before first final e = record { done = []; taken = Taken-nil step line before; left = e; rest = refl; count = refl }
+  module _ (plan : Plan Bool) (old now : Line) (before here : L) (k end : ℕ) (h : LinesDone step dedent n plan old now before here k end) where
+    module _ (start : ℕ) (part : List ℕ) (start_is : start ≡ start_of_line now.text k) (part_is : part ≡ text_of_line now.text k) (more : k < end) (small : k < length (lines now.text)) where
+      abbrev one : Plan ℕ
+      one = line_plan dedent n part start now.cursor
 
-  module _ (plan : Plan Bool) (old now : Line) (before here : L) (k final : ℕ) (h : LinesDone step dedent n plan old now before here k final) where
-    -- the last is done
-    pub LinesDone-all : final < k → Done step plan old now before here true
-    LinesDone-all past =
-        let none : final + 1 - k ≡ 0 = omega arith in
-        let all : plan ≡ after_steps h.done (lines_plan dedent n [] (start_of_line now.text k) now.cursor) =
-        h.left ∙ ap (λ m. after_steps h.done (lines_plan dedent n (take m (drop k (lines old.text))) (start_of_line now.text k) now.cursor)) none in
-        record {
-          last = now;
-          taken = subst (λ ss. Taken step ss old now before here) (sym (ap (λ (p : Plan Bool). p.steps) all ∙ append-nil h.done)) h.taken;
-          line = ap (λ c. record now { cursor = c }) (sym (ap (λ (p : Plan Bool). p.cursor) all));
-          answered = sym (ap (λ (p : Plan Bool). p.answer) all);
-        }
-
-    module _ (start stop : ℕ) (start_is : start ≡ start_of_line now.text k) (stop_is : stop ≡ end_of_line now.text k) (more : k ≤ final) (small : k < length (lines now.text)) where
       -- what is left, by the next line
-      next : plan ≡ after_steps h.done (lines_plan dedent n (slice_range now.text start stop ∷ slice_range (lines old.text) (k + 1) (final + 1)) start now.cursor)
+      next : plan ≡ after_steps h.done (lines_plan dedent n (part ∷ slice_range (lines old.text) (k + 1) end) start now.cursor)
       next =
           let all = lines old.text in
-          let part = slice_range now.text start stop in
-          let one : suc k ≡ k + 1 = omega arith in
+          let step_on : suc k ≡ k + 1 = omega arith in
           let later : drop (k + 1) (lines now.text) ≡ drop (k + 1) all = sym (drop-drop 1 k (lines now.text)) ∙ ap (drop 1) h.rest ∙ drop-drop 1 k all in
           let from : drop k all ≡ part ∷ drop (k + 1) all =
-          sym h.rest ∙ drop-cons (lines now.text) k [] small ∙ ap (λ j. text_of_line now.text k ∷ drop j (lines now.text)) one
-          ∙ ap₂ (λ t ls. t ∷ ls) (sym (text-between now.text k start stop small start_is stop_is)) later in
-          let count : final + 1 - k ≡ suc (final + 1 - (k + 1)) = omega arith in
+          sym h.rest ∙ drop-cons (lines now.text) k [] small ∙ ap (λ j. text_of_line now.text k ∷ drop j (lines now.text)) step_on ∙ ap₂ (λ t ls. t ∷ ls) (sym part_is) later in
+          let count : end - k ≡ suc (end - (k + 1)) = omega arith in
           h.left ∙ ap₂ (λ ls i. after_steps h.done (lines_plan dedent n ls i now.cursor)) (ap₂ (λ m ls. take m ls) count from) (sym start_is)
 
       pub LinesDone-halted : (refused : L → Event → Refusal → L → Type 0) (new : Line) (there : L) (r : Refusal)
-          → Halted step refused (line_plan dedent n (slice_range now.text start stop) start now.cursor) now new here there r → Halted step refused plan old new before there r
+          → Halted step refused one now new here there r → Halted step refused plan old new before there r
       LinesDone-halted refused new there r halted =
-          let one = line_plan dedent n (slice_range now.text start stop) start now.cursor in
-          let others = lines_plan dedent n (slice_range (lines old.text) (k + 1) (final + 1)) (one.answer + 1) one.cursor in
+          let others = lines_plan dedent n (slice_range (lines old.text) (k + 1) end) (one.answer + 1) one.cursor in
           Halted-back step refused plan (after_steps one.steps others) h.done old now new before here there r h.taken
           (Halted-front step refused (after_steps one.steps others) one others.steps now new here there r halted refl) (ap (λ (p : Plan Bool). p.steps) next)
 
-      pub LinesDone-more : (new : Line) (there : L) → Completed step (line_plan dedent n (slice_range now.text start stop) start now.cursor) now new here there
-          → LinesDone step dedent n plan old new before there (k + 1) final
-      LinesDone-more new there one =
-          let part = slice_range now.text start stop in
-          let here_plan = line_plan dedent n part start now.cursor in
-          let line : part ≡ text_of_line now.text k = text-between now.text k start stop small start_is stop_is in
-          let after : KeepsAfter now.text new.text stop here_plan.answer =
-          KeepsAfter-line_plan dedent n part start stop now.cursor now new (omega (arith, ap length line)) (omega (arith, (lies now.text k small).within)) (ap last_line line ∙ newlines-line now.text k small) one.taken.line in
-          let ends : EndsLine new.text now.text k here_plan.answer = ends_line now.text new.text k here_plan.answer small (subst (λ q. KeepsAfter now.text new.text q here_plan.answer) stop_is after) in
-          let later = slice_range (lines old.text) (k + 1) (final + 1) in
-          let others_plan = lines_plan dedent n later (here_plan.answer + 1) here_plan.cursor in
-          record {
-            done = h.done ++ here_plan.steps;
-            taken = Taken-append step h.done here_plan.steps old now new before here there h.taken one.taken;
-            left = next ∙ ap (λ ss. record others_plan { steps = ss }) (sym (append_assoc h.done here_plan.steps others_plan.steps))
-                ∙ ap₂ (λ i c. after_steps (h.done ++ here_plan.steps) (lines_plan dedent n later i c)) (sym ends.start) (sym one.cursor);
-            rest = ends.rest ∙ sym (drop-drop 1 k (lines now.text)) ∙ ap (drop 1) h.rest ∙ drop-drop 1 k (lines old.text);
-            count = after.count ∙ h.count;
-          }
+      module _ (new : Line) (there : L) (c : Completed step one now new here there) where
+        after_it : KeepsAfter now.text new.text (end_of_line now.text k) one.answer
+        after_it = KeepsAfter-line_plan dedent n part start (end_of_line now.text k) now.cursor now new (omega (arith, ap length part_is)) (omega (arith, (lies now.text k small).within))
+            (ap last_line part_is ∙ newlines-line now.text k small) c.taken.line
+
+        ends : EndsLine new.text now.text k one.answer
+        ends = ends_line now.text new.text k one.answer small after_it
+
+        -- where the next line begins
+        pub LinesDone-next : one.answer + 1 ≡ start_of_line new.text (k + 1)
+        LinesDone-next = sym ends.start
+
+        pub LinesDone-more : LinesDone step dedent n plan old new before there (k + 1) end
+        LinesDone-more =
+            let later = slice_range (lines old.text) (k + 1) end in
+            let others = lines_plan dedent n later (one.answer + 1) one.cursor in
+            record {
+              done = h.done ++ one.steps;
+              taken = Taken-append step h.done one.steps old now new before here there h.taken c.taken;
+              left = next ∙ ap (λ ss. record others { steps = ss }) (sym (append_assoc h.done one.steps others.steps))
+                  ∙ ap₂ (λ i cursor. after_steps (h.done ++ one.steps) (lines_plan dedent n later i cursor)) LinesDone-next (sym c.cursor);
+              rest = ends.rest ∙ sym (drop-drop 1 k (lines now.text)) ∙ ap (drop 1) h.rest ∙ drop-drop 1 k (lines old.text);
+              count = after_it.count ∙ h.count;
+            }
 
 -- ---- how many bytes go in or out
 bytes_of-put : (ps : List ℕ) (i cursor : ℕ) (rest : List Step) → bytes_of (put_spaces ps i cursor ++ rest) ≡ sum ps + bytes_of rest
@@ -291,30 +275,49 @@ indents-change line m n =
     many (suc n) zero some = absurd (omega arith)
     many (suc n) (suc k) some = let more : suc n * suc k ≡ suc (n + k + n * k) = omega arith in lt-ltb 0 (suc n * suc k) (omega (arith, more)) ∙ sym (lt-ltb 0 (suc n) (omega arith))
 
-pub dedents-change : (line : Line) (m : Movement) (n first last : ℕ) → first ≡ line_number line.text (indented line m).start
-    → last ≡ line_number line.text (max (indented line m).start ((indented line m).end - 1))
-    → indent_changes line m n true ≡ nat_lt 0 (blanks_of n (slice_range (lines line.text) first (last + 1)))
-dedents-change line m n first last first_is last_is =
-    let texts = slice_range (lines line.text) (first_line line.text (indented line m)) (final_line line.text (indented line m) + 1) in
-    ap (nat_lt 0) (bytes-dedent n texts (start_of_line line.text (first_line line.text (indented line m))) line.cursor
-    ∙ ap₂ (λ i j. blanks_of n (slice_range (lines line.text) i (j + 1))) (sym first_is) (sym last_is))
+pub dedents-change : (line : Line) (m : Movement) (n : ℕ) (ks : Range ℕ) → ks ≡ indented_lines line m
+    → indent_changes line m n true ≡ nat_lt 0 (blanks_of n (slice_range (lines line.text) ks.start ks.end))
+dedents-change line m n ks e =
+    let all = indented_lines line m in
+    ap (nat_lt 0) (bytes-dedent n (slice_range (lines line.text) all.start all.end) (start_of_line line.text all.start) line.cursor
+    ∙ ap (λ (r : Range ℕ). blanks_of n (slice_range (lines line.text) r.start r.end)) (sym e))
 
 -- the first of the lines that are left
-pub blanks_of-next : (text : List ℕ) (n k last : ℕ) (part : List ℕ) → k ≤ last → k < length (lines text) → part ≡ text_of_line text k
-    → blanks_of n (slice_range (lines text) k (last + 1)) ≡ length (blanks n part) + blanks_of n (slice_range (lines text) (k + 1) (last + 1))
+pub blanks_of-next : (text : List ℕ) (n k end : ℕ) (part : List ℕ) → k < end → k < length (lines text) → part ≡ text_of_line text k
+    → blanks_of n (slice_range (lines text) k end) ≡ length (blanks n part) + blanks_of n (slice_range (lines text) (k + 1) end)
 unfolding blanks_of
-blanks_of-next text n k last part le small is =
+blanks_of-next text n k end part le small is =
     let all = lines text in
     let one : suc k ≡ k + 1 = omega arith in
-    let count : last + 1 - k ≡ suc (last + 1 - (k + 1)) = omega arith in
+    let count : end - k ≡ suc (end - (k + 1)) = omega arith in
     ap₂ (λ m ls. blanks_of n (take m ls)) count (drop-cons all k [] small ∙ ap (λ j. text_of_line text k ∷ drop j all) one)
-    ∙ ap (λ t. length (blanks n t) + blanks_of n (slice_range all (k + 1) (last + 1))) (sym is)
+    ∙ ap (λ t. length (blanks n t) + blanks_of n (slice_range all (k + 1) end)) (sym is)
 
-pub blanks_of-none : (text : List ℕ) (n k last : ℕ) → last < k → blanks_of n (slice_range (lines text) k (last + 1)) ≡ 0
+pub blanks_of-none : (text : List ℕ) (n k end : ℕ) → end ≤ k → blanks_of n (slice_range (lines text) k end) ≡ 0
 unfolding blanks_of
-blanks_of-none text n k last past =
-    let none : last + 1 - k ≡ 0 = omega arith in ap (λ m. blanks_of n (take m (drop k (lines text)))) none
+blanks_of-none text n k end past =
+    let none : end - k ≡ 0 = omega arith in ap (λ m. blanks_of n (take m (drop k (lines text)))) none
+
+-- ---- room for what goes in
+pub one-more : (a k end : ℕ) → k < end → a * (end - k) ≡ a + a * (end - (k + 1))
+one-more a k end more =
+    let count : end - k ≡ suc (end - (k + 1)) = omega arith in
+    ap (λ m. a * m) count ∙ times (end - (k + 1))
+  where
+    times : (m : ℕ) → a * suc m ≡ a + a * m
+    times m = omega arith
+
+-- without memory the first step of an indent fails
+pub Halted-no_memory : {L : Type 0} (step : L → Event → L) (refused : L → Event → Refusal → L → Type 0) (dedent : Bool) (n : ℕ) (texts : List (List ℕ)) (i : ℕ) (old new : Line) (before : L) (r : Refusal)
+    → 0 < spaces_each dedent n → 0 < length texts → r ≡ NoMemory → new ≡ old → Halted step (or_no_memory refused) (lines_plan dedent n texts i old.cursor) old new before before r
+Halted-no_memory step refused true n texts i old new before r some lines is same = absurd (omega (arith, some))
+Halted-no_memory step refused false n [] i old new before r some lines is same = absurd (omega (arith, lines))
+Halted-no_memory step refused false n (t ∷ ts) i old new before r some lines is same =
+    let part = spaces (min n 32) in
+    let at = pushed i (length part) old.cursor in
+    let later = lines_plan false n ts (i + length t + n + 1) (pushed i n old.cursor) in
+    let next = put_spaces-next n i old.cursor at part some refl refl in
+    Halted-at_first step (or_no_memory refused) (lines_plan false n (t ∷ ts) i old.cursor) (InsertStr i part, at) (put_spaces (parts (n - length part)) i at ++ later.steps) old new before before r
+    (ap (λ ss. ss ++ later.steps) next) same (inl (is, refl, omega (arith, length-spaces (min n 32))))
 
 pub ruleset parts_of_lines = (IsCharBoundary-from_part, IsCharBoundary-pulled, IsCharBoundary-trimmed, count_of_lines, text-between, trim_start-blanks)
-
-pub ruleset shifts = (LinesDone-all, LinesDone-halted, LinesDone-more, LinesDone-none, count_of_lines)

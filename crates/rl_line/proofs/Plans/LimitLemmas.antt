@@ -1,9 +1,9 @@
 -- How long the text is on the way over steps, and the limit, which stays if the text is never longer.
-use Rattle.rl_line.proofs.Common.{◌≡◌, ◌≤◌, ℕ, ◌+◌, ◌-◌, ◌*◌, max, Bool, true, false, List, [], ◌∷◌, ◌++◌, length, sum, Some, refl, sym, ap, ◌∙◌, arith, map, reverse, encode_utf8, sum_by-cons, IsUtf8, Event, InsertChar, InsertStr, Delete, Replace, Line, Movement, Range, stepped, lines, last_line, line_number, slice_range, exchange_plan, indent_plan, leb, le-leb, length-between, line_plan, lines_plan, blanks, start_of_line, parts, pushed, put_spaces, spaces, Step, after, Entry, event_of, inverse, greatest_back_over, line_after, line_ahead, line_back}
+use Rattle.rl_line.proofs.Common.{◌≡◌, ◌≤◌, ℕ, ◌+◌, ◌-◌, ◌*◌, max, Bool, true, false, List, [], ◌∷◌, ◌++◌, length, sum, Some, refl, sym, ap, ◌∙◌, arith, map, reverse, encode_utf8, sum_by-cons, IsUtf8, Event, InsertChar, InsertStr, Delete, Replace, Line, Movement, Range, stepped, lines, last_line, slice_range, exchange_plan, indent_plan, leb, le-leb, length-between, line_plan, lines_plan, blanks, start_of_line, parts, pushed, put_spaces, spaces, Step, after, Entry, event_of, inverse, greatest_back_over, line_after, line_ahead, line_back}
 use Rattle.rl_base.proofs.Texts.LineLemmas.{count_of_lines}
 use Rattle.rl_base.specs.Event.{apply}
 use Rattle.rl_line.specs.Edits.{replace_plan}
-use Rattle.rl_line.specs.Indents.{final_line, first_line}
+use Rattle.rl_line.specs.Indents.{final_line, first_line, indented_lines}
 use Rattle.rl_line.specs.Ranges.{indented}
 use Rattle.rl_base.proofs.Texts.SwapLemmas.{Swaps-InsertStr, Swaps-Delete, Swaps-Replace, Swaps-InsertChar, apply-IsUtf8}
 use Rattle.rl_line.specs.Change.{greatest_ahead_over}
@@ -85,16 +85,13 @@ longest-dedent k (t ∷ ts) i cursor n =
     let gone = length (blanks k t) in
     omega (arith, longest-dedent k ts (one.answer + 1) one.cursor (n - gone))
 
-pub spaces-longest : (line : Line) (m : Movement) (k first last count : ℕ) → first ≡ line_number line.text (indented line m).start
-    → last ≡ line_number line.text (max (indented line m).start ((indented line m).end - 1)) → last ≤ last_line line.text → count ≡ last + 1 - first
-    → longest_by line (indent_plan line m k false) ≡ length line.text + k * count
-spaces-longest line m k first last count first_is last_is within count_is =
+pub spaces-longest : (line : Line) (m : Movement) (k : ℕ) (ks : Range ℕ) → ks ≡ indented_lines line m → ks.end ≤ last_line line.text + 1
+    → longest_by line (indent_plan line m k false) ≡ length line.text + k * (ks.end - ks.start)
+spaces-longest line m k ks e within =
     let all = lines line.text in
-    let from = line_number line.text (indented line m).start in
-    let to = line_number line.text (max (indented line m).start ((indented line m).end - 1)) + 1 in
-    let taken : length (slice_range all from to) ≡ count =
-    length-between all from to (omega (arith, last_is, within, count_of_lines line.text)) ∙ (omega (arith, first_is, last_is, count_is)) in
-    longest-indent k (slice_range all from to) (start_of_line line.text from) line.cursor (length line.text) ∙ ap (λ n. length line.text + k * n) taken
+    let longest_at = λ (r : Range ℕ). longest_by line (lines_plan false k (slice_range all r.start r.end) (start_of_line line.text r.start) line.cursor) in
+    ap longest_at (sym e) ∙ longest-indent k (slice_range all ks.start ks.end) (start_of_line line.text ks.start) line.cursor (length line.text)
+    ∙ ap (λ n. length line.text + k * n) (length-between all ks.start ks.end (omega (arith, within, count_of_lines line.text)))
 
 pub dedents-fit : (line : Line) (m : Movement) (k : ℕ) (dedent : Bool) → dedent ≡ true → length line.text ≤ line.limit → true ≡ leb (longest_by line (indent_plan line m k dedent)) line.limit
 dedents-fit line m k dedent e within =

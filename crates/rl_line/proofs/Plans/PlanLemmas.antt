@@ -205,6 +205,19 @@ module _ {L : Type 0} (step : L → Event → L) where
       cause = h.cause;
     }
 
+  -- the same halt, with another cause
+  pub Halted-caused : {A : Type 0} (refused refused' : L → Event → Refusal → L → Type 0) (plan : Plan A) (old new : Line) (b n : L) (r r' : Refusal)
+      → (h : Halted step refused plan old new b n r) → refused' h.middle h.next.0 r' n → Halted step refused' plan old new b n r'
+  Halted-caused refused refused' plan old new b n r r' h cause = record {
+    first = h.first;
+    next = h.next;
+    others = h.others;
+    split = h.split;
+    middle = h.middle;
+    taken = h.taken;
+    cause = cause;
+  }
+
   -- a step for which there was room, as one that looks for it
   pub StepOutcome-with_room : {B : Type 0} (refused : L → Event → Refusal → L → Type 0) (s : Step) (old new : Line) (b n : L) (result : Result B Refusal)
       → StepOutcome step refused nothing_more s old new b n result → StepOutcome step refused room_by_step s old new b n result
@@ -230,18 +243,5 @@ module _ {L : Type 0} (step : L → Event → L) where
       → Halted step refused other old new b n r ⊎ Uncopied other old new b n r → Halted step refused plan old new b n r ⊎ Uncopied plan old new b n r
   Stopped-as refused plan other old new b n r e (inl h) = inl (Halted-front refused plan other [] old new b n r h (e ∙ sym (append-nil other.steps)))
   Stopped-as refused plan other old new b n r e (inr u) = inr (u.0, u.1, u.2, subst (λ ss. 0 < bytes_of ss) (sym e) u.3)
-
-  -- the same halt, with another cause
-  pub Halted-caused : {A : Type 0} (refused refused' : L → Event → Refusal → L → Type 0) (plan : Plan A) (old new : Line) (b n : L) (r r' : Refusal)
-      → (h : Halted step refused plan old new b n r) → refused' h.middle h.next.0 r' n → Halted step refused' plan old new b n r'
-  Halted-caused refused refused' plan old new b n r r' h cause = record {
-    first = h.first;
-    next = h.next;
-    others = h.others;
-    split = h.split;
-    middle = h.middle;
-    taken = h.taken;
-    cause = cause;
-  }
 
 pub ruleset steps_taken = (Halted-after, Halted-at_first, Taken-append, after-replay)

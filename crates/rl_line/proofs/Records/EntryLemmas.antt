@@ -1,5 +1,7 @@
 -- Entries in the list of the code: counting them, and closing groups.
-use Rattle.rl_line.proofs.Common.{common_steps, ◌≡◌, ℕ, ◌+◌, ◌-◌, ◌<◌, ◌≤◌, arith, suc, List, [], ◌∷◌, ◌++◌, length, take, drop, get_or, map, reverse, refl, sym, ap, ◌∙◌, ◌⊎◌, inl, inr, or-true, append-nil, map-append, reverse-append, drop_all, zero, max, slice_get, cond, IsSome, Bool, true, false, not, ◌||◌, Option, Some, None, option_to_list, Change, Entry, Begin, End, Changed, entry_of, last_of, open_size, redo_of, adds_end, end_one, end_times, ends_in_begin, ends_in_end, is_begin, is_end, is_change, IsMatched, deep, same_Some, take-map}
+use Rattle.rl_line.proofs.Common.{common_steps, ◌≡◌, ℕ, ◌+◌, ◌-◌, ◌<◌, ◌≤◌, arith, suc, List, [], ◌∷◌, ◌++◌, length, take, drop, get_or, map, reverse, refl, sym, ap, ◌∙◌, ◌⊎◌, inl, inr, or-true, append-nil, map-append, reverse-append, drop_all, zero, max, min, slice_get, cond, IsSome, Bool, true, false, not, ◌||◌, Option, Some, None, option_to_list, Change, Entry, Begin, End, Changed, entry_of, last_of, open_size, redo_of, adds_end, end_one, end_times, ends_in_begin, ends_in_end, is_begin, is_end, is_change, IsMatched, deep, same_Some, take-map, level, ne_eqb, option_map}
+use Rattle.std.proofs.lemmas.Bool.{eq-eqb}
+use Rattle.rl_line.specs.Units.{units_in_group}
 use Rattle.rl_line.proofs.Records.Counts.{ahead_len, back_len, size_back}
 use Rattle.rl_line.proofs.Records.CountLemmas.{last-counted, redo-counted, size-counted}
 use Rattle.rl_line.proofs.Records.LastLemmas.{end_one-cases, end_one-past, ends-past, read-last}
@@ -113,6 +115,10 @@ size-change xs at (suc d) n z x pos deep e b s =
 
 pub size-done : (xs : List Change) (at d n : ℕ) → at ≡ 0 → IsMatched (map entry_of xs) → SizeAt xs at d n → n ≡ open_size (map entry_of xs)
 size-done xs at d n none m s = grind (arith, size-counted)
+
+-- no more units are counted than there are
+pub size-past : (most : ℕ) (xs : List Change) (at d n : ℕ) → most ≤ n → IsMatched (map entry_of xs) → SizeAt xs at d n → min most n ≡ min most (open_size (map entry_of xs))
+size-past most xs at d n past m s = omega (arith, past, s.counted, size-counted (map entry_of xs) m)
 
 pub ruleset sizes = (size-begin, size-change, size-change0, size-end, size-end0)
 
@@ -263,3 +269,12 @@ next-alone (y ∷ ys) x e is m =
     redo_of-change (entry_of y) (map entry_of ys) (ap (λ z. is_change (entry_of z)) (sym same) ∙ is) m ∙ ap (λ z. entry_of z ∷ []) (sym same)
 
 pub ruleset at_the_end = (Counted-all, Counted-end, Counted-next, adds-before, adds-here, adds-off, end_one-popped, end_one-pushed, ends-at, ends-at_end, last-alone, next-alone, take-map)
+
+-- how many units an undo finds in its group, and no more than `most`
+pub made-none : (most : ℕ) (es : List Entry) → level es ≡ 0 → None ≡ option_map (min most) (units_in_group es)
+made-none most es flat = ap (λ b. option_map (min most) (cond (not b) (Some (open_size es - 1)) None)) (sym (eq-eqb (level es) 0 flat))
+
+pub made-some : (most size n : ℕ) (es : List Entry) → 0 < level es → min (most + 1) size ≡ min (most + 1) (open_size es) → n ≡ min (size - 1) most → Some n ≡ option_map (min most) (units_in_group es)
+made-some most size n es some same is =
+    let made : n ≡ min most (open_size es - 1) = omega (arith, same, is) in
+    ap (λ k. Some k) made ∙ ap (λ b. option_map (min most) (cond (not b) (Some (open_size es - 1)) None)) (sym (ne_eqb (level es) 0 (λ e. omega (arith, some, e))))

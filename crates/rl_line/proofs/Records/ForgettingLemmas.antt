@@ -1,21 +1,13 @@
--- Forgetting the oldest units: where entries fit a bound, which units go, and what is left.
-use Rattle.rl_line.proofs.Common.{common_steps, AtLevel, Begin, Bool, Change, Entry, FitsFrom, ForgetsFirst, Freshness, IsMatched, List, None, Open, Option, Record, SavedAt, Some, StaysSaved, UndoUnit, Walk, Walks, Whole, [], after, and-false, ap, append-nil, append_assoc, arith, bytes_held, cond, cut_at, drop, drop-cons, drop-drop, drop-map, drop-take, drop_at, entry_of, false, fits, forgotten, get_or, gone_within, inl, inr, is_within, kept_within, le-leb, leb, leb-false, leb-true, length, length-append, length-drop, length-map, length-take-le, level, lt-leb, map, nat_le, new_text, old_text, opens, or-true, point_past, redo_from, redo_of, refl, remove_range, replay_entries, reverse, reverse-append, reverse-reverse, subst, suc, sym, take, take-append-add, take-map, take_at, together, true, unbounded, units, units_kept, zero, ℕ, ◌++◌, ◌+◌, ◌-◌, ◌<◌, ◌∙◌, ◌∷◌, ◌≡◌, ◌≤◌, ◌⊎◌, take_rest}
+-- Forgetting the oldest units: which units go, and what is left.
+use Rattle.rl_line.proofs.Common.{common_steps, AtLevel, Begin, Bool, Change, Changed, End, Entry, add_entry, close, cut_more, oldest_is_open, without_first, Freshness, IsMatched, List, None, Open, Option, Record, SavedAt, Some, StaysSaved, UndoUnit, Walk, Walks, Whole, [], after, ap, append-nil, append_assoc, arith, bytes_held, cond, cut_at, drop, drop-map, drop-take, drop_at, entry_of, false, fits, forgotten, gone_within, inl, inr, is_within, kept_within, le-leb, leb, leb-true, length, length-append, length-drop, level, map, nat_le, opens, or-true, point_past, redo_from, redo_of, refl, remove_range, replay_entries, reverse, reverse-append, reverse-reverse, subst, sym, take, take-append-add, take_at, together, true, unbounded, units, units_kept, ℕ, ◌++◌, ◌+◌, ◌-◌, ◌<◌, ◌∙◌, ◌∷◌, ◌≡◌, ◌≤◌, ◌⊎◌}
+use Rattle.rl_line.proofs.Records.FrontLemmas.{past-more, past-none}
 use Rattle.rl_line.proofs.Records.WalkLemmas.{Walk-IsUtf8, Walk-split}
 use Rattle.rl_line.proofs.Records.RecordLemmas.{replay-append, through}
+use Rattle.rl_line.proofs.Records.LevelLemmas.{level-append}
 use Rattle.rl_line.proofs.Records.MatchLemmas.{Redoes-of}
-use Rattle.rl_line.proofs.Records.UnitLemmas.{oldest, oldest-first, AllGood, AllGood-left, AllGood-reverse, AllGood-right, IsMatched-together, Settles, good_cuts, opens-reverse, together-append, together-units, units-append, units-good}
+use Rattle.rl_line.proofs.Records.UnitLemmas.{cut_more-append, oldest, oldest-first, AllGood, AllGood-left, AllGood-reverse, AllGood-right, IsMatched-together, Settles, good_cuts, opens-reverse, together-append, together-units, units-append, units-good}
 
 -- ---- where entries fit
--- fewer entries hold no more bytes
-pub bytes-after : (es : List Entry) (i j : ℕ) → i ≤ j → bytes_held (drop j es) ≤ bytes_held (drop i es)
-bytes-after es zero zero h = omega arith
-bytes-after [] zero (suc j) h = omega arith
-bytes-after [] (suc i) zero h = omega arith
-bytes-after [] (suc i) (suc j) h = omega arith
-bytes-after (e ∷ es) zero (suc j) h = omega (arith, bytes-after es zero j (omega arith))
-bytes-after (e ∷ es) (suc i) zero h = absurd (omega arith)
-bytes-after (e ∷ es) (suc i) (suc j) h = bytes-after es i j (omega arith)
-
 within-none : (bound n : ℕ) → unbounded ≤ bound → is_within bound n ≡ true
 within-none bound n free = rw (le-leb unbounded bound free) refl
 
@@ -27,36 +19,6 @@ fits-any most bytes es few free = rw (within-few most (length es) few, within-no
 
 pub fits-counted : (most bytes : ℕ) (es : List Entry) → length es ≤ most → bytes_held es ≤ bytes → fits most bytes es ≡ true
 fits-counted most bytes es few light = rw (within-few most (length es) few, within-few bytes (bytes_held es) light) refl
-
--- any number of bytes fits
-pub FitsFrom-any : (most bytes k : ℕ) (xs : List Change) → length xs ≤ unbounded → k ≡ length xs - most → bytes ≡ unbounded → FitsFrom most bytes (map entry_of xs) k
-FitsFrom-any most bytes k xs short e free = grind (arith, common_steps)
-
--- from the place `at` on the bytes were counted, and so many more fit
-pub record Counted (most bytes first : ℕ) (xs : List Change) (at left : ℕ) : Type 0 where
-  pub first_is : first ≡ length xs - most
-  pub after : first ≤ at
-  pub within : at ≤ length xs
-  pub count : left + bytes_held (drop at (map entry_of xs)) ≡ bytes
-
--- no more than `most` entries are left
-pub FitsFrom-counted : (most bytes first at left : ℕ) (xs : List Change) → length xs ≤ unbounded → at ≤ first → Counted most bytes first xs at left → FitsFrom most bytes (map entry_of xs) at
-FitsFrom-counted most bytes first at left xs short end c = grind (arith, common_steps, bytes-after)
-
--- the entries from a place on hold what the one there does and what those after it do
-held-read : (xs : List Change) (at : ℕ) (x : Change) → 0 < at → get_or xs (at - 1) x ≡ x → at ≤ length xs
-    → bytes_held (drop (at - 1) (map entry_of xs)) ≡ (length (old_text (entry_of x)) + length (new_text (entry_of x))) + bytes_held (drop at (map entry_of xs))
-held-read xs at x some e within = grind (arith, common_steps, drop-map)
-
--- an entry was counted
-pub Counted-next : (most bytes first at left size : ℕ) (xs : List Change) (x : Change) → first < at → size ≤ left → get_or xs (at - 1) x ≡ x
-    → size ≡ length (old_text (entry_of x)) + length (new_text (entry_of x)) → Counted most bytes first xs at left → Counted most bytes first xs (at - 1) (left - size)
-Counted-next most bytes first at left size xs x lt le e s c = grind (arith, held-read)
-
--- the one before does not fit any more
-pub FitsFrom-stopped : (most bytes first at left size : ℕ) (xs : List Change) (x : Change) → bytes < unbounded → first < at → left < size → get_or xs (at - 1) x ≡ x
-    → size ≡ length (old_text (entry_of x)) + length (new_text (entry_of x)) → Counted most bytes first xs at left → FitsFrom most bytes (map entry_of xs) at
-FitsFrom-stopped most bytes first at left size xs x bound lt heavy e s c = grind (arith, common_steps, held-read, bytes-after)
 
 -- ---- which units go
 -- what a list is, from its units, the oldest first
@@ -107,66 +69,10 @@ fitting-stay most bytes es h = go (reverse (units es)) refl
         let all = whole-list es (Whole inner ∷ rs) e in
         ap (λ b. together (reverse (cond b (Whole inner ∷ rs) (units_kept most bytes rs)))) (ap (fits most bytes) all ∙ h) ∙ all
 
--- so do those of an open group
-pub open-stays : (most bytes : ℕ) (es : List Entry) → IsMatched es → 0 < level (redo_of es) → kept_within most bytes es ≡ es
-open-stays most bytes es m h = go (reverse (units es)) refl h
-  where
-    go : (rs : List UndoUnit) → reverse (units es) ≡ rs → 0 < level (redo_from es rs) → together (reverse (units_kept most bytes rs)) ≡ es
-    go [] e n = whole-list es [] e
-    go (Open ∷ rs) e n = whole-list es (Open ∷ rs) e
-    go (Whole inner ∷ rs) e n =
-        let good = AllGood-right (reverse rs) (Whole inner ∷ []) (subst AllGood (oldest es inner rs e).units_are (units-good es m)) in
-        absurd (omega (arith, n, level-whole inner good.0))
-
 -- a whole unit goes where it and what comes after it do not fit
 pub whole-goes : (most bytes : ℕ) (es : List Entry) → fits most bytes es ≡ false → OldestIsWhole es
     → kept_within most bytes es ≡ kept_within most bytes (drop (length (redo_of es)) es)
 whole-goes most bytes es h o = grind (arith, whole-list)
-
--- the units before the place `at` went
-pub record Forgetting (most bytes : ℕ) (xs : List Change) (at : ℕ) : Type 0 where
-  pub within : at ≤ length xs
-  pub matched : IsMatched (map entry_of (drop at xs))
-  pub kept : kept_within most bytes (map entry_of (drop at xs)) ≡ kept_within most bytes (map entry_of xs)
-
-pub Forgetting-stops : (most bytes at : ℕ) (xs : List Change) → kept_within most bytes (map entry_of (drop at xs)) ≡ map entry_of (drop at xs)
-    → Forgetting most bytes xs at → ForgetsFirst most bytes (map entry_of xs) at
-Forgetting-stops most bytes at xs e f = (omega (arith, f.within, length-map xs entry_of), drop-map entry_of at xs ∙ sym e ∙ f.kept)
-
-pub Forgetting-fits : (most bytes first at : ℕ) (xs : List Change) → first ≤ at → FitsFrom most bytes (map entry_of xs) first → Forgetting most bytes xs at
-    → ForgetsFirst most bytes (map entry_of xs) at
-Forgetting-fits most bytes first at xs le c f = grind (arith, common_steps, fitting-stay, drop-map)
-
--- the part of a list that is its oldest unit
-pub unit-is : (n : ℕ) (xs : List Change) → IsMatched (map entry_of xs) → n ≡ length (redo_of (map entry_of xs)) → map entry_of (take n xs) ≡ redo_of (map entry_of xs)
-unit-is n xs m e =
-    let es = map entry_of xs in
-    let d = Redoes-of es m in
-    sym (take-map entry_of n xs) ∙ ap (take n) (sym d.list_is) ∙ take_at (redo_of es) (drop (length (redo_of es)) es) n (sym e)
-
-pub unit-within : (n : ℕ) (xs : List Change) → IsMatched (map entry_of xs) → n ≡ length (redo_of (map entry_of xs)) → n ≤ length xs
-unit-within n xs m e =
-    let es = map entry_of xs in
-    omega (arith, e, length-map xs entry_of, ap length (Redoes-of es m).list_is, length-append (redo_of es) (drop (length (redo_of es)) es))
-
--- one whole unit more goes
-pub Forgetting-next : (most bytes first at n : ℕ) (xs : List Change) → at < first → FitsFrom most bytes (map entry_of xs) first
-    → n ≡ length (redo_of (map entry_of (drop at xs))) → level (redo_of (map entry_of (drop at xs))) ≡ 0 → Forgetting most bytes xs at
-    → (0 < n) × Forgetting most bytes xs (at + n)
-Forgetting-next most bytes first at n xs lt c e none f =
-    let left = map entry_of (drop at xs) in
-    let long : 0 < length left = omega (arith, length-map (drop at xs) entry_of, length-drop at xs, lt, c.within, length-map xs entry_of) in
-    let o = oldest-whole left f.matched long none in
-    let rest : drop (length (redo_of left)) left ≡ map entry_of (drop (at + n) xs) =
-    ap (λ k. drop k left) (sym e) ∙ drop-map entry_of n (drop at xs) ∙ ap (map entry_of) (drop-drop n at xs) in
-    let over : fits most bytes left ≡ false = ap (fits most bytes) (sym (drop-map entry_of at xs)) ∙ c.from at ∙ lt-leb first at lt in (
-      subst (λ k. 0 < k) (sym e) o.some,
-      record {
-        within = omega (arith, unit-within n (drop at xs) f.matched e, length-drop at xs, f.within);
-        matched = subst IsMatched rest (Redoes-of left f.matched).rest_matched;
-        kept = ap (kept_within most bytes) (sym rest) ∙ sym (whole-goes most bytes left over o) ∙ f.kept;
-      },
-    )
 
 -- ---- what is left
 units_kept-good : (most bytes : ℕ) (us : List UndoUnit) → AllGood us → AllGood (units_kept most bytes us)
@@ -238,26 +144,112 @@ pub dropped-first : (n count : ℕ) (r : Record) (es now : List Entry) (fresh : 
     → (n - count ≤ length now) × (cut_at (n - count) now fresh (point_past count saved) ≡ record r { recorded = drop count r.recorded; saved = point_past count r.saved })
 dropped-first n count r es now fresh saved within v few e = grind (arith, common_steps, drop-take)
 
-pub forgotten-is : (most bytes count : ℕ) (r : Record) (es : List Entry) → es ≡ r.recorded → ForgetsFirst most bytes es count
-    → record r { recorded = drop count r.recorded; saved = point_past count r.saved } ≡ forgotten most bytes r
-forgotten-is most bytes count r es e f =
-    let g = subst (λ l. ForgetsFirst most bytes l count) e f in
-    let gone : count ≡ length r.recorded - length (kept_within most bytes r.recorded) = omega (arith, g.0, ap length g.1, length-drop count r.recorded) in
-    ap (λ l. record r { recorded = l; saved = point_past count r.saved }) g.1 ∙ ap (λ k. record r { recorded = kept_within most bytes r.recorded; saved = point_past k r.saved }) gone
-
-past-none : (point : Option ℕ) → point_past 0 point ≡ point
-past-none None = refl
-past-none (Some n) =
-    let all : n - 0 ≡ n = omega arith in
-    ap (λ (x : Bool). cond x (Some (n - 0)) None) (le-leb 0 n (omega arith)) ∙ ap (λ k. Some k) all
-
--- within the bound nothing goes
-pub forgotten-same : (most bytes : ℕ) (r : Record) → length r.recorded ≤ most → unbounded ≤ bytes → forgotten most bytes r ≡ r
-forgotten-same most bytes r few free =
-    let all = fitting-stay most bytes r.recorded (fits-any most bytes r.recorded few free) in
+-- where all stays, so does the record
+pub forgotten-stays : (most bytes : ℕ) (r : Record) → kept_within most bytes r.recorded ≡ r.recorded → forgotten most bytes r ≡ r
+forgotten-stays most bytes r all =
     let none : length r.recorded - length (kept_within most bytes r.recorded) ≡ 0 = omega (arith, ap length all) in
     ap (λ es. record r { recorded = es; saved = point_past (length r.recorded - length (kept_within most bytes r.recorded)) r.saved }) all
     ∙ ap (λ p. record r { saved = p }) (ap (λ k. point_past k r.saved) none ∙ past-none r.saved)
+
+pub forgotten-fits : (most bytes : ℕ) (r : Record) → fits most bytes r.recorded ≡ true → forgotten most bytes r ≡ r
+forgotten-fits most bytes r h = forgotten-stays most bytes r (fitting-stay most bytes r.recorded h)
+
+-- within the bound nothing goes
+pub forgotten-same : (most bytes : ℕ) (r : Record) → length r.recorded ≤ most → unbounded ≤ bytes → forgotten most bytes r ≡ r
+forgotten-same most bytes r few free = forgotten-stays most bytes r (fitting-stay most bytes r.recorded (fits-any most bytes r.recorded few free))
+
+-- ---- the oldest unit is an open group
+last-open : (us : List UndoUnit) → oldest_is_open us ≡ true → (rs : List UndoUnit) × (us ≡ rs ++ Open ∷ [])
+last-open [] h = cc
+last-open (Open ∷ []) h = ([], refl)
+last-open (Whole es ∷ []) h = cc
+last-open (Open ∷ (v ∷ vs)) h = let r = last-open (v ∷ vs) h in (Open ∷ r.0, ap (λ l. Open ∷ l) r.1)
+last-open (Whole es ∷ (v ∷ vs)) h = let r = last-open (v ∷ vs) h in (Whole es ∷ r.0, ap (λ l. Whole es ∷ l) r.1)
+
+ends-open : (us : List UndoUnit) → oldest_is_open (us ++ Open ∷ []) ≡ true
+ends-open [] = refl
+ends-open (Open ∷ []) = refl
+ends-open (Whole es ∷ []) = refl
+ends-open (Open ∷ (v ∷ vs)) = ends-open (v ∷ vs)
+ends-open (Whole es ∷ (v ∷ vs)) = ends-open (v ∷ vs)
+
+-- then all stays
+pub open-all_stays : (es : List Entry) → oldest_is_open (units es) ≡ true → (most bytes : ℕ) → kept_within most bytes es ≡ es
+open-all_stays es h most bytes =
+    let r = last-open (units es) h in
+    let turned : reverse (units es) ≡ Open ∷ reverse r.0 = ap reverse r.1 ∙ reverse-append r.0 (Open ∷ []) in
+    ap (λ rs. together (reverse (units_kept most bytes rs))) turned ∙ whole-list es (Open ∷ reverse r.0) turned
+
+-- so it is where the unit that is redone first opens a group
+pub open-found : (es : List Entry) → IsMatched es → 0 < level (redo_of es) → oldest_is_open (units es) ≡ true
+open-found es m h = go (reverse (units es)) refl h
+  where
+    go : (rs : List UndoUnit) → reverse (units es) ≡ rs → 0 < level (redo_from es rs) → oldest_is_open (units es) ≡ true
+    go [] e n = absurd (omega (arith, n, level-of es [] e))
+    go (Open ∷ rs) e n = ap oldest_is_open (oldest-first es (Open ∷ rs) e ∙ reverse-append (Open ∷ []) rs) ∙ ends-open (reverse rs)
+    go (Whole inner ∷ rs) e n =
+        let good = AllGood-right (reverse rs) (Whole inner ∷ []) (subst AllGood (oldest es inner rs e).units_are (units-good es m)) in
+        absurd (omega (arith, n, level-whole inner good.0))
+
+-- where the unit that is redone first has no entries, there are none
+pub none-goes : (es : List Entry) → IsMatched es → length (redo_of es) ≡ 0 → level (redo_of es) ≡ 0 → (most bytes : ℕ) → kept_within most bytes es ≡ es
+none-goes [] m none flat most bytes = refl
+none-goes (e ∷ es) m none flat most bytes = absurd (omega (arith, (oldest-whole (e ∷ es) m (omega arith) flat).some, none))
+
+-- more entries after its begin: it is open as long as some group is
+some-closed : (inner : List Entry) (us : List UndoUnit) → 0 < length (close inner us)
+some-closed inner [] = omega arith
+some-closed inner (Open ∷ us) = omega arith
+some-closed inner (Whole es ∷ us) = some-closed (es ++ inner) us
+
+some-added : (e : Entry) (us : List UndoUnit) → 0 < length (add_entry e us)
+some-added Begin us = omega arith
+some-added End us = some-closed [] us
+some-added (Changed kind swap) us = omega arith
+
+close-back : (inner : List Entry) (us : List UndoUnit) → 0 < length us → oldest_is_open (close inner us) ≡ true → oldest_is_open us ≡ true
+close-back inner [] some h = cc
+close-back inner (Open ∷ []) some h = cc
+close-back inner (Open ∷ (v ∷ vs)) some h = h
+close-back inner (Whole es ∷ []) some h = cc
+close-back inner (Whole es ∷ (v ∷ vs)) some h = close-back (es ++ inner) (v ∷ vs) (omega arith) h
+
+add-back : (e : Entry) (us : List UndoUnit) → 0 < length us → oldest_is_open (add_entry e us) ≡ true → oldest_is_open us ≡ true
+add-back e [] some h = absurd (omega (arith, some))
+add-back Begin (u ∷ us) some h = h
+add-back End (u ∷ us) some h = close-back [] (u ∷ us) some h
+add-back (Changed kind swap) (u ∷ us) some h = h
+
+cut-back : (es : List Entry) (us : List UndoUnit) → 0 < length us → oldest_is_open (cut_more us es) ≡ true → oldest_is_open us ≡ true
+cut-back [] us some h = h
+cut-back (e ∷ es) us some h = add-back e us some (cut-back es (add_entry e us) (some-added e us) h)
+
+-- of fewer entries the oldest unit is open too
+pub open-front : (xs ys : List Entry) → 0 < length xs → oldest_is_open (units (xs ++ ys)) ≡ true → oldest_is_open (units xs) ≡ true
+open-front [] ys some h = absurd (omega (arith, some))
+open-front (x ∷ xs) ys some h = cut-back ys (units (x ∷ xs)) (some-units xs (add_entry x []) (some-added x [])) (sym (ap oldest_is_open (cut_more-append [] (x ∷ xs) ys)) ∙ h)
+  where
+    some-units : (es : List Entry) (us : List UndoUnit) → 0 < length us → 0 < length (cut_more us es)
+    some-units [] us some = some
+    some-units (e ∷ es) us some = some-units es (add_entry e us) (some-added e us)
+
+close-on : (inner : List Entry) (us : List UndoUnit) → oldest_is_open us ≡ true → 0 < opens (close inner us) → oldest_is_open (close inner us) ≡ true
+close-on inner [] h some = cc
+close-on inner (Open ∷ []) h some = absurd (omega (arith, some))
+close-on inner (Open ∷ (v ∷ vs)) h some = h
+close-on inner (Whole es ∷ []) h some = cc
+close-on inner (Whole es ∷ (v ∷ vs)) h some = close-on (es ++ inner) (v ∷ vs) h some
+
+add-on : (e : Entry) (us : List UndoUnit) → oldest_is_open us ≡ true → 0 < opens (add_entry e us) → oldest_is_open (add_entry e us) ≡ true
+add-on e [] h some = cc
+add-on Begin (u ∷ us) h some = h
+add-on End (u ∷ us) h some = close-on [] (u ∷ us) h some
+add-on (Changed kind swap) (u ∷ us) h some = h
+
+pub open-on : (es : List Entry) (e : Entry) → oldest_is_open (units es) ≡ true → 0 < level (es ++ e ∷ []) → oldest_is_open (units (es ++ e ∷ [])) ≡ true
+open-on es e h some =
+    let us = cut_more-append [] es (e ∷ []) in
+    ap oldest_is_open us ∙ add-on e (units es) h (subst (λ vs. 0 < opens vs) us some)
 
 -- ---- what went, and what that led to
 -- whole units went, the oldest ones
@@ -289,6 +281,36 @@ gone-is most bytes es =
 
 pub gone-kept : (most bytes : ℕ) (es : List Entry) → gone_within most bytes es ++ kept_within most bytes es ≡ es
 gone-kept most bytes es = ap (λ gone. gone ++ kept_within most bytes es) (gone-is most bytes es) ∙ went-list most bytes es
+
+-- the oldest unit goes, where it is whole and the entries do not fit
+pub record GoesFirst (most bytes n : ℕ) (r : Record) : Type 0 where
+  pub within : n ≤ length r.recorded
+  pub kept : forgotten most bytes (without_first n r) ≡ forgotten most bytes r
+  pub matched : IsMatched (drop n r.recorded)
+  pub level : level (drop n r.recorded) ≡ level r.recorded
+
+pub goes-first : (most bytes n : ℕ) (r : Record) → IsMatched r.recorded → fits most bytes r.recorded ≡ false → 0 < n → n ≡ length (redo_of r.recorded) → level (redo_of r.recorded) ≡ 0
+    → GoesFirst most bytes n r
+goes-first most bytes n r m over some e none =
+    let es = r.recorded in
+    let d = Redoes-of es m in
+    let rest : drop (length (redo_of es)) es ≡ drop n es = ap (λ k. drop k es) (sym e) in
+    let few : n ≤ length es = omega (arith, e, ap length d.list_is, length-append (redo_of es) (drop (length (redo_of es)) es)) in
+    let kept : kept_within most bytes (drop n es) ≡ kept_within most bytes es =
+    ap (kept_within most bytes) (sym rest) ∙ sym (whole-goes most bytes es over (oldest-whole es m (omega (arith, some, few)) none)) in
+    let left = ap length (gone-kept most bytes (drop n es)) in
+    let sum : n + (length (drop n es) - length (kept_within most bytes (drop n es))) ≡ length es - length (kept_within most bytes es) =
+    omega (arith, few, left, length-append (gone_within most bytes (drop n es)) (kept_within most bytes (drop n es)), length-drop n es, ap length kept) in
+    record {
+      within = few;
+      kept = ap (λ l. record r { recorded = l; saved = point_past (length (drop n es) - length (kept_within most bytes (drop n es))) (point_past n r.saved) }) kept
+          ∙ ap (λ p. record r { recorded = kept_within most bytes es; saved = p }) (past-more n (length (drop n es) - length (kept_within most bytes (drop n es))) r.saved ∙ ap (λ k. point_past k r.saved) sum);
+      matched = subst IsMatched rest d.rest_matched;
+      level = sym (ap level (sym d.list_is) ∙ level-append (redo_of es) (drop (length (redo_of es)) es) d.rest_matched ∙ ap (λ l. level l + level (redo_of es)) rest ∙ ap (λ k. level (drop n es) + k) none ∙ plus (level (drop n es)));
+    }
+  where
+    plus : (a : ℕ) → a + 0 ≡ a
+    plus a = omega arith
 
 -- what went is matched by itself, and leaves no group open
 gone-good : (most bytes : ℕ) (es : List Entry) → IsMatched es → AllGood (reverse (went most bytes (reverse (units es))).0)
@@ -361,5 +383,3 @@ saved-forgotten most bytes es r s = elim s [ inl none ↦ inl (ap (point_past (l
     from false h x = inl (ap (point_past (length r.recorded - length kept)) x.point ∙ ap (λ (y : Bool). cond y (Some (length es - (length r.recorded - length kept))) None) h)
 
 pub ruleset none_forgotten = (forgotten-same)
-
-pub ruleset went_so_far = (Forgetting-fits, Forgetting-next, Forgetting-stops, open-stays, unit-is, unit-within, length-take-le, take_rest, Redoes-of)

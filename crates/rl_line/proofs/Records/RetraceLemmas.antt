@@ -1,13 +1,15 @@
--- A text that goes over entries and comes back, with all cursors standing, walks over them.
-use Rattle.rl_line.proofs.Common.{◌≡◌, ◌∙◌, ◌↔◌, ℕ, Bool, true, List, [], ◌∷◌, map, reverse, Some, None, IsSome, is_some, ap, refl, sym, subst, same_Some, option_and_then, IsUtf8, Change, Entry, Record, Way, Back, Ahead, entry_of, event_of, inverse, text_after, text_back, cursor_stands, LeadsTo, Walk, Walks, freshness_told, entries_to_undo}
-use Rattle.rl_base.proofs.Texts.SwapLemmas.{apply-IsUtf8, some_is}
+-- A text that goes back over entries, with both cursors of each standing, walks over them.
+use Rattle.rl_line.proofs.Common.{◌≡◌, ◌∙◌, ◌↔◌, ◌+◌, ◌<◌, ◌≤◌, ℕ, Bool, true, false, List, [], ◌∷◌, ◌++◌, arith, length, map, map-append, reverse, take, take_all, get_or, Option, Some, None, cond, is_some, ap, refl, sym, subst, same_Some, option_and_then, IsUtf8, Change, Entry, Record, Way, Back, Ahead, apply, entry_of, event_of, inverse, text_after, cursor_stands, LeadsTo, Walk, Walks, freshness_told, entries_to_undo, entry_to_undo, order}
+use Rattle.std.proofs.lemmas.List.{take_more}
+use Rattle.rl_base.proofs.Texts.SwapLemmas.{apply-IsUtf8}
 use Rattle.rl_line.specs.Change.{way_back}
+use Rattle.rl_line.specs.Retrace.{walk_after, walk_back}
 use Rattle.rl_line.specs.Walk.{WalksOver}
-use Rattle.rl_line.proofs.Records.ChangeLemmas.{ahead-inverse, text_back-append}
-use Rattle.rl_line.proofs.Records.RecordLemmas.{IsSome-through, inverse-inverse, inverse-undoes, undoes-inverse, value_of}
+use Rattle.rl_line.proofs.Records.ChangeLemmas.{ahead-inverse, length-order}
+use Rattle.rl_line.proofs.Records.RecordLemmas.{inverse-inverse, inverse-undoes, then_both, then_some, through, undoes-inverse, value_of}
 use Rattle.rl_line.proofs.Records.TurnLemmas.{turned-cons, turned-turned}
 use Rattle.rl_line.proofs.Records.UndoLemmas.{text_after-means}
-use Rattle.rl_line.proofs.Records.WalkLemmas.{Walk-IsUtf8, Walk-append, Walk-back}
+use Rattle.rl_line.proofs.Records.WalkLemmas.{Walk-IsUtf8, Walk-append, stands-on}
 
 -- entries turned round lead the other way
 pub Walk-turned : (es : List Entry) (x y : List ℕ) → IsUtf8 x → Walk es x y → Walk (map inverse (reverse es)) y x
@@ -21,56 +23,117 @@ Walk-turned (e ∷ es) x y u w =
     subst (λ l. Walk l y x) (sym (turned-cons e es))
     (Walk-append (map inverse (reverse es)) (inverse e ∷ []) y w.0 x (Walk-turned es w.0 y (apply-IsUtf8 (event_of e) x w.0 u w.1.makes) w.2) (x, back, refl))
 
-text_back-IsUtf8 : (es : List Entry) (x y : List ℕ) → IsUtf8 y → text_back true es y ≡ Some x → IsUtf8 x
-text_back-IsUtf8 [] x y u back = let same : y ≡ x = same_Some _ _ back in subst IsUtf8 same u
-text_back-IsUtf8 (e ∷ es) x y u back =
-    let mid = value_of (text_back true es y) (IsSome-through (text_after true (inverse e)) (text_back true es y) (some_is _ x back)) in
-    let last = text_after-means (inverse e) mid.0 x (sym (ap (option_and_then (text_after true (inverse e))) mid.1) ∙ back) in
-    apply-IsUtf8 (event_of (inverse e)) mid.0 x (text_back-IsUtf8 es mid.0 y u mid.1) last.0
+-- ---- one entry, with both its cursors
+walk_after-is : (e : Entry) (text : List ℕ) (b : Bool) → cursor_stands true (inverse e) text ≡ b → walk_after e text ≡ cond b (text_after true e text) None
+walk_after-is e text b stands = ap (λ (d : Bool). cond d (text_after true e text) None) stands
 
--- a text that goes back over entries, and can come ahead again
-back-ahead : (es : List Entry) (x y : List ℕ) → IsUtf8 y → text_back true es y ≡ Some x → IsSome (text_back true (map inverse (reverse es)) x) → Walk es x y
-back-ahead [] x y u back ahead = let same : y ≡ x = same_Some _ _ back in sym same
-back-ahead (e ∷ es) x y u back ahead =
-    let mid = value_of (text_back true es y) (IsSome-through (text_after true (inverse e)) (text_back true es y) (some_is _ x back)) in
-    let last = text_after-means (inverse e) mid.0 x (sym (ap (option_and_then (text_after true (inverse e))) mid.1) ∙ back) in
-    let turned = text_back true (map inverse (reverse es)) in
-    let on = subst IsSome (ap (λ l. text_back true l x) (turned-cons e es) ∙ text_back-append true (map inverse (reverse es)) (inverse e ∷ []) x
-    ∙ ap (λ d. option_and_then turned (text_after true d x)) (inverse-inverse e)) ahead in
-    let first = value_of (text_after true e x) (IsSome-through turned (text_after true e x) on) in
-    let made = text_after-means e x first.0 first.1 in
-    let makes = undoes-inverse e x mid.0 (text_back-IsUtf8 es mid.0 y u mid.1) last.0 in
-    let same = same_Some _ _ (sym made.0 ∙ makes) in
-    let lead : LeadsTo e x mid.0 = record { makes = makes; before = last.1; after = subst (λ t. cursor_stands true e t ≡ true) same made.1 } in
-    (mid.0, lead, back-ahead es mid.0 y u mid.1 (subst (λ t. IsSome (turned t)) same (subst IsSome (ap (option_and_then turned) first.1) on)))
+walk_after-means : (e : Entry) (text now : List ℕ) → walk_after e text ≡ Some now → (cursor_stands true (inverse e) text ≡ true) × (text_after true e text ≡ Some now)
+walk_after-means e text now h = by (cursor_stands true (inverse e) text) refl
+  where
+    by : (b : Bool) → cursor_stands true (inverse e) text ≡ b → (cursor_stands true (inverse e) text ≡ true) × (text_after true e text ≡ Some now)
+    by true stands = (stands, sym (walk_after-is e text true stands) ∙ h)
+    by false stands = let none : None ≡ Some now = sym (walk_after-is e text false stands) ∙ h in absurd cc
 
-pub retrace : (way : Way) (changes : List Change) (text there : List ℕ) (comes : Bool) → IsUtf8 text → text_back true (entries_to_undo way changes) text ≡ Some there
-    → comes ≡ is_some (text_back true (entries_to_undo (way_back way) changes) there) → comes ≡ true ↔ WalksOver way (map entry_of changes) text
-retrace Back changes text there comes u over back =
-    let es = map entry_of changes in
-    let on = back ∙ ap (λ l. is_some (text_back true l there)) (ahead-inverse changes) in (
-      λ h. (there, text_back-IsUtf8 es there text u over, back-ahead es there text u over (sym on ∙ h)),
-      λ w. let same = same_Some _ _ (sym over ∙ Walk-back es w.0 text w.1 w.2) in
-          on ∙ ap (λ t. is_some (text_back true (map inverse (reverse es)) t)) same ∙ ap is_some (Walk-back (map inverse (reverse es)) text w.0 u (Walk-turned es w.0 text w.1 w.2)),
+-- going the other way, the cursor that is tested first is the one that is tested last
+pub other_way : (way : Way) (change : Change) → inverse (entry_to_undo (way_back way) change) ≡ inverse (inverse (entry_to_undo way change))
+other_way Back change = refl
+other_way Ahead change = sym (ap inverse (inverse-inverse (entry_of change)))
+
+-- it stands nowhere, or the entry does not fit
+pub walk_after-astray : (e : Entry) (text : List ℕ) → cursor_stands true (inverse e) text ≡ false → walk_after e text ≡ None
+walk_after-astray e text stands = walk_after-is e text false stands
+
+pub walk_after-not : (e : Entry) (text : List ℕ) → cursor_stands true (inverse e) text ≡ true → is_some (apply (event_of e) text) ≡ false → walk_after e text ≡ None
+walk_after-not e text stands not = walk_after-is e text true stands ∙ none (apply (event_of e) text) not
+  where
+    none : (o : Option (List ℕ)) → is_some o ≡ false → option_and_then (λ t. cond (cursor_stands true e t) (Some t) None) o ≡ None
+    none None h = refl
+    none (Some t) h = cc
+
+pub walk_after-over : (e : Entry) (text now : List ℕ) → cursor_stands true (inverse e) text ≡ true → apply (event_of e) text ≡ Some now → walk_after e text ≡ cond (cursor_stands true e now) (Some now) None
+walk_after-over e text now stands makes =
+    walk_after-is e text true stands ∙ ap (option_and_then (λ t. cond (cursor_stands true e t) (Some t) None)) makes
+
+-- ---- entries
+walk_back-means : (es : List Entry) (x y : List ℕ) → IsUtf8 y → walk_back es y ≡ Some x → IsUtf8 x × Walk es x y
+walk_back-means [] x y u back = let same : y ≡ x = same_Some _ _ back in (subst IsUtf8 same u, sym same)
+walk_back-means (e ∷ es) x y u back =
+    let p = through (walk_after (inverse e)) (walk_back es y) x back in
+    let rest = walk_back-means es p.0 y u p.1 in
+    let both = walk_after-means (inverse e) p.0 x p.2 in
+    let last = text_after-means (inverse e) p.0 x both.1 in
+    let lead : LeadsTo e x p.0 = record {
+      makes = undoes-inverse e x p.0 rest.0 last.0;
+      before = last.1;
+      after = sym (ap (λ d. cursor_stands true d p.0) (inverse-inverse e)) ∙ both.0;
+    } in
+    (apply-IsUtf8 (event_of (inverse e)) p.0 x rest.0 last.0, (p.0, lead, rest.1))
+
+walk_back-from : (es : List Entry) (x y : List ℕ) → IsUtf8 x → Walk es x y → walk_back es y ≡ Some x
+walk_back-from [] x y u w = ap Some (sym w)
+walk_back-from (e ∷ es) x y u w =
+    ap (option_and_then (walk_after (inverse e))) (walk_back-from es w.0 y (apply-IsUtf8 (event_of e) x w.0 u w.1.makes) w.2)
+    ∙ walk_after-is (inverse e) w.0 true (ap (λ d. cursor_stands true d w.0) (inverse-inverse e) ∙ w.1.after)
+    ∙ stands-on (inverse e) w.0 x (inverse-undoes e x w.0 u w.1.makes) w.1.before
+
+pub walks_over : (way : Way) (changes : List Change) (text : List ℕ) (answer : Bool) → IsUtf8 text → answer ≡ is_some (walk_back (entries_to_undo way changes) text)
+    → answer ≡ true ↔ WalksOver way (map entry_of changes) text
+walks_over Back changes text answer u is =
+    let es = map entry_of changes in (
+      λ h. let p = value_of (walk_back es text) (sym is ∙ h) in let m = walk_back-means es p.0 text u p.1 in (p.0, m.0, m.1),
+      λ w. is ∙ ap is_some (walk_back-from es w.0 text w.1 w.2),
     )
-retrace Ahead changes text there comes u over back =
+walks_over Ahead changes text answer u is =
     let es = map entry_of changes in
     let turned = map inverse (reverse es) in
-    let goes = sym (ap (λ l. text_back true l text) (ahead-inverse changes)) ∙ over in
-    let on = ap (λ l. is_some (text_back true l there)) (turned-turned es) in (
-      λ h. (there, subst (λ l. Walk l text there) (turned-turned es) (Walk-turned turned there text (text_back-IsUtf8 turned there text u goes) (back-ahead turned there text u goes (on ∙ sym back ∙ h)))),
-      λ w. let end = Walk-IsUtf8 es text w.0 u w.1 in
-          let same = same_Some _ _ (sym goes ∙ Walk-back turned w.0 text end (Walk-turned es text w.0 u w.1)) in
-          back ∙ ap (λ t. is_some (text_back true es t)) same ∙ ap is_some (Walk-back es text w.0 u w.1),
+    let goes = ap (λ l. walk_back l text) (ahead-inverse changes) in (
+      λ h. let p = value_of (walk_back turned text) (sym (is ∙ ap is_some goes) ∙ h) in
+          let m = walk_back-means turned p.0 text u p.1 in
+          (p.0, subst (λ l. Walk l text p.0) (turned-turned es) (Walk-turned turned p.0 text m.0 m.1)),
+      λ w. is ∙ ap is_some (goes ∙ walk_back-from turned w.0 text (Walk-IsUtf8 es text w.0 u w.1) (Walk-turned es text w.0 u w.1)),
     )
 
--- one that can't go over them
-pub retrace-not : (way : Way) (changes : List Change) (text : List ℕ) → IsUtf8 text → text_back true (entries_to_undo way changes) text ≡ None → WalksOver way (map entry_of changes) text → ⊥
-retrace-not Back changes text u none w = let no_text : None ≡ Some w.0 = sym none ∙ Walk-back (map entry_of changes) w.0 text w.1 w.2 in absurd cc
-retrace-not Ahead changes text u none w =
-    let es = map entry_of changes in
-    let end = Walk-IsUtf8 es text w.0 u w.1 in
-    let no_text : None ≡ Some w.0 = sym none ∙ ap (λ l. text_back true l text) (ahead-inverse changes) ∙ Walk-back (map inverse (reverse es)) w.0 text end (Walk-turned es text w.0 u w.1) in absurd cc
+-- ---- a text that walks over changes, the last first
+-- those before n are left, and walk from the text now to where all walk from the text at first
+pub record WalksOn (way : Way) (xs : List Change) (n : ℕ) (text now : List ℕ) : Type 0 where
+  pub rest : walk_back (map (entry_to_undo way) (take n xs)) now ≡ walk_back (map (entry_to_undo way) xs) text
+  pub within : n ≤ length xs
+
+pub WalksOn-start : (way : Way) (changes : List Change) (text : List ℕ) → WalksOn way (order way changes) (length changes) text text
+WalksOn-start way changes text = record {
+  rest = ap (λ l. walk_back (map (entry_to_undo way) l) text) (take_all (length changes) (order way changes) (omega (arith, length-order way changes)));
+  within = omega (arith, length-order way changes);
+}
+
+walk_back-append : (xs ys : List Entry) (text : List ℕ) → walk_back (xs ++ ys) text ≡ option_and_then (walk_back xs) (walk_back ys text)
+walk_back-append [] ys text = sym (then_some (walk_back ys text))
+walk_back-append (x ∷ xs) ys text =
+    ap (option_and_then (walk_after (inverse x))) (walk_back-append xs ys text)
+    ∙ sym (then_both (walk_back (x ∷ xs)) (walk_back xs) (walk_after (inverse x)) (λ t. refl) (walk_back ys text))
+
+module _ (way : Way) (xs : List Change) (m : ℕ) (x : Change) (text now : List ℕ) (lt : m < length xs) (read : x ≡ get_or xs m x) (walks : WalksOn way xs (m + 1) text now) where
+  one_more : option_and_then (walk_back (map (entry_to_undo way) (take m xs))) (walk_after (inverse (entry_to_undo way x)) now) ≡ walk_back (map (entry_to_undo way) xs) text
+  one_more =
+      sym (ap (λ l. walk_back (map (entry_to_undo way) l) now) (take_more xs m x lt ∙ ap (λ y. take m xs ++ y ∷ []) (sym read))
+      ∙ ap (λ l. walk_back l now) (map-append (entry_to_undo way) (take m xs) (x ∷ []))
+      ∙ walk_back-append (map (entry_to_undo way) (take m xs)) (entry_to_undo way x ∷ []) now)
+      ∙ walks.rest
+
+  pub WalksOn-next : (next : List ℕ) → walk_after (inverse (entry_to_undo way x)) now ≡ Some next → WalksOn way xs m text next
+  WalksOn-next next h = record {
+    rest = sym (ap (option_and_then (walk_back (map (entry_to_undo way) (take m xs)))) h) ∙ one_more;
+    within = omega arith;
+  }
+
+  pub WalksOn-not : is_some (walk_after (inverse (entry_to_undo way x)) now) ≡ false → false ≡ is_some (walk_back (map (entry_to_undo way) xs) text)
+  WalksOn-not h = ap is_some (sym (ap (option_and_then (walk_back (map (entry_to_undo way) (take m xs)))) (none (walk_after (inverse (entry_to_undo way x)) now) h)) ∙ one_more)
+    where
+      none : (o : Option (List ℕ)) → is_some o ≡ false → o ≡ None
+      none None h = refl
+      none (Some t) h = cc
+
+pub WalksOn-all : (way : Way) (xs : List Change) (text now : List ℕ) → WalksOn way xs 0 text now → true ≡ is_some (walk_back (map (entry_to_undo way) xs) text)
+WalksOn-all way xs text now walks = ap is_some walks.rest
 
 pub Walks-parts : (r : Record) (text : List ℕ) → Walks r text ↔ ((freshness_told r.fresh ≡ r.fresh) × WalksOver Back r.recorded text × WalksOver Ahead r.pending text)
 Walks-parts r text = (
@@ -78,6 +141,6 @@ Walks-parts r text = (
   λ p. record { start = p.1.0; is_text = p.1.1; back = p.1.2; end = p.2.0; ahead = p.2.1; stale = p.0 },
 )
 
-pub ruleset retraces = (retrace, retrace-not)
+pub ruleset both_cursors = (other_way, walk_after-astray, walk_after-not, walk_after-over)
 
 pub ruleset walking = (Walks-parts)

@@ -1,7 +1,10 @@
 -- Entries and records as bytes.
-use Rattle.rl_line.proofs.Common.{◌≡◌, ◌<◌, ◌∙◌, ◌++◌, ℕ, List, ap, ap₂, get_or, get_or-map, length-map, map, subst, sym, drop_at, length, refl, take_at, IsUtf8, Change, Entry, Begin, End, Changed, Record, cut_at, entry_of, inverse}
+use Rattle.rl_line.proofs.Common.{◌≡◌, ◌<◌, ◌+◌, ◌-◌, ◌^◌, ◌∙◌, ◌++◌, [], ℕ, List, arith, length-append, min, take, ap, ap₂, get_or, get_or-map, length-map, map, subst, sym, drop_at, length, refl, take_at, IsUtf8, Change, Entry, Begin, End, Changed, Record, cut_at, entry_of, inverse}
+use Rattle.rl_base.specs.Saving.{numbers}
+use Rattle.rl_base.specs.declared.saving.Width.TheVariants.{Eight, Four}
+use Rattle.rl_base.proofs.Texts.SavingLemmas.{length-numbers, put-more}
 use Rattle.rl_line.specs.Record.{new_text, old_text}
-use Rattle.rl_line.specs.SavedRecord.{FitsEntry, IsSavedEntry}
+use Rattle.rl_line.specs.SavedRecord.{FitsEntry, IsSavedEntry, entry_numbers, record_numbers, saved_entries, saved_entry, saved_record}
 use Rattle.rl_line.proofs.Records.MoveLemmas.{of_kind}
 
 -- what goes when an entry is taken back came with it
@@ -18,6 +21,35 @@ pub entry_at : (changes : List Change) (i : ℕ) (change : Change) → i < lengt
     → (i < length (map entry_of changes)) × (get_or (map entry_of changes) i (entry_of change) ≡ entry_of change)
 entry_at changes i change at is =
     (subst (λ n. i < n) (sym (length-map changes entry_of)) at, get_or-map entry_of changes i change (entry_of change) at ∙ ap entry_of (sym is))
+
+-- how long an entry is, and a record
+pub entry-length : (e : Entry) (old new : List ℕ) (len : ℕ) → old ≡ old_text e → new ≡ new_text e
+    → len ≡ min (min (length old + length new) (2 ^ 64 - 1) + 24) (2 ^ 64 - 1) → len ≡ min (length (saved_entry e)) (2 ^ 64 - 1)
+unfolding saved_entry
+entry-length e old new len o n is =
+    omega (
+      arith,
+      is,
+      ap length o,
+      ap length n,
+      length-append (numbers Four (entry_numbers e)) (old_text e ++ new_text e),
+      length-append (old_text e) (new_text e),
+      length-numbers Four (entry_numbers e),
+    )
+
+pub entries-length : (es : List Entry) (i : ℕ) (e d : Entry) (before len one : ℕ) → i < length es → get_or es i d ≡ e
+    → before ≡ min (length (saved_entries (take i es))) (2 ^ 64 - 1) → one ≡ min (length (saved_entry e)) (2 ^ 64 - 1)
+    → len ≡ min (before + one) (2 ^ 64 - 1) → len ≡ min (length (saved_entries (take (i + 1) es))) (2 ^ 64 - 1)
+unfolding saved_entries
+entries-length es i e d before len one at is were its both =
+    let more = ap length (put-more saved_entry [] es i d at) in
+    omega (arith, more, were, its, both, ap (λ x. length (saved_entry x)) is, length-append (saved_entries (take i es)) (saved_entry (get_or es i d)))
+
+pub record-length : (r : Record) (entries len : ℕ) → entries ≡ min (length (saved_entries (r.recorded ++ r.pending))) (2 ^ 64 - 1)
+    → len ≡ min (entries + 48) (2 ^ 64 - 1) → len ≡ min (length (saved_record r)) (2 ^ 64 - 1)
+unfolding saved_record
+record-length r entries len were is =
+    omega (arith, were, is, length-append (numbers Eight (record_numbers r)) (saved_entries (r.recorded ++ r.pending)), length-numbers Eight (record_numbers r))
 
 -- a record whose entries are cut where it is
 pub cut-here : (r : Record) → cut_at (length r.recorded) (r.recorded ++ r.pending) r.fresh r.saved ≡ r

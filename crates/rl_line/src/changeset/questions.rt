@@ -108,7 +108,7 @@ impl Changeset {
         };
         let first = entries::first(recorded, len);
         match text_over(alloc, text, first, Way::Back, false)? {
-            Some(some) => Ok(all.as_str() == some.as_str()),
+            Some(some) => Ok(all.as_slice() == some.as_slice()),
             None => Ok(false),
         }
     }

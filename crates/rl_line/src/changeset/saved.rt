@@ -1,5 +1,5 @@
 //! A record as bytes, and back.
-ghost use Rattle.std.specs.Prelude.{◌≡◌, ◌+◌, ◌++◌, List, ℕ, All, IfErr, IfOk, OnOk, Option, Some, length, map};
+ghost use Rattle.std.specs.Prelude.{◌≡◌, ◌+◌, ◌-◌, ◌^◌, ◌++◌, List, ℕ, All, IfErr, IfOk, OnOk, Option, Some, length, map, min};
 ghost use Rattle.rl_base.specs.Saving.{IsOfPart, Loads};
 ghost use Rattle.rl_base.specs.declared.saving.LoadFault.TheVariants.{NoMemory};
 ghost use Rattle.rl_base.specs.declared.saving.SaveFault.TheVariants.{TooLong};
@@ -10,12 +10,15 @@ ghost use Rattle.rl_line.specs.declared.change.Freshness.{Freshness};
 
 use crate::change::{Change, Freshness, Texts, Way, copied};
 use crate::changeset::Changeset;
-use crate::entries::Entries;
 use crate::inserted::Inserted;
+use crate::recent::Recent;
 use crate::units;
 use rl_base::saving::put_numbers;
 use rl_base::{Gathered, LoadFault, SaveFault, Unread, Width};
 use std::alloc::Global;
+
+// How many bytes an entry has at least.
+const ENTRY: usize = 24;
 
 impl Changeset {
     /// Puts the record at the end of bytes, from which `load` makes it again. Refused, it leaves any bytes. `TooLong` comes
@@ -29,6 +32,13 @@ impl Changeset {
         put_numbers(out, Width::Eight, &self.numbers())?;
         put_entries(out, self.entries.all())?;
         Ok(())
+    }
+
+    /// How many bytes `save` puts, or the greatest `usize` if they are more.
+    pub fn saved_len(&self) -> usize
+        ensures { result ≡ min (length (saved_record self.now)) (2 ^ 64 - 1) }
+    {
+        entries_len(self.entries.all()).saturating_add(48)
     }
 
     fn numbers(&self) -> [u64; 6]
@@ -71,7 +81,7 @@ fn record_of(head: [u64; 6], list: Vec<Change>) -> Option<Changeset>
 {
     let fresh = fresh_of(head[2], head[3] as usize)?;
     let saved = point_of(head[4], head[5] as usize)?;
-    let entries = Entries::of(list, head[1] as usize, fresh, saved)?;
+    let entries = Recent::of(list, head[1] as usize, fresh, saved)?;
     let level = units::matched_level(entries.recorded())?;
     units::matched_level(entries.pending())?;
     Some(Changeset { entries, level })
@@ -178,6 +188,26 @@ fn put_entry(out: &mut Vec<u8>, change: &Change) -> Result<(), SaveFault>
     Ok(())
 }
 
+// How many bytes an entry takes, or the greatest `usize` if they are more.
+fn entry_len(change: &Change) -> usize
+    ensures { result ≡ min (length (saved_entry (entry_of change.now))) (2 ^ 64 - 1) }
+{
+    let (_, old) = change.texts(Way::Back);
+    let (_, new) = change.texts(Way::Ahead);
+    old.len().saturating_add(new.len()).saturating_add(ENTRY)
+}
+
+#[tactic(auto, unfolding(crate::specs::SavedRecord::saved_entries))]
+fn entries_len(changes: &[Change]) -> usize
+    ensures { result ≡ min (length (saved_entries (map entry_of changes.now))) (2 ^ 64 - 1) }
+{
+    let mut len = 0usize;
+    for change in changes {
+        len = len.saturating_add(entry_len(change));
+    }
+    len
+}
+
 #[tactic(auto, unfolding(crate::specs::SavedRecord::saved_entries))]
 fn put_entries(out: &mut Vec<u8>, changes: &[Change]) -> Result<(), SaveFault>
     ensures ok { OnOk result (out.new.items ≡ out.old.items ++ saved_entries (map entry_of changes.now)) }
@@ -242,7 +272,10 @@ fn load_entries(alloc: Global, bytes: &mut Unread, count: u64) -> Result<Vec<Cha
     ensures err { IfErr result (λ f. (es : List Entry) (rest : List ℕ) → length es ≡ count → All IsSavedEntry es → bytes.old ≡ saved_entries es ++ rest → f ≡ NoMemory) }
     ensures part { IfErr result IsOfPart }
 {
-    let mut made = Vec::new(alloc);
+    let most = bytes.left() / ENTRY;
+    let Ok(mut made) = Vec::with_capacity(alloc, count.min(most as u64) as usize) else {
+        return Err(LoadFault::NoMemory);
+    };
     for i in 0..count {
         made.push(load_entry(alloc, bytes)?)?;
     }

@@ -4,7 +4,7 @@ ghost use Rattle.rl_line.specs.Undo.{GoesOver, Redone, StandsStill, Tries, Tries
 ghost use Rattle.rl_line.specs.Trying.{Tried, TriedInVain};
 ghost use Rattle.rl_line.specs.Units.{last_of, redo_of};
 
-use crate::change::{Way, count_over};
+use crate::change::{Change, Way, count_over, seldom};
 use crate::changeset::Changeset;
 use crate::changeset::questions::lead;
 use crate::line_buffer::LineBuffer;
@@ -41,9 +41,29 @@ impl Changeset {
         self.try_over(line, Way::Ahead, 1)
     }
 
-    // Goes over the last `n` units, or the next one, if the line can.
+    // Goes over the last `n` units, or the next one, if the line can. An insertion alone has a copy of its own, as in
+    // `go_within`.
     #[inline(always)]
     fn try_over(
+        &mut self,
+        line: &mut LineBuffer,
+        way: Way,
+        n: usize,
+    ) -> Result<Option<bool>, Refusal>
+        ensures tried { IfOk result (Tried (GoesOver way n self.old self.new line.old line.new) (line_over way (unit_of way n self.old) line.old) self.old self.new line.old line.new) }
+        ensures unmoved { IfOk result (λ tried. tried ≡ Some false → StandsStill line.old line.new) }
+        ensures err { IfErr result (TriedInVain (Tries way (unit_of way n self.old) line.old.text) (texts_over way (unit_of way n self.old) line.old.text)
+            self.old self.new line.old line.new) }
+    {
+        if let Some(Change::Insert(_, _, _)) = self.alone(way, n) {
+            return self.try_over_any(line, way, n);
+        }
+        seldom();
+        self.try_over_any(line, way, n)
+    }
+
+    #[inline(always)]
+    fn try_over_any(
         &mut self,
         line: &mut LineBuffer,
         way: Way,

@@ -6,7 +6,7 @@ ghost use Rattle.rl_line.specs.Trying.{DoneWithin};
 ghost use Rattle.rl_line.specs.Undo.{GoesOver, OutOfRoom, Redone, Undone, line_ahead, line_back, line_over, listener_ahead, listener_back, listener_over, texts_ahead, texts_back, texts_over, unit_of};
 ghost use Rattle.rl_line.specs.Units.{last_of, redo_of};
 
-use crate::change::{Way, count_over};
+use crate::change::{Change, Way, count_over, seldom};
 use crate::changeset::Changeset;
 use crate::line_buffer::LineBuffer;
 use rl_base::{ChangeListener, Refusal, RepeatCount};
@@ -56,9 +56,35 @@ impl Changeset {
         self.go_within(line, Way::Ahead, 1, listener)
     }
 
-    // Goes over the last `n` units, or the next one, within the limit.
+    // Goes over the last `n` units, or the next one, within the limit. What follows is inlined twice: an insertion alone, as
+    // most changes are, has a copy in which the compiler knows that it takes nothing out.
     #[inline(always)]
     fn go_within<L: ChangeListener>(
+        &mut self,
+        line: &mut LineBuffer,
+        way: Way,
+        n: usize,
+        listener: &mut L,
+    ) -> Result<Option<bool>, Refusal>
+        requires follows { IsSome (line_over way (unit_of way n self.old) line.old) }
+        requires hears { NeverRefuses L.refused }
+        ensures done { IfOk result (DoneWithin (GoesOver way n self.old self.new line.old line.new)
+            (nat_le (longest_over way (unit_of way n self.old) (length line.old.text)) line.old.limit) self.old self.new line.old line.new) }
+        ensures told { IfOk result (λ done. IfSome done (λ _. listener.new ≡ listener_over L.step way line.old.cursor (unit_of way n self.old) listener.old)) }
+        ensures untold { IfOk result (λ done. done ≡ None → listener.new ≡ listener.old) }
+        ensures keeps { OnErr result (nat_le (longest_over way (unit_of way n self.old) (length line.old.text)) line.old.limit ≡ true) }
+        ensures err { IfErr result (OutOfRoom self.old self.new line.old line.new (texts_over way (unit_of way n self.old) line.old.text)) }
+        ensures kept { OnErr result (listener.new ≡ listener.old) }
+    {
+        if let Some(Change::Insert(_, _, _)) = self.alone(way, n) {
+            return self.go_within_any(line, way, n, listener);
+        }
+        seldom();
+        self.go_within_any(line, way, n, listener)
+    }
+
+    #[inline(always)]
+    fn go_within_any<L: ChangeListener>(
         &mut self,
         line: &mut LineBuffer,
         way: Way,

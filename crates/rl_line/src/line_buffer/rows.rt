@@ -1,115 +1,202 @@
 //! Where motions over the rows of a screen lead, on which each line is laid out by itself.
-ghost use Rattle.std.specs.Prelude.{◌≡◌, ◌+◌, ◌^◌, ◌≤◌, length};
-ghost use Rattle.rl_base.specs.Lines.{last_line, line_number, start_of_line, text_of_line};
-ghost use Rattle.rl_line.specs.Rows.{Above, Below, Tells, height, kept_column, on_line, own_cell, place_in_row};
+ghost use Rattle.std.specs.Prelude.{◌≡◌, ◌+◌, ◌-◌, ◌^◌, ◌≤◌, ◌<◌, length, IfErr, IfOk, IfSome};
+ghost use Rattle.std.specs.Str.{IsCharBoundary};
+ghost use Rattle.rl_base.specs.Lines.{end_of_line, last_line, line_number};
+ghost use Rattle.rl_line.specs.Rows.{TellsAbove, TellsBelow, cell_after, height, near, near_above, place_in_row, rest_of_line};
 
 use crate::line_buffer::LineBuffer;
 use rl_base::{RepeatCount, Screen};
 
-// The screen as line `k` has it.
-fn on_line(screen: &Screen, k: usize) -> Screen
-    ensures { result ≡ on_line screen.now k }
-{
-    let mut own = *screen;
-    if k > 0 {
-        own.prompt = screen.continuation;
-    }
-    own
-}
-
 impl LineBuffer {
-    // The text of a line, without its newline.
-    #[tactic(auto, using(crate::proofs::Lines::LineReadLemmas::lines_read))]
-    fn text_of_line(&self, k: usize) -> &str
-        requires { k ≤ last_line self.now.text }
-        ensures text { result.now ≡ text_of_line self.now.text k }
-        ensures within { start_of_line self.now.text k + length result.now ≤ length self.now.text }
+    // What follows a place in line `k`.
+    fn rest_of_line(&self, k: usize, from: usize) -> &str
+        requires line { k ≤ last_line self.now.text }
+        requires before { from ≤ end_of_line self.now.text k }
+        requires boundary { IsCharBoundary self.now.text from }
+        ensures text { result.now ≡ rest_of_line self.now.text k from }
+        ensures within { from + length result.now ≤ length self.now.text }
     {
-        &self.as_str()[self.start_of_line(k)..self.end_of_line(k)]
+        &self.as_str()[from..self.end_of_line(k)]
     }
 
     // How many rows a line takes.
-    fn height(&self, screen: &Screen, k: usize) -> usize
-        requires { k ≤ last_line self.now.text }
-        ensures { result ≡ height screen.now self.now.text k }
+    fn height(&self, screen: &Screen, k: usize, start: usize) -> usize
+        requires line { k ≤ last_line self.now.text }
+        requires before { start ≤ end_of_line self.now.text k }
+        requires boundary { IsCharBoundary self.now.text start }
+        ensures { result ≡ height screen.now self.now.text k start }
     {
-        on_line(screen, k).rows(self.text_of_line(k), &mut [])
+        let on = screen.screen_from(self.as_str(), start);
+        on.rows(self.rest_of_line(k, start), &mut [])
     }
 
-    // The place at a column of a row of a line.
-    fn place_in_row(&self, screen: &Screen, k: usize, row: usize, column: usize) -> usize
-        requires { k ≤ last_line self.now.text }
-        ensures { result ≡ place_in_row screen.now self.now.text k row column }
+    // The place at a column of a row of a line, which is laid out from a place of it on.
+    fn place_in_row(
+        &self,
+        screen: &Screen,
+        k: usize,
+        from: usize,
+        row: usize,
+        column: usize,
+    ) -> usize
+        requires line { k ≤ last_line self.now.text }
+        requires before { from ≤ end_of_line self.now.text k }
+        requires boundary { IsCharBoundary self.now.text from }
+        ensures { result ≡ place_in_row screen.now self.now.text k from row column }
     {
         // So the proof knows that the sum is a `usize`.
         let _len = self.len();
-        self.start_of_line(k) + on_line(screen, k).place_at(self.text_of_line(k), (row, column))
+        let on = screen.screen_from(self.as_str(), from);
+        from + on.place_at(self.rest_of_line(k, from), (row, column))
     }
 
-    // The row of the cursor on a screen, from the first row of its line on, and its column.
-    fn cell(&self, screen: &Screen) -> (usize, usize)
-        ensures value { result ≡ own_cell screen.now self.now.text self.now.cursor }
+    // The same, or an error if there is no such row, which says how many there are.
+    fn find_in_row(
+        &self,
+        screen: &Screen,
+        k: usize,
+        from: usize,
+        row: usize,
+        column: usize,
+    ) -> Result<usize, usize>
+        requires line { k ≤ last_line self.now.text }
+        requires before { from ≤ end_of_line self.now.text k }
+        requires boundary { IsCharBoundary self.now.text from }
+        ensures ok { IfOk result (λ place. (row < height screen.now self.now.text k from)
+            × (place ≡ place_in_row screen.now self.now.text k from row column)) }
+        ensures err { IfErr result (λ rows. (rows ≡ height screen.now self.now.text k from) × (rows ≤ row)) }
+    {
+        // So the proof knows that the sum is a `usize`.
+        let _len = self.len();
+        let on = screen.screen_from(self.as_str(), from);
+        let place = on.find_in_row(self.rest_of_line(k, from), row, column)?;
+        Ok(from + place)
+    }
+
+    // The row of the cursor in its line `k`, which is laid out from a place of it on, and its column.
+    fn cell_after(&self, screen: &Screen, k: usize, from: usize) -> (usize, usize)
+        requires line { k ≤ last_line self.now.text }
+        requires end { from ≤ end_of_line self.now.text k }
+        requires before { from ≤ self.now.cursor }
+        requires boundary { IsCharBoundary self.now.text from }
+        ensures value { result ≡ cell_after screen.now self.now.text k from self.now.cursor }
         ensures row { result.0 ≤ 2 ^ 63 }
     {
-        let k = self.line_number();
-        on_line(screen, k).cell(self.text_of_line(k), self.pos() - self.home_of(k))
+        let on = screen.screen_from(self.as_str(), from);
+        on.cell(self.rest_of_line(k, from), self.pos() - from)
+    }
+
+    // Where the cursor's line `k` is laid out from: at the given place, if that stands in it and before the cursor.
+    #[tactic(auto, using(crate::proofs::Lines::LineReadLemmas::lines_read))]
+    fn near(&self, k: usize, given: Option<usize>) -> usize
+        requires k { k ≡ line_number self.now.text self.now.cursor }
+        requires within { k ≤ last_line self.now.text }
+        requires given { IfSome given (λ from. IsCharBoundary self.now.text from) }
+        ensures value { result ≡ near self.now.text given self.now.cursor }
+        ensures boundary { IsCharBoundary self.now.text result }
+        ensures before { result ≤ self.now.cursor }
+        ensures end { result ≤ end_of_line self.now.text k }
+    {
+        let home = self.home_of(k);
+        let Some(from) = given else {
+            return home;
+        };
+        if home <= from && from <= self.pos() {
+            return from;
+        }
+        home
+    }
+
+    // The same for a motion up by `n` rows, which may lead above the given place; and the cursor's cell there.
+    fn near_above(
+        &self,
+        screen: &Screen,
+        k: usize,
+        given: Option<usize>,
+        n: usize,
+    ) -> (usize, (usize, usize))
+        requires k { k ≡ line_number self.now.text self.now.cursor }
+        requires within { k ≤ last_line self.now.text }
+        requires given { IfSome given (λ from. IsCharBoundary self.now.text from) }
+        ensures value { result.0 ≡ near_above screen.now self.now.text given n self.now.cursor }
+        ensures cell { result.1 ≡ cell_after screen.now self.now.text k result.0 self.now.cursor }
+        ensures boundary { IsCharBoundary self.now.text result.0 }
+        ensures end { result.0 ≤ end_of_line self.now.text k }
+    {
+        let from = self.near(k, given);
+        let at = self.cell_after(screen, k, from);
+        let home = self.near(k, None);
+        if n < at.0 || from == home {
+            return (from, at);
+        }
+        (home, self.cell_after(screen, k, home))
     }
 
     /// The byte place `n` rows below the cursor on a screen (GNU readline: next-screen-line), and the column that it is
     /// looked for at: the given one, or the cursor's. Keep that, and give it to the next motion, which then comes back to it
     /// over a shorter row. A row leads to its last place before the column. Each line is laid out by itself; one that ends at
-    /// the right edge has one row more, for the cursor there. None if there are fewer rows. It costs the lines on the way.
+    /// the right edge has one row more, for the cursor there. None if there are fewer rows. The cursor's line is laid out from
+    /// the place `from`, where a row begins, if that stands in it and before the cursor; else from its start. It reads the
+    /// text from there to the row that it comes to.
     pub fn row_below(
         &self,
         screen: &Screen,
+        from: Option<usize>,
         n: RepeatCount,
         column: Option<usize>,
     ) -> Option<(usize, usize)>
-        ensures { let text = self.now.text in let cursor = self.now.cursor in
-            Tells screen.now text (Below screen.now text (line_number text cursor) (own_cell screen.now text cursor).0 n) (kept_column screen.now text column cursor) result }
+        requires { IfSome from (λ place. IsCharBoundary self.now.text place) }
+        ensures { TellsBelow screen.now self.now.text from n column self.now.cursor result }
     {
-        let (mut row, own) = self.cell(screen);
-        let column = column.unwrap_or(own);
         let mut k = self.line_number();
+        let mut start = self.near(k, from);
+        let (mut row, own) = self.cell_after(screen, k, start);
+        let column = column.unwrap_or(own);
         let mut left = usize::from(n);
         let last = self.last_line();
         loop {
-            let height = self.height(screen, k);
-            if row + left < height {
-                return Some((self.place_in_row(screen, k, row + left, column), column));
-            }
+            let height = match self.find_in_row(screen, k, start, row + left, column) {
+                Ok(place) => return Some((place, column)),
+                Err(height) => height,
+            };
             if k == last {
                 return None;
             }
             left = row + left - height;
             row = 0;
             k += 1;
+            start = self.start_of_line(k);
         }
     }
 
     /// The byte place `n` rows above the cursor on a screen (GNU readline: previous-screen-line), and the column, as
-    /// `row_below` tells them.
+    /// `row_below` tells them. If the row lies above the place `from`, the cursor's line is laid out from its start.
     pub fn row_above(
         &self,
         screen: &Screen,
+        from: Option<usize>,
         n: RepeatCount,
         column: Option<usize>,
     ) -> Option<(usize, usize)>
-        ensures { let text = self.now.text in let cursor = self.now.cursor in
-            Tells screen.now text (Above screen.now text (line_number text cursor) (own_cell screen.now text cursor).0 n) (kept_column screen.now text column cursor) result }
+        requires { IfSome from (λ place. IsCharBoundary self.now.text place) }
+        ensures { TellsAbove screen.now self.now.text from n column self.now.cursor result }
     {
-        let (mut row, own) = self.cell(screen);
-        let column = column.unwrap_or(own);
-        let mut k = self.line_number();
         let mut left = usize::from(n);
+        let mut k = self.line_number();
+        let (mut start, (mut row, own)) = self.near_above(screen, k, from, left);
+        let column = column.unwrap_or(own);
         while left > row {
             if k == 0 {
                 return None;
             }
             k -= 1;
             left -= row + 1;
-            row = self.height(screen, k).saturating_sub(1);
+            start = self.start_of_line(k);
+            row = self.height(screen, k, start).saturating_sub(1);
         }
-        Some((self.place_in_row(screen, k, row - left, column), column))
+        Some((
+            self.place_in_row(screen, k, start, row - left, column),
+            column,
+        ))
     }
 }

@@ -1,5 +1,5 @@
 -- How what a command does becomes a command that was performed.
-use Rattle.rl_session.proofs.Common.{Err, IfErr, IfOk, Line, List, Option, Refusal, Walks, ◌≡◌, ℕ, ap, cond, max, Record, min, None, Some, same_Some, ◌∙◌, not, string_bytes, Bool, Ok, Result, replied, false, true, inl, inr, refl, subst, sym, reset, Movement, BeginningOfLine, EndOfLine, BackwardWord, ForwardWord, ViCharSearch, BeginningOfBuffer, EndOfBuffer, CanDeleteBy, kill_plan, nothing_more, Came, Does, answers, deletion_of, edit_course, readied, settled, State, Ends, WasRefused, with_ring, Command, KillLine, KillBuffer, DiscardLine, DiscardBuffer, DeletePrevWord, DeleteWord, DeleteTo, Reply}
+use Rattle.rl_session.proofs.Common.{option_map, arith, Err, IfErr, IfOk, Line, List, Option, Refusal, Walks, ◌≡◌, ℕ, ap, cond, max, Record, min, None, Some, same_Some, ◌∙◌, not, string_bytes, Bool, Ok, Result, replied, false, true, inl, inr, refl, subst, sym, reset, Movement, BeginningOfLine, EndOfLine, BackwardWord, ForwardWord, ViCharSearch, BeginningOfBuffer, EndOfBuffer, CanDeleteBy, kill_plan, nothing_more, Came, Does, answers, deletion_of, edit_course, readied, settled, State, Ends, WasRefused, with_ring, Command, KillLine, KillBuffer, DiscardLine, DiscardBuffer, DeletePrevWord, DeleteWord, DeleteTo, Reply}
 use Rattle.rl_base.specs.declared.motion.Movement.TheVariants.{WholeBuffer}
 use Rattle.rl_line.specs.Edits.{CanInsertStr, insert_str_plan}
 use Rattle.rl_line.specs.Indents.{indent_changes}
@@ -137,13 +137,31 @@ done_as_unit command old kept ready begun left ended made new reply start forget
     }))
 
 -- an undo stays in its group
-pub grouped : (made n m : ℕ) (s : State) → made_in_group s ≡ Some made → ¬ (made ≡ 0) → m ≡ min (max n 1) made → (carried s (Undo n) ≡ Undo m) × ¬ (made_in_group s ≡ Some 0)
-grouped made n m s is some e = (ap (λ k. Undo (within_group k n)) is ∙ ap Undo (sym e), λ none. some (same_Some made 0 (sym is ∙ none)))
+pub grouped : (most n m : ℕ) (s : State) → most ≡ max n 1 → Some m ≡ option_map (min most) (made_in_group s) → ¬ (m ≡ 0) → (carried s (Undo n) ≡ Undo m) × ¬ (made_in_group s ≡ Some 0)
+grouped most n m s e is some = from (made_in_group s) refl is
+  where
+    from : (made : Option ℕ) → made_in_group s ≡ made → Some m ≡ option_map (min most) made → (carried s (Undo n) ≡ Undo m) × ¬ (made_in_group s ≡ Some 0)
+    from None h is = cc
+    from (Some k) h is =
+        let count : m ≡ min most k = same_Some m (min most k) is in
+        let same : min (max n 1) k ≡ m = omega (arith, e, count) in
+        (ap (λ o. Undo (within_group o n)) h ∙ ap Undo same, λ none. some (omega (arith, count, same_Some k 0 (sym h ∙ none))))
 
-pub ungrouped : (n : ℕ) (s : State) → made_in_group s ≡ None → (carried s (Undo n) ≡ Undo n) × ¬ (made_in_group s ≡ Some 0)
-ungrouped n s is = (ap (λ k. Undo (within_group k n)) is, λ none. cc)
+pub ungrouped : (most n : ℕ) (s : State) → None ≡ option_map (min most) (made_in_group s) → (carried s (Undo n) ≡ Undo n) × ¬ (made_in_group s ≡ Some 0)
+ungrouped most n s is = from (made_in_group s) refl is
+  where
+    from : (made : Option ℕ) → made_in_group s ≡ made → None ≡ option_map (min most) made → (carried s (Undo n) ≡ Undo n) × ¬ (made_in_group s ≡ Some 0)
+    from None h is = (ap (λ o. Undo (within_group o n)) h, λ none. let wrong : None ≡ Some 0 = sym h ∙ none in cc)
+    from (Some k) h is = cc
 
-pub ruleset grouping = (grouped, ungrouped)
+pub group_is_empty : (most n m : ℕ) (s : State) → most ≡ max n 1 → Some m ≡ option_map (min most) (made_in_group s) → m ≡ 0 → made_in_group s ≡ Some 0
+group_is_empty most n m s e is none = from (made_in_group s) refl is
+  where
+    from : (made : Option ℕ) → made_in_group s ≡ made → Some m ≡ option_map (min most) made → made_in_group s ≡ Some 0
+    from None h is = cc
+    from (Some k) h is = let empty : k ≡ 0 = omega (arith, e, none, same_Some m (min most k) is) in h ∙ ap (λ j. Some j) empty
+
+pub ruleset grouping = (group_is_empty, grouped, ungrouped)
 
 pub undo_stopped : (n : ℕ) (old new : State) → new ≡ old → made_in_group old ≡ Some 0 → Obeyed old (Undo n) (says.Answer false) new
 undo_stopped n old new same none = inl (none, same)

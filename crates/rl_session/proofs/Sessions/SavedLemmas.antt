@@ -1,28 +1,33 @@
 -- Bytes with their checksum, and the parts of a session as bytes.
-use Rattle.rl_session.proofs.Common.{◌≡◌, ◌∙◌, ◌++◌, ◌-◌, ◌≤◌, [], ℕ, List, ap, append-nil, append_assoc, arith, drop, length, length-append, sym, take}
+use Rattle.rl_session.proofs.Common.{◌≡◌, ◌∙◌, ◌++◌, ◌+◌, ◌-◌, ◌^◌, ◌≤◌, min, [], ℕ, List, ap, append-nil, append_assoc, arith, drop, length, length-append, refl, sym, take}
 use Rattle.std.proofs.lemmas.List.{drop_at, take_at}
-use Rattle.md5.specs.Md5.{md5}
-use Rattle.md5.proofs.StandardFacts.{length-md5}
 use Rattle.rl_base.specs.SavedRing.{saved_ring}
+use Rattle.rl_base.specs.Saving.{numbers}
+use Rattle.rl_base.specs.declared.saving.Width.TheVariants.{Eight}
+use Rattle.rl_base.proofs.Texts.SavingLemmas.{length-numbers}
 use Rattle.rl_line.specs.SavedRecord.{saved_record}
-use Rattle.rl_session.specs.SavedSession.{heading, saved_line, saved_state, sealed}
+use Rattle.rl_session.specs.SavedSession.{checksum, heading, saved_line, saved_session, saved_state, sealed, state_numbers}
 use Rattle.rl_session.specs.State.{State}
 
--- a checksum has 16 bytes, and is that of what stands before it
-pub checked-parts : (bytes front : List ℕ) → bytes ≡ front ++ md5 front
-    → (16 ≤ length bytes) × (take (length bytes - 16) bytes ≡ front) × (drop (length bytes - 16) bytes ≡ md5 front)
+length-checksum : (bytes : List ℕ) → length (checksum bytes) ≡ 8
+unfolding checksum
+length-checksum bytes = refl
+
+-- a checksum has 8 bytes, and is that of what stands before it
+pub checked-parts : (bytes front : List ℕ) → bytes ≡ front ++ checksum front
+    → (8 ≤ length bytes) × (take (length bytes - 8) bytes ≡ front) × (drop (length bytes - 8) bytes ≡ checksum front)
 checked-parts bytes front is =
-    let len = ap length is ∙ length-append front (md5 front) in
-    let at : length front ≡ length bytes - 16 = omega (arith, len, length-md5 front) in (
-      omega (arith, len, length-md5 front),
-      ap (take (length bytes - 16)) is ∙ take_at front (md5 front) (length bytes - 16) at,
-      ap (drop (length bytes - 16)) is ∙ drop_at front (md5 front) (length bytes - 16) at,
+    let len = ap length is ∙ length-append front (checksum front) in
+    let at : length front ≡ length bytes - 8 = omega (arith, len, length-checksum front) in (
+      omega (arith, len, length-checksum front),
+      ap (take (length bytes - 8)) is ∙ take_at front (checksum front) (length bytes - 8) at,
+      ap (drop (length bytes - 8)) is ∙ drop_at front (checksum front) (length bytes - 8) at,
     )
 
 pub ruleset checking = (checked-parts)
 
 -- so one text alone stands before it
-pub checked-one : (bytes front other : List ℕ) → bytes ≡ front ++ md5 front → bytes ≡ other ++ md5 other → front ≡ other
+pub checked-one : (bytes front other : List ℕ) → bytes ≡ front ++ checksum front → bytes ≡ other ++ checksum other → front ≡ other
 checked-one bytes front other is also = sym (checked-parts bytes front is).1 ∙ (checked-parts bytes other also).1
 
 pub sealed-one : (bytes inside other : List ℕ) → bytes ≡ sealed inside → bytes ≡ sealed other → inside ≡ other
@@ -31,7 +36,31 @@ sealed-one bytes inside other is also = ap (drop 8) (checked-one bytes (heading 
 
 pub sealed-begins : (bytes inside : List ℕ) → bytes ≡ sealed inside → (after : List ℕ) × (bytes ≡ heading ++ after)
 unfolding sealed
-sealed-begins bytes inside is = (inside ++ md5 (heading ++ inside), is ∙ append_assoc heading inside (md5 (heading ++ inside)))
+sealed-begins bytes inside is = (inside ++ checksum (heading ++ inside), is ∙ append_assoc heading inside (checksum (heading ++ inside)))
+
+-- how long a saved session is
+pub session-length : (s : State) (ring changes parts more len : ℕ) → ring ≡ min (length (saved_ring s.pair.ring)) (2 ^ 64 - 1)
+    → changes ≡ min (length (saved_record s.pair.changes)) (2 ^ 64 - 1) → parts ≡ min (ring + changes) (2 ^ 64 - 1)
+    → more ≡ min (parts + length s.line.text) (2 ^ 64 - 1) → len ≡ min (more + 88) (2 ^ 64 - 1) → len ≡ min (length (saved_session s)) (2 ^ 64 - 1)
+unfolding sealed saved_state saved_line
+session-length s ring changes parts more len r c p m is =
+    let text = numbers Eight (state_numbers s) ++ s.line.text in
+    let inside = text ++ (saved_ring s.pair.ring ++ saved_record s.pair.changes) in
+    omega (
+      arith,
+      r,
+      c,
+      p,
+      m,
+      is,
+      length-append (heading ++ inside) (checksum (heading ++ inside)),
+      length-checksum (heading ++ inside),
+      length-append heading inside,
+      length-append text (saved_ring s.pair.ring ++ saved_record s.pair.changes),
+      length-append (numbers Eight (state_numbers s)) s.line.text,
+      length-append (saved_ring s.pair.ring) (saved_record s.pair.changes),
+      length-numbers Eight (state_numbers s),
+    )
 
 -- the parts stand one after another, and nothing after them
 pub parts : (s : State) (bytes : List ℕ) → bytes ≡ saved_state s → bytes ≡ saved_line s ++ (saved_ring s.pair.ring ++ (saved_record s.pair.changes ++ []))

@@ -466,17 +466,14 @@ impl Session {
     fn to_undo(&self, n: RepeatCount) -> Option<RepeatCount>
         ensures { MatchOption result (made_in_group self.now ≡ Some 0) (λ m. (carried self.now (Command.Undo n) ≡ Command.Undo m) × ¬ (made_in_group self.now ≡ Some 0)) }
     {
-        let Some(made) = self.pair.changes.units_in_group() else {
+        let most = n.max(1);
+        let Some(made) = self.pair.changes.units_in_group(most) else {
             return Some(n);
         };
         if made == 0 {
             return None;
         }
-        if made < usize::from(n) {
-            Some(made as RepeatCount)
-        } else {
-            Some(n.max(1))
-        }
+        Some(made)
     }
 
     /// Undoes n units: one for 0, and all if there are fewer. In a group it takes none from before it, and leaves it

@@ -1,14 +1,13 @@
 //! A session as bytes, and back.
-ghost use Rattle.std.specs.Prelude.{◌≡◌, ◌<◌, ◌≤◌, ◌↔◌, ◌^◌, ◌++◌, All, Bool, List, ℕ, Err, IfErr, IfOk, IfSome, None, OnOk, Some, false, length, true};
+ghost use Rattle.std.specs.Prelude.{◌≡◌, ◌<◌, ◌≤◌, ◌-◌, ◌↔◌, ◌^◌, ◌++◌, All, Bool, List, ℕ, Err, IfErr, IfOk, IfSome, None, OnOk, Some, false, length, min, true};
 ghost use Rattle.std.specs.Str.{IsCharBoundary};
-ghost use Rattle.md5.specs.Md5.{md5};
 ghost use Rattle.rl_base.specs.Saving.{Fits, IsOfPart, Loads};
 ghost use Rattle.rl_base.specs.declared.layout.GraphemeClusterMode.{GraphemeClusterMode};
 ghost use Rattle.rl_base.specs.declared.saving.LoadFault.TheVariants.{NoMemory, Unknown};
 ghost use Rattle.rl_base.specs.declared.saving.SaveFault.TheVariants.{TooLong};
 ghost use Rattle.rl_base.specs.declared.saving.Width.TheVariants.{Eight};
 ghost use Rattle.rl_line.specs.Line.{Line};
-ghost use Rattle.rl_session.specs.SavedSession.{FitsSaving, IsSavedState, heading, line_numbers, mode_number, option_numbers, saved_line, saved_session, saved_state, sealed, state_numbers, truth_number, unwatched};
+ghost use Rattle.rl_session.specs.SavedSession.{FitsSaving, IsSavedState, checksum, heading, line_numbers, mode_number, option_numbers, saved_line, saved_session, saved_state, sealed, state_numbers, truth_number, unwatched};
 ghost use Rattle.rl_session.specs.State.{ChangedFrom, Ends, KeepsLimit, State};
 ghost use Rattle.rl_session.specs.declared.options.Options.{Options};
 
@@ -16,7 +15,7 @@ use crate::options::{Bound, Options};
 use crate::pair::Pair;
 use crate::session::Session;
 use crate::session::opening::filled;
-use md5::{Digest, Md5};
+use rl_base::checksum::xxh64;
 use rl_base::saving::put_numbers;
 use rl_base::{GraphemeClusterMode, KillRing, LoadFault, SaveFault, Unread, Watch, Width};
 use rl_line::{Changeset, LineBuffer};
@@ -27,7 +26,7 @@ const HEADING: [u8; 8] = [108, 111, 100, 118, 97, 114, 110, 1];
 
 impl Session {
     /// The session as bytes, from which `load` makes it again: text and cursor, record, ring and options, but no reports.
-    /// `docs/FORMAT.md` says what each byte is. It changes nothing. `TooLong` comes exactly if a text of the ring or the
+    /// `docs/FORMAT.md` says what each byte is. It changes nothing. `TooLong` comes exactly if a text of the
     /// record has 4 GiB or more, or a place is as far.
     #[tactic(auto, unfolding(crate::specs::SavedSession::sealed))]
     pub fn save(&self) -> Result<Vec<u8>, SaveFault>
@@ -35,12 +34,21 @@ impl Session {
         ensures loads { OnOk result (self.now.line.grow ≡ false → IsSavedState self.now) }
         ensures err { IfErr result (λ f. f ≡ TooLong → ¬ (FitsSaving self.now)) }
     {
-        let mut out = Vec::new(self.alloc);
+        let mut out = Vec::with_capacity(self.alloc, self.saved_len())?;
         out.extend_from_slice(&HEADING)?;
         self.put(&mut out)?;
-        let checksum = Md5::digest(out.as_slice());
+        let checksum = checksum(out.as_slice());
         out.extend_from_slice(&checksum)?;
         Ok(out)
+    }
+
+    // How many bytes `save` makes, or the greatest `usize` if they are more.
+    fn saved_len(&self) -> usize
+        ensures { result ≡ min (length (saved_session self.now)) (2 ^ 64 - 1) }
+    {
+        let (ring, changes) = (&self.pair.ring, &self.pair.changes);
+        let parts = ring.saved_len().saturating_add(changes.saved_len());
+        parts.saturating_add(self.line.len()).saturating_add(88)
     }
 
     // Puts the parts at the end of bytes.
@@ -254,17 +262,24 @@ fn after_heading(bytes: &[u8]) -> Option<&[u8]>
     Some(after)
 }
 
+#[tactic(auto, unfolding(crate::specs::SavedSession::checksum))]
+fn checksum(bytes: &[u8]) -> [u8; 8]
+    ensures { result ≡ checksum bytes.now }
+{
+    xxh64(bytes).to_le_bytes()
+}
+
 // What stands before the checksum, if that is right.
 #[tactic(auto, using(crate::proofs::Sessions::SavedLemmas::checking))]
 fn checked(bytes: &[u8]) -> Option<&[u8]>
-    ensures some { IfSome result (λ front. bytes.now ≡ front.now ++ md5 front.now) }
-    ensures none { result ≡ None → (front : List ℕ) → bytes.now ≡ front ++ md5 front → ⊥ }
+    ensures some { IfSome result (λ front. bytes.now ≡ front.now ++ checksum front.now) }
+    ensures none { result ≡ None → (front : List ℕ) → bytes.now ≡ front ++ checksum front → ⊥ }
 {
-    if bytes.len() < 16 {
+    if bytes.len() < 8 {
         return None;
     }
-    let (front, checksum) = bytes.split_at(bytes.len() - 16);
-    if Md5::digest(front).as_slice() == checksum {
+    let (front, after) = bytes.split_at(bytes.len() - 8);
+    if checksum(front).as_slice() == after {
         return Some(front);
     }
     None

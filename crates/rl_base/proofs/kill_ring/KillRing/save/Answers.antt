@@ -8,5 +8,5 @@ returns-clause-loads c = λ idle. record {
   ring = c.numbers.ensures.ring;
   idle = idle;
   fit = subst (All (Fits Eight)) c.numbers.ensures.numbers c.in_ok-put_numbers.ensures.ok.1;
-  texts = subst (λ (r : Ring). All IsSized r.slots) c.self.view_is (subst (λ gs. All IsSized (texts gs)) c.deref.ensures.value c.in_ok-put_slots.ensures.loads);
+  texts = subst (λ (r : Ring). All IsSized r.slots) c.self.view_is (subst (λ gs. All IsSized (texts gs)) c.all.ensures c.in_ok-put_slots.ensures.loads);
 }

@@ -1,15 +1,9 @@
-use Rattle.rl_base.proofs.Common.{◌∙◌, ◌++◌, All, Gathering, ap, arith, length-map, take_all, err_from_is_err_and, subst, sym, take, texts}
+use Rattle.rl_base.proofs.Common.{◌∙◌, ◌++◌, All, Gathering, ap, arith, length-map, take_all, subst, sym, take, texts}
 use Rattle.std.proofs.lemmas.List.Elements.{All-more}
-use Rattle.rl_base.specs.Saving.{FitsLength, IsSized, sized, sized_all}
+use Rattle.rl_base.specs.Saving.{IsSized, sized, sized_all}
 use Rattle.rl_base.proofs.Ring.SlotLemmas.{text_at}
 use Rattle.rl_base.proofs.Texts.SavingLemmas.{put-more}
 use Rattle.rl_base.proofs.kill_ring.saved.put_slots.Goals as goal
-
-pub returns-in_err-put_text-clause-err : goal.returns-in_err-put_text-clause-err
-returns-in_err-put_text-clause-err c =
-    let at = text_at c.args.slots.now c.loop-slot.slot-index c.slot-item.result c.loop-slot-test.true c.slot-item.is in
-    let p = err_from_is_err_and c.from_residual.result c.from_residual.ensures.1 in
-    rw (p.1, p.2) (λ long all. c.in_err-put_text.ensures.err long (subst FitsLength (at.1 ∙ sym c.as_str.ensures) (all c.loop-slot.slot-index c.slot-item.result.text at.0)))
 
 pub loop-slot-preserved : goal.loop-slot-preserved
 unfolding sized_all

@@ -32,6 +32,8 @@ loop-cluster-preserved c =
     let next = place + length c.in-Some.cluster.now in
     let more : ℕ → List ℕ = λ b. begins b (cells screen next (after screen at c.in-Some.cluster.now) rest) in
     let now = c.begin_rows-begun.result in
+    let last = c.stands-last.result.0 in
+    let begins_now : now ≡ max begun (last + 1) = omega (arith, c.begin_rows-begun.ensures.begun, c.saturating_sub.ensures) in
     record {
       height = search rules;
       column = search rules;
@@ -40,19 +42,16 @@ loop-cluster-preserved c =
       starts =
           ap (λ to. filled_after now (begins now (cells screen next to rest)) c.begin_rows-begun.new.starts) c.after.ensures.place
           ∙ c.begin_rows-begun.ensures.starts (more now)
-          ∙ ap (λ b. filled_after begun (replicate (c.stands.result.0 + 1 - begun) place ++ more b) c.loop-cluster.starts) c.begin_rows-begun.ensures.begun
-          ∙ ap (λ (w : ℕ × ℕ). filled_after begun (replicate (w.0 + 1 - begun) place ++ more (max begun (w.0 + 1))) c.loop-cluster.starts) c.stands.ensures.cell
+          ∙ ap (λ n. filled_after begun (replicate n place ++ more now) c.loop-cluster.starts) c.saturating_sub.ensures
+          ∙ ap (λ b. filled_after begun (replicate (last + 1 - begun) place ++ more b) c.loop-cluster.starts) begins_now
+          ∙ ap (λ (w : ℕ × ℕ). filled_after begun (replicate (w.0 + 1 - begun) place ++ more (max begun (w.0 + 1))) c.loop-cluster.starts) c.stands-last.ensures.cell
           ∙ sym (ap (λ l. filled_after begun (begins begun (cells screen place at l)) c.loop-cluster.starts) step) ∙ i.starts;
       count =
           ap (λ to. now + length (begins now (cells screen next to rest))) c.after.ensures.place
-          ∙ ap (λ b. b + length (more b)) c.begin_rows-begun.ensures.begun
-          ∙ sym (count-on begun c.stands.result.0 place (more (max begun (c.stands.result.0 + 1))))
-          ∙ ap (λ (w : ℕ × ℕ). begun + length (replicate (w.0 + 1 - begun) place ++ more (max begun (w.0 + 1)))) c.stands.ensures.cell
+          ∙ ap (λ b. b + length (more b)) begins_now ∙ sym (count-on begun last place (more (max begun (last + 1))))
+          ∙ ap (λ (w : ℕ × ℕ). begun + length (replicate (w.0 + 1 - begun) place ++ more (max begun (w.0 + 1)))) c.stands-last.ensures.cell
           ∙ sym (ap (λ l. begun + length (begins begun (cells screen place at l))) step) ∙ i.count;
     }
-
-pub begin_rows-requires : goal.begin_rows-requires
-begin_rows-requires c = search (rules, arith)
 
 pub returns-clause-starts : goal.returns-clause-starts
 returns-clause-starts c =
@@ -61,6 +60,7 @@ returns-clause-starts c =
     let begun = c.loop-cluster.begun in
     let at : ℕ × ℕ = (c.loop-cluster.row, c.loop-cluster.column) in
     sym (fill-nothing c.begin_rows.result c.begin_rows.new.starts) ∙ c.begin_rows.ensures.starts []
-    ∙ ap (λ (w : ℕ × ℕ). filled_after begun (replicate (w.0 + 1 - begun) place ++ []) c.loop-cluster.starts) c.wrapped.ensures.cell
+    ∙ ap (λ n. filled_after begun (replicate n place ++ []) c.loop-cluster.starts) c.saturating_sub-2.ensures
+    ∙ ap (λ (w : ℕ × ℕ). filled_after begun (replicate (w.0 + 1 - begun) place ++ []) c.loop-cluster.starts) c.wrapped-last.ensures.cell
     ∙ sym (ap (λ l. filled_after begun (begins begun (cells screen place at l)) c.loop-cluster.starts) c.in-None.ensures.steps.0)
     ∙ c.loop-cluster.invariant.starts

@@ -1,29 +1,34 @@
-use Rattle.rl_line.proofs.Common.{arith, ◌≡◌, ◌≤◌, ◌+◌, ◌-◌, ap, length, subst, sym, ◌∙◌, replace_range, IsUtf8, string_bytes, stands_at}
+use Rattle.rl_line.proofs.Common.{arith, ◌≡◌, ◌≤◌, ◌+◌, ◌-◌, ap, length, insert_slice, subst, sym, ◌∙◌, replace_range, IsUtf8, stands_at}
+use Rattle.rl_base.proofs.Texts.TextLemmas.{IsUtf8-replaced, stands_at-means}
 use Rattle.rl_line.proofs.Records.PatchLemmas.{patched-stands, patched-swap}
+use Rattle.rl_line.proofs.Records.ReachLemmas.{put_instead}
 use Rattle.rl_line.proofs.patched.Patched.swap.Goals as goal
-use Rattle.rl_line.proofs.patched.Patched.swap.Goals.{After-stands_at, After-widen_down, In_ok-widen_down, In_ok-widen_up}
+use Rattle.rl_line.proofs.patched.Patched.swap.Goals.{After-stands_at, In_ok-insert}
 
--- the text as it is before the part is widened
-whole : (c : After-widen_down) → replace_range c.self-2.inside.text.now c.self-2.inside.from c.self-2.inside.to (string_bytes c.self-2.inside.part) ≡ c.args.self.now
-whole c = c.self-2.view_is ∙ c.begin_at.ensures
+-- the text is as it was once the part reaches both places
+same : (c : After-stands_at) → replace_range c.self.inside.text.now c.reach.new.from c.reach.new.to c.reach.new.part ≡ c.args.self.now
+same c = c.in_ok-reach.ensures.same ∙ c.self.view_is
 
--- and once it is widened down
-down : (c : In_ok-widen_down) → replace_range c.self-2.inside.text.now c.widen_down.new.from c.self-2.inside.to (string_bytes c.widen_down.new.part) ≡ c.args.self.now
-down c = c.widen_down.ensures.same ∙ whole (goal.at.In_ok-widen_down c).After-widen_down
+from : (c : After-stands_at) → c.reach.new.from ≤ c.args.at
+from c = (c.in_ok-reach.ensures.lies c.if-not-branch.false).0
 
--- and up
-up : (c : In_ok-widen_up) → replace_range c.self-2.inside.text.now c.widen_down.new.from c.widen_up.new.to (string_bytes c.widen_up.new.part) ≡ c.args.self.now
-up c = c.widen_up.ensures.same ∙ down (goal.at.In_ok-widen_up c).In_ok-widen_down
-
-within : (c : After-stands_at) → (c.args.at - c.widen_down.new.from) + length c.args.going.now ≤ length (string_bytes c.widen_up.new.part)
-within c = omega (arith, c.in-Some.ensures.1, c.in_ok-widen_up.ensures.holds, c.in_ok-widen_down.ensures.holds)
+within : (c : After-stands_at) → (c.args.at - c.reach.new.from) + length c.args.going.now ≤ length c.reach.new.part
+within c = omega (arith, c.in-Some.ensures.1, from c, (c.in_ok-reach.ensures.lies c.if-not-branch.false).1)
 
 tested : (c : After-stands_at) → c.stands_at.result ≡ stands_at c.args.self.now c.args.at c.args.going.now
 tested c =
-    let patch = c.widen_up.ensures.patch in
-    c.stands_at.ensures ∙ ap (λ t. stands_at t (c.args.at - c.widen_down.new.from) c.args.going.now) c.as_str.ensures.value
-    ∙ patched-stands c.self-2.inside.text.now c.widen_down.new.from c.widen_up.new.to (string_bytes c.widen_up.new.part) c.self-2.invariant.0 (subst IsUtf8 c.as_str.ensures.value c.as_str.utf8) patch.1 patch.2 c.args.at c.in_ok-widen_down.ensures.holds c.args.going.now (within c)
-    ∙ ap (λ t. stands_at t c.args.at c.args.going.now) (up (goal.at.After-stands_at c).In_ok-widen_up)
+    let patch = c.reach.ensures.patch in
+    c.stands_at.ensures
+    ∙ patched-stands c.self.inside.text.now c.reach.new.from c.reach.new.to c.reach.new.part c.self.invariant.0 c.reach.ensures.utf8 patch.1 patch.2 c.args.at (from c) c.args.going.now (within c)
+    ∙ ap (λ t. stands_at t c.args.at c.args.going.now) (same c)
+
+instead : (c : In_ok-insert) → c.insert.new.self ≡ replace_range c.reach.new.part (c.args.at - c.reach.new.from) ((c.args.at - c.reach.new.from) + length c.args.going.now) c.args.coming.now
+instead c =
+    let start = c.args.at - c.reach.new.from in
+    let fits = within (goal.at.returns-clause-done c).After-stands_at in
+    c.in_ok-insert.ensures.ok ∙ ap (insert_slice c.remove.new.self start) c.as_bytes.ensures.value
+    ∙ ap (λ t. insert_slice t start c.args.coming.now) c.remove.ensures
+    ∙ put_instead c.reach.new.part c.args.coming.now start (start + length c.args.going.now) (omega arith)
 
 pub returns-then-not-stands_at-clause-stands : goal.returns-then-not-stands_at-clause-stands
 returns-then-not-stands_at-clause-stands c = sym c.if-not-stands_at.true ∙ tested (goal.at.returns-then-not-stands_at-clause-stands c).After-stands_at
@@ -33,8 +38,18 @@ returns-clause-stands c = sym c.if-not-stands_at.false ∙ tested (goal.at.retur
 
 pub returns-clause-done : goal.returns-clause-done
 returns-clause-done c = λ yes.
-    let patch = c.widen_up.ensures.patch in
-    let d = goal.at.returns-clause-done c in
-    ap (replace_range c.self-2.inside.text.now c.widen_down.new.from c.widen_up.new.to) (c.swap_text.ensures.text ∙ ap (λ t. replace_range t (c.args.at - c.widen_down.new.from) ((c.args.at - c.widen_down.new.from) + length c.args.going.now) c.args.coming.now) c.in_ok-reserve.ensures.bytes)
-    ∙ patched-swap c.self-2.inside.text.now c.widen_down.new.from c.widen_up.new.to (string_bytes c.widen_up.new.part) c.self-2.invariant.0 (subst IsUtf8 c.as_str.ensures.value c.as_str.utf8) patch.1 patch.2 c.args.at c.in_ok-widen_down.ensures.holds (length c.args.going.now) c.args.coming.now (within d.After-stands_at)
-    ∙ ap (λ t. replace_range t c.args.at (c.args.at + length c.args.going.now) c.args.coming.now) (up d.In_ok-widen_up)
+    let patch = c.reach.ensures.patch in
+    let d = (goal.at.returns-clause-done c).After-stands_at in
+    ap (replace_range c.self.inside.text.now c.reach.new.from c.reach.new.to) (instead c)
+    ∙ patched-swap c.self.inside.text.now c.reach.new.from c.reach.new.to c.reach.new.part c.self.invariant.0 c.reach.ensures.utf8 patch.1 patch.2 c.args.at (from d) (length c.args.going.now) c.args.coming.now (within d)
+    ∙ ap (λ t. replace_range t c.args.at (c.args.at + length c.args.going.now) c.args.coming.now) (same d)
+
+pub invariant_of-self-2 : goal.invariant_of-self-2
+invariant_of-self-2 c =
+    let start = c.args.at - c.reach.new.from in
+    let d = stands_at-means c.reach.new.part start c.args.going.now (sym c.stands_at.ensures ∙ c.if-not-stands_at.false) in (
+      c.self.invariant.0,
+      c.reach.ensures.patch,
+      subst IsUtf8 (sym (instead (goal.at.invariant_of-self-2 c).In_ok-insert))
+          (IsUtf8-replaced c.reach.new.part start (start + length c.args.going.now) c.args.coming.now c.reach.ensures.utf8 c.utf8.coming d.start d.end),
+    )

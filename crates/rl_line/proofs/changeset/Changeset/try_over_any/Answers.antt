@@ -1,0 +1,33 @@
+use Rattle.rl_line.proofs.Common.{AtLevel, ap, length, subst, sym, err_from_is_err_and, refl, Any, NeedsRoom, has_change, moved, ◌||◌, false, inr, ◌≡◌, ◌∙◌}
+use Rattle.rl_line.proofs.Records.LevelLemmas.{AtLevel-one}
+use Rattle.rl_line.proofs.Records.MoveLemmas.{GoesAs-one, GoesOver-of, moved-at}
+use Rattle.rl_line.proofs.changeset.Changeset.try_over_any.Goals as goal
+use Rattle.rl_line.proofs.changeset.Changeset.try_over_any.Goals.{After-cut}
+
+now : (c : After-cut) → c.cut.new.self ≡ moved c.args.way c.args.n c.args.self.now
+now c =
+    moved-at c.args.way c.args.n c.len-len.result 1 c.count_over.result c.self.inside.entries c.args.self.now c.cut.new.self c.self.view_is c.self.invariant.matched c.len-len.ensures.len
+    (sym (ap length c.in-Some.ensures.1)) c.count_over.ensures c.cut.ensures
+
+pub invariant_of-self : goal.invariant_of-self
+invariant_of-self c =
+    subst (AtLevel c.self.inside.level) (sym (now (goal.at.invariant_of-self c).After-cut))
+    (AtLevel-one c.args.way c.args.n c.self.inside.level c.args.self.now _ c.in-Some.ensures.0 c.in-Some.ensures.1 (subst (AtLevel c.self.inside.level) c.self.view_is c.self.invariant))
+
+pub returns-in-Some-clause-tried : goal.returns-in-Some-clause-tried
+returns-in-Some-clause-tried c =
+    GoesOver-of c.args.way c.args.n c.args.self.now _ c.args.line.now _ _
+    (sym ((GoesAs-one c.args.way c.in-Some.change.now _ c.in-Some.ensures.1).line c.args.line.now) ∙ c.in_ok-fits.ensures.ok (c.if-not-fits.false)) (now (goal.at.returns-in-Some-clause-tried c).After-cut)
+    (sym (ap has_change c.in-Some.ensures.1 ∙ ap (λ b. b || false) c.in-Some.ensures.0))
+
+pub returns-then-not-fits-clause-tried : goal.returns-then-not-fits-clause-tried
+returns-then-not-fits-clause-tried c =
+    let no = c.in_ok-fits.ensures.no c.if-not-fits.true in
+    (sym ((GoesAs-one c.args.way c.in-Some.change.now _ c.in-Some.ensures.1).line c.args.line.now) ∙ no.0, refl, no.1)
+
+pub returns-in_err-fits-clause-err : goal.returns-in_err-fits-clause-err
+returns-in_err-fits-clause-err c =
+    let p = err_from_is_err_and c.from_residual.result c.from_residual.ensures.1 in
+    let e = c.in_err-fits.ensures.err in
+    let text = c.args.line.now.text in
+    rw (p.1, p.2) (e.0, refl, e.1, inr (subst (Any (NeedsRoom text)) ((GoesAs-one c.args.way c.in-Some.change.now _ c.in-Some.ensures.1).texts text) e.2))

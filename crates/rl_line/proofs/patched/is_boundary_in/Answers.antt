@@ -1,0 +1,24 @@
+use Rattle.rl_line.proofs.Common.{arith, ◌+◌, ◌-◌, ap, length, sym, ◌∙◌, is_boundary}
+use Rattle.rl_line.proofs.Records.PatchLemmas.{boundary-beyond, is_boundary-tested, patched-after, patched-before, patched-within}
+use Rattle.rl_line.proofs.patched.is_boundary_in.Goals as goal
+
+pub returns-then-at-from : goal.returns-then-at-from
+returns-then-at-from c =
+    is_boundary-tested c.args.text.now c.args.at c.is_char_boundary.result c.is_char_boundary.ensures.test
+    ∙ sym (patched-before c.args.text.now c.args.from c.args.to c.args.part.now c.utf8.text c.requires.utf8 c.requires.patch.1 c.requires.patch.2 c.args.at c.if-at-from.true)
+
+pub returns-then-past-size : goal.returns-then-past-size
+returns-then-past-size c =
+    c.is_boundary.ensures
+    ∙ sym (patched-within c.args.text.now c.args.from c.args.to c.args.part.now c.utf8.text c.requires.utf8 c.requires.patch.1 c.requires.patch.2 c.args.at (omega arith) (omega (arith, c.size-size.ensures)))
+
+pub returns-in-Some : goal.returns-in-Some
+returns-in-Some c =
+    is_boundary-tested c.args.text.now c.in-Some.there c.is_char_boundary-in-Some.result c.is_char_boundary-in-Some.ensures.test
+    ∙ ap (is_boundary c.args.text.now) (c.in-Some.ensures.1 ∙ ap (λ n. ((c.args.at - c.args.from) - n) + c.args.to) c.size-size.ensures)
+    ∙ sym (patched-after c.args.text.now c.args.from c.args.to c.args.part.now c.utf8.text c.requires.utf8 c.requires.patch.1 c.requires.patch.2 c.args.at (omega arith) (omega (arith, c.size-size.ensures)))
+
+pub returns-in-None : goal.returns-in-None
+returns-in-None c =
+    sym (patched-after c.args.text.now c.args.from c.args.to c.args.part.now c.utf8.text c.requires.utf8 c.requires.patch.1 c.requires.patch.2 c.args.at (omega arith) (omega (arith, c.size-size.ensures))
+    ∙ boundary-beyond c.args.text.now ((c.args.at - c.args.from) - length c.args.part.now + c.args.to) (omega (arith, c.in-None.ensures, c.size-size.ensures)))
