@@ -555,7 +555,7 @@ int lodvarn_redo(lodvarn *s);
 
 /* Ends what is joined: the next change is undone alone, the next kill begins a new text of the ring, and
  * lodvarn_yank_pop returns NOTHING. Text, cursor, groups and undone changes stay. An edit that changes nothing leaves
- * the boundary; an undo, a redo, lodvarn_truncate, and the begin, end or abandon of a group remove it. */
+ * the boundary; an undo, a redo, lodvarn_truncate, and the begin, end, reopening or abandon of a group remove it. */
 int lodvarn_undo_boundary(lodvarn *s);
 
 /* Begins an undo group: once it is closed, one undo takes back all its changes. Groups nest. Undone changes can be
@@ -567,9 +567,9 @@ int lodvarn_begin_group(lodvarn *s);
 int lodvarn_end_group(lodvarn *s);
 int lodvarn_end_all_groups(lodvarn *s);
 
-/* Opens the last closed group again, also that of an edit, if nothing was recorded after it: further changes belong to
- * it until it is closed again. Undone changes are dropped. Returns NOTHING if there is no such group, or if
- * keep_undone is set and there is a change to redo; the record stays then. */
+/* Opens the group again whose end is the last entry, also that of an edit, or of an undone group that keep_undone
+ * recorded: further changes belong to it until it is closed again. Undone changes are dropped. Returns NOTHING if there
+ * is no such group, or if keep_undone is set and there is a change to redo; the record stays then. */
 int lodvarn_reopen_group(lodvarn *s);
 
 /* Takes back the innermost open group, with the closed groups in it, and drops it, as for a completion that is tried

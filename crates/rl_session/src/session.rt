@@ -105,7 +105,7 @@ pub enum Command {
     End,
     /// Closes the group that was opened last.
     EndOne,
-    /// Takes the group up again that was closed last, if nothing was recorded after it.
+    /// Opens the group again whose End is the last entry.
     Reopen,
     /// Takes back the group that was opened last and is open, and forgets it.
     Abandon,

@@ -345,9 +345,9 @@ impl Session {
         edits!(self, self.do_end_one())
     }
 
-    /// Takes the group up again that was closed last, so that what comes is a part of it. Answers whether it did: it
-    /// does if nothing was recorded after that group, and drops what was undone; else it changes nothing. It doesn't if
-    /// the options ask to keep what was undone, and something waits to be redone: then it leaves the session as it was.
+    /// Opens the group again whose End is the last entry, also one that `keep_undone` recorded, and drops the undone
+    /// changes. Later changes are a part of it. Returns false, and changes nothing, if the last entry is no End. If the
+    /// options keep undone changes, and some wait to be redone, it returns false and leaves the session as it was.
     pub fn reopen(&mut self) -> Result<bool, Fault>
         ensures { Performed self.old Command.Reopen (replied Reply.Answer result) self.new }
     {
