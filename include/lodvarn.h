@@ -235,7 +235,7 @@ typedef struct lodvarn_screen {
     size_t columns;         /* how many columns a row has: from 1 to 65535, as all others at most */
     size_t prompt;          /* the column where the text begins, after a prompt */
     size_t continuation;    /* the column where each line after the first begins, after another prompt */
-    size_t tab;             /* the distance of tab stops; if 0, a tab is as wide as lodvarn_width says */
+    size_t tab;             /* the distance of tab stops; if 0, a tab is as wide as any control character */
     size_t controls;        /* the columns of a control character, such as 2 for ^A; if 0, as lodvarn_width says */
     enum lodvarn_mode mode; /* how columns are counted */
 } lodvarn_screen;
@@ -769,9 +769,11 @@ int lodvarn_clusters(enum lodvarn_mode mode, const char *text, size_t len, lodva
 
 /* Sets *cell to the row, in line, and the column of an offset of a text on a screen.
  * - The text begins at column prompt of row 0. A newline, "\n" or "\r\n", leads to column continuation of the next row.
- * - A cluster that does not fit in the rest of its row goes whole to the next one, with the offset before it.
+ * - A cluster that does not fit in the rest of its row goes whole to the next one, with the offset before it. One
+ *   without columns always fits. So in a full row a newline leads one row down, and not two.
  * - An offset at the right edge is at column 0 of the next row; one inside a cluster is where the cluster starts.
- * - A tab goes to the next column that is a multiple of tab, or to the right edge if that is nearer.
+ * - A tab goes to the next column that is a multiple of tab, or to the right edge if that is nearer. If tab is 0, it is
+ *   a control character as any other.
  * Errors: BAD_OFFSET. */
 int lodvarn_cell(const lodvarn_screen *screen, size_t offset, const char *text, size_t len, lodvarn_position *cell);
 

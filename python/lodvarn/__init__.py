@@ -522,8 +522,8 @@ class Report(NamedTuple):
 
 class Screen(NamedTuple):
     """A screen: how many columns a row has, from 1 to 65535; the column where the text begins, after a prompt; the one
-    where each line after the first begins; the distance of tab stops, or 0 if a tab is as wide as `width` says; the
-    columns of a control character, or 0 likewise; and how columns are counted."""
+    where each line after the first begins; the distance of tab stops, or 0 if a tab is a control character as any
+    other; the columns of these, or 0 if they are as wide as `width` says; and how columns are counted."""
 
     columns: int
     prompt: int = 0

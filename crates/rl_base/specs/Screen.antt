@@ -62,9 +62,10 @@ module _ (screen : Screen) where
       if nat_lt at.1 screen.columns then (at.0, min screen.columns (at.1 + (screen.tab - at.1 % screen.tab)))
       else (at.0 + 1, min screen.columns screen.tab)
 
-  -- after a cluster of so many columns: one that does not fit on what is left of its row goes to the next
+  -- after a cluster of so many columns: one that does not fit on what is left of its row goes to the next. One without columns fits
+  -- also at the right edge and past it, as after a prompt that is wider than a row
   abbrev pub fitted : ℕ × ℕ → ℕ → ℕ × ℕ
-  fitted at columns = if nat_le (at.1 + columns) screen.columns then (at.0, at.1 + columns) else (at.0 + 1, columns)
+  fitted at columns = if (columns == 0) || nat_le (at.1 + columns) screen.columns then (at.0, at.1 + columns) else (at.0 + 1, columns)
 
   -- after a cluster: the end of a line goes to the next row, where the next line begins
   abbrev pub after : ℕ × ℕ → List ℕ → ℕ × ℕ

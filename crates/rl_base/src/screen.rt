@@ -18,7 +18,7 @@ pub struct Screen {
     pub prompt: Unit,
     /// The column at which each other line begins.
     pub continuation: Unit,
-    /// How far tab stops are apart; 0 if a tab is as wide as `mode` tells.
+    /// How far tab stops are apart; 0 if a tab is as wide as any control character.
     pub tab: Unit,
     /// How many columns a control character takes, as `^A` takes two; 0 if as many as `mode` tells.
     pub controls: Unit,
@@ -52,7 +52,7 @@ impl Screen {
         }
     }
 
-    // The row and column after a cluster of so many columns.
+    // The row and column after a cluster of so many columns. One without any stays where it is.
     fn fitted(&self, row: usize, column: usize, width: usize) -> (usize, usize)
         requires row { row < 2 ^ 63 }
         requires column { column ≤ 65535 }
@@ -62,7 +62,7 @@ impl Screen {
         ensures column { result.1 ≤ 65535 }
     {
         let columns = usize::from(self.columns);
-        if column + width <= columns {
+        if width == 0 || column + width <= columns {
             (row, column + width)
         } else {
             (row + 1, width)
@@ -117,9 +117,10 @@ impl Screen {
     }
 
     /// The row and column, both from 0, of a byte place of a text: where the cluster stands that begins there. Clusters
-    /// stand one after another, and one that does not fit in its row goes whole to the next. The end of a line leads to
-    /// the next row, a tab to the next tab stop or to the right edge if that is nearer. A place at the right edge is
-    /// column 0 of the next row, one inside a cluster where that stands, and one past the text where it ends.
+    /// stand one after another, and one that does not fit in its row goes whole to the next; one without columns always
+    /// fits. The end of a line leads to the next row, also at the right edge, a tab to the next tab stop or to the right
+    /// edge if that is nearer. A place at the right edge is column 0 of the next row, one inside a cluster where that
+    /// stands, and one past the text where it ends.
     pub fn cell(&self, text: &str, place: usize) -> (usize, usize)
         ensures value { result ≡ cell self.now text.now place }
         ensures row { result.0 ≤ 2 ^ 63 }

@@ -365,7 +365,7 @@ pub struct Screen {
     pub columns: NonZeroU16,
     /// The column where the text begins, after a prompt. At first 0.
     pub prompt: u16,
-    /// The distance of tab stops. At first 0: a tab is as wide as [`width`](crate::width) returns.
+    /// The distance of tab stops. At first 0: a tab is as wide as any control character.
     pub tab: u16,
     /// How columns are counted. At first [`Mode::Unicode`].
     pub mode: Mode,

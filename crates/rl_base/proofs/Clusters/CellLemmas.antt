@@ -1,5 +1,5 @@
 -- Cells of a text, one after another, and the place that is found for one of them.
-use Rattle.std.proofs.Common.{◌⊎◌, inl, inr, ◌≡◌, ℕ, zero, suc, cond, ◌+◌, ◌-◌, ◌%◌, ◌≤◌, ◌<◌, ◌&&◌, ◌||◌, All, min, nat_le, nat_lt, Bool, true, false, List, [], ◌∷◌, length, slice_get, unwrap_or, MatchOption, Some, arith, refl, sym, ap, subst, ◌∙◌}
+use Rattle.std.proofs.Common.{◌⊎◌, inl, inr, ◌≡◌, ℕ, zero, suc, cond, ◌+◌, ◌-◌, ◌%◌, ◌≤◌, ◌<◌, ◌==◌, eqb-true, ◌&&◌, ◌||◌, All, min, nat_le, nat_lt, Bool, true, false, List, [], ◌∷◌, length, slice_get, unwrap_or, MatchOption, Some, arith, refl, sym, ap, subst, ◌∙◌}
 use Rattle.std.proofs.lemmas.Bool.Decides.{nat_tests}
 use Rattle.std.proofs.lemmas.List.Elements.{All-head, All-tail}
 use Rattle.rl_base.specs.Clusters.{clusters}
@@ -33,9 +33,12 @@ after-stands screen (r, c) cluster = by_end (is_line_end cluster)
     Goes : ℕ × ℕ → ℕ × ℕ → Type 0
     Goes from to = is_within from (wrapped screen.columns to) ≡ true
 
-    fits : (w : ℕ) (b : Bool) → nat_le (c + w) screen.columns ≡ b → Goes (cond b (wrapped screen.columns (r, c)) (r + 1, 0)) (cond b (r, c + w) (r + 1, w))
-    fits w true e = same-row screen.columns r c (c + w) (omega arith)
-    fits w false e = grind (arith, nat_tests)
+    fits : (w : ℕ) (none b : Bool) → (w == 0) ≡ none → nat_le (c + w) screen.columns ≡ b
+        → Goes (cond b (wrapped screen.columns (r, c)) (r + 1, 0)) (cond (none || b) (r, c + w) (r + 1, w))
+    fits w true true z e = same-row screen.columns r c (c + w) (omega arith)
+    fits w false true z e = same-row screen.columns r c (c + w) (omega arith)
+    fits w true false z e = let zero_wide = eqb-true w 0 z in grind (arith, nat_tests)
+    fits w false false z e = grind (arith, nat_tests)
 
     stop : (b : Bool) → nat_lt c screen.columns ≡ b
         → Goes (wrapped screen.columns (r, c)) (cond b (r, min screen.columns (c + (screen.tab - c % screen.tab))) (r + 1, min screen.columns screen.tab))
@@ -45,7 +48,7 @@ after-stands screen (r, c) cluster = by_end (is_line_end cluster)
     by_tab : (b : Bool) → Goes (cond b (wrapped screen.columns (r, c)) (fitting screen (r, c) (columns_of screen cluster)))
         (cond b (tabbed screen (r, c)) (fitted screen (r, c) (columns_of screen cluster)))
     by_tab true = stop (nat_lt c screen.columns) refl
-    by_tab false = fits (columns_of screen cluster) (nat_le (c + columns_of screen cluster) screen.columns) refl
+    by_tab false = fits (columns_of screen cluster) (columns_of screen cluster == 0) (nat_le (c + columns_of screen cluster) screen.columns) refl refl
 
     by_end : (b : Bool)
         → Goes (cond (b || (is_tab cluster && nat_lt 0 screen.tab)) (wrapped screen.columns (r, c)) (fitting screen (r, c) (columns_of screen cluster)))
