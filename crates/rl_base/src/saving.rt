@@ -1,6 +1,7 @@
 //! Numbers and texts as bytes, one after another, as what is saved has them.
 ghost use Rattle.std.specs.Prelude.{◌≡◌, ◌<◌, ◌^◌, ◌++◌, ◌==◌, List, ℕ, All, IfErr, IfSome, option_map, OnOk, Some, length, nat_lt, true};
 ghost use Rattle.std.specs.Str.{IsUtf8};
+ghost use Rattle.byteorder.specs.Endian.{little_number};
 ghost use Rattle.rl_base.specs.Saving.{Fits, IsSized, number, numbers, size, sized};
 ghost use Rattle.rl_base.specs.declared.saving.LoadFault.TheVariants.{NoMemory};
 ghost use Rattle.rl_base.specs.declared.saving.SaveFault.TheVariants as saves;
@@ -139,6 +140,16 @@ pub fn put_text(out: &mut Vec<u8>, text: &str) -> Result<(), SaveFault>
     Ok(())
 }
 
+// The number that these bytes are.
+fn read_number(width: Width, bytes: &[u8]) -> u64
+    requires { length bytes.now ≡ size width }
+    ensures number { result ≡ little_number (size width) bytes.now }
+    ensures bytes { number width result ≡ bytes.now }
+    ensures fits { Fits width result }
+{
+    LittleEndian::read_uint(bytes, width.bytes())
+}
+
 /// Saved bytes that were not read yet.
 #[derive(Drop)]
 pub struct Unread<'t> {
@@ -177,7 +188,7 @@ impl<'t> Unread<'t> {
 
     // Reads so many bytes.
     fn take(&mut self, len: usize) -> Option<&'t [u8]>
-        ensures len { IfSome result (λ found. length found.now ≡ len) }
+        ensures read { IfSome result (λ found. (self.old ≡ found.now ++ self.new) × (length found.now ≡ len)) }
         ensures loaded { (front rest : List ℕ) → length front ≡ len → self.old ≡ front ++ rest → (option_map (λ found. found.now) result ≡ Some front) × (self.new ≡ rest) }
     {
         if len > self.bytes.len() {
@@ -190,10 +201,11 @@ impl<'t> Unread<'t> {
 
     #[tactic(auto, unfolding(crate::specs::Saving::number))]
     fn number(&mut self, width: Width) -> Option<u64>
-        ensures { (n : ℕ) (rest : List ℕ) → Fits width n → self.old ≡ number width n ++ rest → (result ≡ Some n) × (self.new ≡ rest) }
+        ensures read { IfSome result (λ n. (self.old ≡ number width n ++ self.new) × Fits width n) }
+        ensures loaded { (n : ℕ) (rest : List ℕ) → Fits width n → self.old ≡ number width n ++ rest → (result ≡ Some n) × (self.new ≡ rest) }
     {
         let bytes = self.take(width.bytes())?;
-        Some(LittleEndian::read_uint(bytes, width.bytes()))
+        Some(read_number(width, bytes))
     }
 
     /// Reads as many numbers as there is place for. Answers whether there were as many.
@@ -201,6 +213,7 @@ impl<'t> Unread<'t> {
     pub fn numbers(&mut self, width: Width, found: &mut [u64]) -> bool
         ensures loaded { (ns rest : List ℕ) → length ns ≡ length found.old → All (Fits width) ns → self.old ≡ numbers width ns ++ rest
             → (result ≡ true) × (found.new ≡ ns) × (self.new ≡ rest) }
+        ensures read { result ≡ true → (self.old ≡ numbers width found.new ++ self.new) × All (Fits width) found.new }
         ensures len { length found.new ≡ length found.old }
     {
         for i in 0..found.len() {
@@ -214,7 +227,8 @@ impl<'t> Unread<'t> {
 
     /// Reads a text of so many bytes, if they are UTF-8.
     pub fn text(&mut self, len: u64) -> Option<&'t str>
-        ensures { (text rest : List ℕ) → length text ≡ len → IsUtf8 text → self.old ≡ text ++ rest
+        ensures read { IfSome result (λ found. (self.old ≡ found.now ++ self.new) × (length found.now ≡ len) × IsUtf8 found.now) }
+        ensures loaded { (text rest : List ℕ) → length text ≡ len → IsUtf8 text → self.old ≡ text ++ rest
             → (option_map (λ found. found.now) result ≡ Some text) × (self.new ≡ rest) }
     {
         let bytes = self.take(len as usize)?;
@@ -224,7 +238,8 @@ impl<'t> Unread<'t> {
     /// Reads a text with its length before it.
     #[tactic(auto, unfolding(crate::specs::Saving::sized))]
     pub fn sized_text(&mut self) -> Option<&'t str>
-        ensures { (text rest : List ℕ) → IsSized text → self.old ≡ sized text ++ rest
+        ensures read { IfSome result (λ found. (self.old ≡ sized found.now ++ self.new) × IsSized found.now) }
+        ensures loaded { (text rest : List ℕ) → IsSized text → self.old ≡ sized text ++ rest
             → (option_map (λ found. found.now) result ≡ Some text) × (self.new ≡ rest) }
     {
         let len = self.number(Width::Eight)?;

@@ -9,7 +9,7 @@ pub returns-in_default-clause-err : goal.returns-in_default-clause-err
 unfolding sized_all
 returns-in_default-clause-err c slots rest len all is =
     let at : c.loop-i.i < length slots = omega (arith, c.loop-i-test.true, len) in
-    let next = c.sized_text.ensures (get_or slots c.loop-i.i []) _ (all c.loop-i.i [] at) ((c.loop-i.invariant slots rest len all is).1 ∙ next-first sized slots rest c.loop-i.i [] at) in
+    let next = c.sized_text.ensures.loaded (get_or slots c.loop-i.i []) _ (all c.loop-i.i [] at) ((c.loop-i.invariant slots rest len all is).1 ∙ next-first sized slots rest c.loop-i.i [] at) in
     let none = sym (ap (option_map (λ found. found.now)) c.in_default.is) ∙ next.0 in cc
 
 pub loop-i-init : goal.loop-i-init
@@ -20,7 +20,7 @@ unfolding sized_all
 loop-i-preserved c slots rest len all is =
     let at : c.loop-i.i < length slots = omega (arith, c.loop-i-test.true, len) in
     let before = c.loop-i.invariant slots rest len all is in
-    let next = c.sized_text.ensures (get_or slots c.loop-i.i []) _ (all c.loop-i.i [] at) (before.1 ∙ next-first sized slots rest c.loop-i.i [] at) in
+    let next = c.sized_text.ensures.loaded (get_or slots c.loop-i.i []) _ (all c.loop-i.i [] at) (before.1 ∙ next-first sized slots rest c.loop-i.i [] at) in
     let text = same_Some _ _ (sym (ap (option_map (λ found. found.now)) c.in-Some.is) ∙ next.0) in
     let end : c.len-at.result ≡ length (texts c.loop-i.made.list.items) =
     omega (arith, c.len-at.ensures, length-map c.loop-i.made.list.items (λ (g : Gathering). g.text)) in (

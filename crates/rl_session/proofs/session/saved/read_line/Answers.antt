@@ -10,7 +10,7 @@ returns-in_err-line-clause-err c =
     let p = err_from_is_err_and c.from_residual.result c.from_residual.ensures.1 in
     rw (p.1, p.2) (λ s rest saved is.
     let read = c.numbers.ensures.loaded (state_numbers s) (s.line.text ++ rest) refl saved.fits (is ∙ append_assoc (numbers Eight (state_numbers s)) s.line.text rest) in
-    let text = c.text.ensures s.line.text rest (sym (ap (λ h. get_or h 8 0) read.1)) saved.text read.2 in
+    let text = c.text.ensures.loaded s.line.text rest (sym (ap (λ h. get_or h 8 0) read.1)) saved.text read.2 in
     let same = same_Some _ _ (sym (ap (option_map (λ found. found.now)) c.in-Some.is) ∙ text.0) in
     c.in_err-line.ensures.err s.line _ saved.grows_not saved.cursor (subst (λ t. length t ≤ s.line.limit) (sym same) saved.within) read.1 same)
 
@@ -18,7 +18,7 @@ pub returns-clause-ok : goal.returns-clause-ok
 unfolding saved_line
 returns-clause-ok c s rest saved is =
     let read = c.numbers.ensures.loaded (state_numbers s) (s.line.text ++ rest) refl saved.fits (is ∙ append_assoc (numbers Eight (state_numbers s)) s.line.text rest) in
-    let text = c.text.ensures s.line.text rest (sym (ap (λ h. get_or h 8 0) read.1)) saved.text read.2 in
+    let text = c.text.ensures.loaded s.line.text rest (sym (ap (λ h. get_or h 8 0) read.1)) saved.text read.2 in
     let same = same_Some _ _ (sym (ap (option_map (λ found. found.now)) c.in-Some.is) ∙ text.0) in
     let options = c.options_of.ensures s.options s.line (length s.line.text ∷ []) saved.prompt read.1 in
     (c.in_ok-line.ensures.ok s.line _ saved.grows_not (subst (λ t. length t ≤ s.line.limit) (sym same) saved.within) read.1 same, same_Some _ _ (sym c.in-Some-options_of.is ∙ options), text.1)
