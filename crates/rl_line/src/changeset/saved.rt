@@ -81,8 +81,8 @@ impl Changeset {
 #[tactic(auto, using(crate::proofs::Records::SavingLemmas::records))]
 fn record_of(head: [u64; 6], list: Vec<Change>) -> Option<Changeset>
     ensures loaded { (r : Record) → IsSavedRecord r → head ≡ record_numbers r → map entry_of list.items ≡ r.recorded ++ r.pending → result ≡ Some r }
-    ensures read { IfSome result (λ r. (head ≡ record_numbers r) × (map entry_of list.items ≡ r.recorded ++ r.pending)) }
-    ensures saved { IfSome result (λ r. All (Fits Eight) (record_numbers r) → All IsSavedEntry (r.recorded ++ r.pending) → IsSavedRecord r) }
+    ensures read { IfSome result (λ r. (head ≡ record_numbers r) × (map entry_of list.items ≡ r.recorded ++ r.pending)
+        × (All (Fits Eight) (record_numbers r) → All IsSavedEntry (r.recorded ++ r.pending) → IsSavedRecord r)) }
 {
     let fresh = fresh_of(head[2], head[3] as usize);
     let saved = point_of(head[4], head[5] as usize);

@@ -13,4 +13,5 @@ pub returns-clause-read : goal.returns-clause-read
 returns-clause-read c = (
   sym (same_bytes c.ne.result c.numbers.result c.args.head c.ne.ensures c.if-ne.false) ∙ c.numbers.ensures.numbers,
   sym (take-append-drop _ (map entry_of c.args.list.items)) ∙ ap (λ (r : Record). r.recorded ++ r.pending) (sym c.in_ok-entries.ensures.some),
+  λ fits entries. record { fits = fits; matched = c.numbers.ensures.matched; point = c.numbers.ensures.point; entries = entries },
 )
