@@ -1,4 +1,4 @@
-use Rattle.rl_line.proofs.Common.{◌≡◌, ◌∙◌, ◌++◌, All, Entry, List, Record, ap, append_assoc, subst, sym, ℕ}
+use Rattle.rl_line.proofs.Common.{All, append_assoc, subst, sym}
 use Rattle.std.proofs.lemmas.Option.{IfSome_then}
 use Rattle.rl_base.specs.Saving.{Fits, numbers}
 use Rattle.rl_base.specs.declared.saving.Width.TheVariants.{Eight}

@@ -1,4 +1,4 @@
-use Rattle.rl_line.proofs.Common.{◌<◌, ◌∙◌, ◌++◌, ◌∷◌, [], ◌≡◌, ap, ap₂, arith, drop_all, entry_of, err_from_is_err_and, get_or, length, map, map-append, sym, take_all, Begin}
+use Rattle.rl_line.proofs.Common.{◌<◌, ◌∙◌, ◌++◌, ◌∷◌, [], ap, ap₂, arith, drop_all, entry_of, err_from_is_err_and, get_or, length, map, map-append, sym, take_all, Begin}
 use Rattle.std.proofs.lemmas.List.{take_more}
 use Rattle.std.proofs.lemmas.List.Elements.{All-push}
 use Rattle.rl_base.proofs.Texts.SavingLemmas.{next-first, read-more}

@@ -1,4 +1,4 @@
-use Rattle.rl_line.proofs.Common.{◌∙◌, ◌++◌, All, IsUtf8, ap, append_assoc, entry_of, get_or, refl, subst, sym, ◌≡◌}
+use Rattle.rl_line.proofs.Common.{◌∙◌, ◌++◌, All, IsUtf8, ap, append_assoc, get_or, subst, sym}
 use Rattle.rl_base.specs.Saving.{Fits, numbers}
 use Rattle.rl_base.specs.declared.saving.Width.TheVariants.{Four}
 use Rattle.rl_line.specs.SavedRecord.{saved_entry}
