@@ -140,7 +140,12 @@ fn faults_are_printed(rt: HostRuntime) -> Result<(), Fail> {
         of_save.as_str() == "out of memory, a text is too long to be saved",
         "the faults of a save",
     );
-    let of_load = format!(in rt.alloc(); "{}, {}, {}", LoadFault::NoMemory, LoadFault::Unknown, LoadFault::Damaged)?;
+    let of_load = format!(in rt.alloc();
+        "{}, {}, {}",
+        LoadFault::NoMemory,
+        LoadFault::Unknown,
+        LoadFault::Damaged
+    )?;
     is_so(
         &rt,
         of_load.as_str()
