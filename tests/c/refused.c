@@ -401,6 +401,7 @@ static void little_is_taken(void) {
     see_taken("nothing is taken for what may come", greatest < 4096);
     see_taken("the end of a group", closes_a_group() && greatest < 4096);
     see_taken("a queue", lodvarn_watch(s, 3, 40) == LODVARN_DONE && requests == 2 && greatest < 4096);
+    see_taken("a report of a text", lodvarn_paste(s, "x y ", 4, 1) > 0 && greatest < 4096);
     see_taken("a word of 17 letters", types("seventeenthletter") > 0 && greatest < 4096);
     see_taken("a save of a small text", lodvarn_save(s, &saved) > 0 && greatest < 4096);
     see_taken("a word that was undone and is kept", lodvarn_undo(s, 1) > 0 && keeps() > 0 && greatest < 4096);
