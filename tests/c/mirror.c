@@ -41,6 +41,18 @@ static int is_present(const struct copy *c) {
     return c->holds && text.len == c->len && !memcmp(text.at, c->text, c->len);
 }
 
+static int is_boundary(const struct copy *c, size_t at) { return at == c->len || (c->text[at] & 0xc0) != 0x80; }
+
+/* Some part of the text is lent, byte for byte that of the copy, if it is between characters. */
+static int has_slice(const struct copy *c) {
+    size_t from = below((unsigned)c->len + 1), to = from + below((unsigned)(c->len - from) + 1);
+    int is_good = is_boundary(c, from) && is_boundary(c, to);
+    lodvarn_view part = {"", 0};
+    int answer = lodvarn_slice(s, range(from, to), &part);
+    if (!is_good) return answer == LODVARN_BAD_OFFSET;
+    return answer == LODVARN_DONE && part.len == to - from && !memcmp(part.at, c->text + from, part.len);
+}
+
 /* Brings a copy up to date by all that changed. */
 static void splice_changed(struct copy *c) {
     lodvarn_splice p;
@@ -148,7 +160,7 @@ static void run(size_t reports, size_t text_bytes, unsigned one_of) {
         halfway += is_refused && !late && !is_present(&reported);
         late = !below(3);
         read_reports(&reported, text_bytes > 0, late ? below(3) : UINT_MAX, counts);
-        if (!late) reported.holds = is_present(&reported);
+        if (!late) reported.holds = is_present(&reported) && has_slice(&reported);
         if (!below(3)) continue;
         splice_changed(&changed);
         changed.holds = is_present(&changed);

@@ -3,6 +3,7 @@
  * text's lines, if it goes by lines or rows. Nothing takes more than it needs, and a session that is closed gives back
  * all. To be linked with -Wl,--wrap=malloc,--wrap=realloc,--wrap=free. Its last line is 'N passed, M failed', where
  * each request, each such call and each check of what is taken counts one. */
+#include "checksum.h"
 #include "see.h"
 
 #define WORD_BACK lodvarn_words_back(LODVARN_EMACS, 1)
@@ -382,6 +383,8 @@ static int closes_a_group(void) {
     return lodvarn_begin_group(s) > 0 && lodvarn_insert(s, 'a', 1) > 0 && lodvarn_end_group(s) > 0;
 }
 
+static int keeps(void) { return keep_undone() > 0 ? lodvarn_delete_range(s, range(0, 0)) : 0; }
+
 /* No call took memory before it is needed, more of it than is needed, or for longer. */
 static void see_taken(const char *what, int holds) {
     if (!see(what, holds)) printf("  %zu requests, the greatest %zu, %zu held\n", requests, greatest, peak);
@@ -397,7 +400,11 @@ static void little_is_taken(void) {
     open_it(GREAT);
     see_taken("nothing is taken for what may come", greatest < 4096);
     see_taken("the end of a group", closes_a_group() && greatest < 4096);
-    see_taken("a queue", lodvarn_watch(s, 3, 40) == LODVARN_DONE && requests == 2);
+    see_taken("a queue", lodvarn_watch(s, 3, 40) == LODVARN_DONE && requests == 2 && greatest < 4096);
+    see_taken("a report of a text", lodvarn_paste(s, "x y ", 4, 1) > 0 && greatest < 4096);
+    see_taken("a word of 17 letters", types("seventeenthletter") > 0 && greatest < 4096);
+    see_taken("a save of a small text", lodvarn_save(s, &saved) > 0 && greatest < 4096);
+    see_taken("a word that was undone and is kept", lodvarn_undo(s, 1) > 0 && keeps() > 0 && greatest < 4096);
     see_taken("a great text", lodvarn_insert_at(s, 0, great, GREAT) > 0 && greatest < GREAT * 3 / 2);
     see_taken("a great kill", lodvarn_kill(s, lodvarn_whole_text()) > 0 && greatest < GREAT * 3 / 2);
     lodvarn_close(&s);
@@ -445,6 +452,24 @@ static void loads_take_little(void) {
     loads_little("a load of small groups", groups, 0);
 }
 
+/* Wherever a file says 2^24, such as of its entries or the texts of its ring, a load takes no memory for as many. */
+static void loads_trust_no_number(void) {
+    char bytes[512];
+    lodvarn *opened;
+    open_it(3);
+    must(lodvarn_ring_add(s, "kept", 4) > 0 && lodvarn_insert(s, 'a', 1) > 0);
+    must(lodvarn_save(s, &saved) > 0 && saved.len < sizeof bytes);
+    for (size_t at = 8; at < saved.len - 15; at++) {
+        memcpy(bytes, saved.at, saved.len);
+        memset(bytes + at, 0, 8), bytes[at + 3] = 1;
+        mend((unsigned char *)bytes, saved.len);
+        int answer = lodvarn_load(&opened, bytes, saved.len);
+        if (answer > 0) lodvarn_close(&opened);
+        see_taken("a load of a great number", answer != LODVARN_NO_MEMORY && greatest < 4096);
+    }
+    lodvarn_close(&s);
+}
+
 /* An empty session has two blocks, its own and that of what it holds. What is done with it takes more, and its end
  * gives back all. */
 #define GIVES_BACK(use)                                                                       \
@@ -458,8 +483,10 @@ static void loads_take_little(void) {
 
 static void all_is_given_back(void) {
     GIVES_BACK(lodvarn_watch(s, 4, 64));
+    GIVES_BACK(lodvarn_watch(s, 4, 64) > 0 && lodvarn_unwatch(s) > 0 ? lodvarn_insert(s, 'a', 1) : 0);
     GIVES_BACK(lodvarn_insert(s, '\n', 9));
     GIVES_BACK(lodvarn_ring_add(s, "kept", 4));
+    GIVES_BACK(lodvarn_ring_add(s, "kept", 4) > 0 ? lodvarn_ring_clear(s) : 0);
     GIVES_BACK(lodvarn_restart(s, "a\nb", 3));
     GIVES_BACK(types("a\nb"));
     GIVES_BACK(lodvarn_save(s, &saved));
@@ -471,6 +498,7 @@ int main(void) {
     frugal_calls_take_nothing();
     little_is_taken();
     loads_take_little();
+    loads_trust_no_number();
     all_is_given_back();
     refuse_each("a refused request of a session", step);
     refuse_each("a refused request of a restart", step_of_restart);

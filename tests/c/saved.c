@@ -3,10 +3,11 @@
  * are passed end where no more memory is, but on Windows. Its last line is 'N passed, M failed'. */
 #define _DEFAULT_SOURCE
 #include "chance.h"
+#include "checksum.h"
 #include "see.h"
 #include "typed.h"
 
-enum { HEADING = 8, SUM = 8, ROOM = 1 << 16, PAGE = 4096, MOST = 400 };
+enum { HEADING = 8, ROOM = 1 << 16, PAGE = 4096, MOST = 400 };
 static const char *const scripts[] = {
     "text one",
     "limit 40;ring 2;text one two three;kill bword 1 emacs;pos 0;kill fword 1 after emacs;yank 1;yankpop",
@@ -18,38 +19,6 @@ static const char *const scripts[] = {
 static struct file { unsigned char bytes[ROOM]; size_t len; } files[COUNT(scripts)], file;
 static char *end; /* of the memory */
 static size_t loaded;
-
-/* XXH64 of the xxHash family, with the seed 0: a word after another, and a number of some bytes. */
-static const uint64_t primes[] = {
-    0x9e3779b185ebca87, 0xc2b2ae3d27d4eb4f, 0x165667b19e3779f9, 0x85ebca77c2b2ae63, 0x27d4eb2f165667c5
-};
-
-static uint64_t turned(uint64_t word, int by) { return word << by | word >> (64 - by); }
-
-static uint64_t mixed(uint64_t lane, uint64_t word) { return turned(lane + word * primes[1], 31) * primes[0]; }
-
-static uint64_t number(const unsigned char *at, size_t len) {
-    uint64_t n = 0;
-    while (len--) n = n << 8 | at[len];
-    return n;
-}
-
-/* Ends the file by the checksum of what stands before it. */
-static void mend(void) {
-    static const int turns[] = {1, 7, 12, 18};
-    uint64_t lanes[] = {primes[0] + primes[1], primes[1], 0, -primes[0]}, sum = 0;
-    unsigned char *at = file.bytes, *to = at + file.len - SUM;
-    for (; to - at >= 32; at += 32)
-        for (int i = 0; i < 4; i++) lanes[i] = mixed(lanes[i], number(at + 8 * i, 8));
-    for (int i = 0; i < 4; i++) sum += turned(lanes[i], turns[i]);
-    for (int i = 0; i < 4; i++) sum = (sum ^ mixed(0, lanes[i])) * primes[0] + primes[3];
-    sum = (to - file.bytes < 32 ? primes[4] : sum) + (uint64_t)(to - file.bytes);
-    for (; to - at >= 8; at += 8) sum = turned(sum ^ mixed(0, number(at, 8)), 27) * primes[0] + primes[3];
-    for (; to - at >= 4; at += 4) sum = turned(sum ^ number(at, 4) * primes[0], 23) * primes[1] + primes[2];
-    for (; at < to; at++) sum = turned(sum ^ *at * primes[4], 11) * primes[0];
-    sum = (sum ^ sum >> 33) * primes[1], sum = (sum ^ sum >> 29) * primes[2], sum ^= sum >> 32;
-    for (; at < to + SUM; sum >>= 8) *at++ = (unsigned char)sum;
-}
 
 /* Makes a file of a session. Returns whether it could. */
 static int save(lodvarn *s, struct file *to) {
@@ -87,7 +56,7 @@ static void make_file(const char *script, struct file *to, FILE *nowhere) {
         else must(keep_undone(t.s) > 0);
     must(save(t.s, to));
     file = *to;
-    mend();
+    mend(file.bytes, file.len);
     SEE(is_same(to));
     lodvarn_close(&t.s);
 }
@@ -183,7 +152,7 @@ int main(int argc, char **argv) {
         const struct file *from = &files[i / 2 % COUNT(files)];
         memcpy(file.bytes, from->bytes, file.len = from->len);
         for (unsigned n = 1 + below(3); n; n--) change();
-        if (i % 2) mend();
+        if (i % 2) mend(file.bytes, file.len);
         if (!SEE(is_met(from, i % 2))) printf("  of file %zu\n", i);
     }
     SEE(loaded >= count / 50);

@@ -2229,6 +2229,26 @@ static void a_session_is_saved_and_loaded(void) {
     }
 }
 
+/* With ample memory a session of any size is saved and loaded, with any limit and any bound. */
+static void great_sessions_are_saved_and_loaded(void) {
+    enum { GREAT = 1 << 20, ENTRIES = 2000 };
+    static char great[GREAT];
+    size_t len, len_again;
+    memset(great, 'a', GREAT);
+    lodvarn_close(&s);
+    options = (lodvarn_options)LODVARN_OPTIONS;
+    options.limit = options.max_ring_bytes = (size_t)1 << 40;
+    must(lodvarn_open(&s, &options, great, GREAT) > 0);
+    for (size_t i = 0; i < ENTRIES; i++) must(lodvarn_insert(s, '-', 1) > 0);
+    char *bytes = saved(&len);
+    lodvarn_close(&s);
+    must(lodvarn_load(&s, bytes, len) == LODVARN_DONE);
+    char *again = saved(&len_again);
+    SEE(len_again == len && !memcmp(again, bytes, len));
+    SEE(lodvarn_record_entries(s) == ENTRIES && has_chosen(&options));
+    free(bytes), free(again);
+}
+
 /* A ring that gets smaller drops its oldest texts, and one that gets larger has room for more, also once it is loaded.
  */
 static void the_ring_is_resized(void) {
@@ -2344,6 +2364,7 @@ int main(void) {
     reports_are_drained_quickly();
     a_session_begins_anew();
     a_session_is_saved_and_loaded();
+    great_sessions_are_saved_and_loaded();
     the_ring_is_resized();
     damaged_bytes_are_not_loaded();
     lodvarn_close(&s);

@@ -3,7 +3,7 @@
 use crate::script::{is_so, printed_by};
 use crate::session::{replies, session_of};
 use rl_base::testing::RefuseAt;
-use rl_base::{DeleteListener, Direction, Refusal};
+use rl_base::{DeleteListener, Direction, Refusal, RepeatCount};
 use rl_session::{Command, Reply, Session};
 use std::alloc::Global;
 use std::process::Abort;
@@ -338,6 +338,49 @@ fn runs_of_no_and_many_commands_are_done(rt: HostRuntime) -> Result<(), Fail> {
     let commands = insertions(rt.alloc(), 1500)?;
     let mut session = session_of(rt.alloc(), "", 0, 1500)?;
     does_many(&rt, &mut session, commands.as_slice())
+}
+
+// What so many undos leave is kept, so that as many undos go back to the text from before them.
+fn keeps_undone(
+    rt: &impl Abort,
+    alloc: Global,
+    session: &mut Session,
+    n: RepeatCount,
+) -> Result<(), Fail> {
+    let text = String::from_str(alloc, session.line().as_str())?;
+    replies(rt, session, &Command::Undo(n), &Reply::Answer(true));
+    replies(rt, session, &Command::KeepUndone, &Reply::Answer(true));
+    replies(rt, session, &Command::Undo(n), &Reply::Answer(true));
+    is_so(rt, session.line().as_str() == text.as_str(), "the text");
+    Ok(())
+}
+
+#[test]
+fn much_that_was_undone_is_kept(rt: HostRuntime) -> Result<(), Fail> {
+    let commands = insertions(rt.alloc(), 100)?;
+    let mut session = session_of(rt.alloc(), "", 0, 10_000)?;
+    replies_to_each(&rt, &mut session, commands.as_slice())?;
+    keeps_undone(&rt, rt.alloc(), &mut session, 100)?;
+    let long = "ab".repeat(rt.alloc(), 1000)?;
+    session.insert_str(0, long.as_str())?;
+    session.replace(0, 2000, long.as_str())?;
+    session.delete_range(0, 2000)?;
+    keeps_undone(&rt, rt.alloc(), &mut session, 3)
+}
+
+#[test]
+fn words_of_each_length_are_typed_and_pasted(rt: HostRuntime) -> Result<(), Fail> {
+    let mut session = session_of(rt.alloc(), "", 0, 10_000)?;
+    let typed = Reply::Inserted(Some(true));
+    for _ in 0..70 {
+        replies(&rt, &mut session, &Command::Insert('a', 1), &typed);
+    }
+    is_so(&rt, session.record().len() == 1, "one entry");
+    for len in 1..70 {
+        let word = "a".repeat(rt.alloc(), len)?;
+        replies(&rt, &mut session, &Command::Paste(word, 1), &typed);
+    }
+    Ok(())
 }
 
 #[test]

@@ -1,6 +1,7 @@
 //! A session that is saved and loaded again.
 use crate::script::is_so;
-use rl_base::{GraphemeClusterMode, LoadFault, Movement};
+use rl_base::saving::put_numbers;
+use rl_base::{GraphemeClusterMode, LoadFault, Movement, SaveFault, Width};
 use rl_session::{Command, Fault, Session, Settings};
 use std::alloc::Global;
 use std::process::Abort;
@@ -67,13 +68,18 @@ fn refuses_others(rt: &impl Abort, alloc: Global, bytes: &mut Vec<u8>) {
 }
 
 // It is loaded as what it was.
-fn comes_back(rt: &impl Abort, alloc: Global, session: &mut Session) -> Result<(), Fail> {
-    edits(session)?;
-    let mut bytes = session.save()?;
-    let mut loaded = Session::load(alloc, bytes.as_slice())?;
+fn loaded(rt: &impl Abort, alloc: Global, session: &Session) -> Result<(Session, Vec<u8>), Fail> {
+    let bytes = session.save()?;
+    let loaded = Session::load(alloc, bytes.as_slice())?;
     is_so(rt, loaded.settings() == session.settings(), "the settings");
     let again = loaded.save()?;
     is_so(rt, again.as_slice() == bytes.as_slice(), "the same bytes");
+    Ok((loaded, bytes))
+}
+
+fn comes_back(rt: &impl Abort, alloc: Global, session: &mut Session) -> Result<(), Fail> {
+    edits(session)?;
+    let (mut loaded, mut bytes) = loaded(rt, alloc, session)?;
     go_on_alike(rt, session, &mut loaded);
     refuses_others(rt, alloc, &mut bytes);
     Ok(())
@@ -85,4 +91,66 @@ fn a_saved_session_comes_back(rt: HostRuntime) -> Result<(), Fail> {
     settings.options.keeps = true;
     let mut session = Session::open(rt.alloc(), "", 0, &settings)?;
     comes_back(&rt, rt.alloc(), &mut session)
+}
+
+// 2,000 entries, of which 500 are undone, and a ring of 100 texts.
+fn edits_much(session: &mut Session) -> Result<(), Fault> {
+    for _ in 0..1000 {
+        session.insert('a', 1)?;
+        session.backspace(1)?;
+    }
+    for _ in 0..100 {
+        session.keep("kept")?;
+    }
+    session.undo(500)?;
+    Ok(())
+}
+
+#[test]
+fn great_sessions_come_back(rt: HostRuntime) -> Result<(), Fail> {
+    let mut settings = Settings::new(1 << 40, 100, GraphemeClusterMode::Unicode);
+    settings.options.bound.ring_bytes = 1 << 40;
+    for size in [0, 20_000] {
+        let text = "a".repeat(rt.alloc(), size)?;
+        let mut session = Session::open(rt.alloc(), text.as_str(), size, &settings)?;
+        loaded(&rt, rt.alloc(), &session)?;
+        edits_much(&mut session)?;
+        is_so(&rt, session.record().len() == 1500, "the entries");
+        loaded(&rt, rt.alloc(), &session)?;
+    }
+    Ok(())
+}
+
+#[test]
+fn numbers_past_four_bytes_are_too_long(rt: HostRuntime) -> Result<(), Fail> {
+    let mut out = Vec::new(rt.alloc());
+    put_numbers(&mut out, Width::Four, &[0, 4_294_967_295])?;
+    put_numbers(&mut out, Width::Eight, &[4_294_967_296, u64::MAX])?;
+    let put = put_numbers(&mut out, Width::Four, &[4_294_967_296]);
+    is_so(&rt, put == Err(SaveFault::TooLong), "the fault");
+    is_so(&rt, out.len() == 24, "the bytes of those before");
+    Ok(())
+}
+
+#[test]
+fn faults_are_printed(rt: HostRuntime) -> Result<(), Fail> {
+    let of_save = format!(in rt.alloc(); "{}, {}", SaveFault::NoMemory, SaveFault::TooLong)?;
+    is_so(
+        &rt,
+        of_save.as_str() == "out of memory, a text is too long to be saved",
+        "the faults of a save",
+    );
+    let of_load = format!(in rt.alloc();
+        "{}, {}, {}",
+        LoadFault::NoMemory,
+        LoadFault::Unknown,
+        LoadFault::Damaged
+    )?;
+    is_so(
+        &rt,
+        of_load.as_str()
+            == "out of memory, the bytes are not of a known version, the saved bytes are damaged",
+        "the faults of a load",
+    );
+    Ok(())
 }
