@@ -1,7 +1,7 @@
 -- Pieces of bytes, one after another, and known checksums.
-use Rattle.rl_base.proofs.Common.{◌≡◌, ℕ, zero, suc, ◌+◌, ◌-◌, ◌<◌, ◌≤◌, List, length, drop, length-drop, drop-drop, refl, ap, arith, ◌∙◌}
+use Rattle.rl_base.proofs.Common.{◌≡◌, ℕ, suc, ◌-◌, ◌<◌, ◌≤◌, List, length, drop, length-drop, drop-drop, refl, ap, arith, ◌∙◌}
 use Rattle.std.proofs.Math.Nat.{div-eq-sub-div, div-eq_of_lt, suc-mul, zero-mul}
-use Rattle.std.specs.Prelude.{◌*◌, ◌/◌}
+use Rattle.std.specs.Prelude.{◌/◌}
 use Rattle.std.specs.Prelude.{codes}
 use Rattle.rl_base.specs.Checksum.{after_byte, after_eight, after_four, after_lane, after_rest, after_stripe, all_pieces, avalanche, folded, merged, past_pieces, pieces, plus, round, striped, times, turned, xxh64}
 

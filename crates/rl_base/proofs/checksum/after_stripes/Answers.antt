@@ -1,4 +1,4 @@
-use Rattle.rl_base.proofs.Common.{arith, rules, sym, ap, ◌∙◌, length}
+use Rattle.rl_base.proofs.Common.{arith, ◌∙◌, length}
 use Rattle.std.proofs.lemmas.Slice.{between_to_end}
 use Rattle.rl_base.specs.Checksum.{after_stripe}
 use Rattle.rl_base.proofs.Texts.ChecksumLemmas.{past-next, pieces-next}

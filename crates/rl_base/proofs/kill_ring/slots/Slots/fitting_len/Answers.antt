@@ -1,4 +1,4 @@
-use Rattle.rl_base.proofs.Common.{◌<◌, ◌+◌, ◌-◌, ◌≡◌, arith, back_from, texts}
+use Rattle.rl_base.proofs.Common.{◌+◌, ◌-◌, ◌≡◌, arith, back_from, texts}
 use Rattle.rl_base.proofs.Ring.BoundLemmas.{kept-all, kept-fits, kept-less, kept-some}
 use Rattle.rl_base.proofs.kill_ring.slots.Slots.fitting_len.Goals as goal
 
