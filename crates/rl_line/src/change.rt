@@ -9,7 +9,7 @@ ghost use Rattle.rl_line.specs.Plan.{NeverRefuses, listener_after};
 ghost use Rattle.rl_line.specs.Record.{bytes_back, cursors_of, entry_of, event_of, freshness_joined, freshness_told, inverse, is_parted, new_text, old_text, with_cursors, flipped, swapped};
 ghost use Rattle.rl_line.specs.Undo.{Reaches, count_over, cursor_after, cursor_told, cursor_stands, line_back, steps_ahead};
 ghost use Rattle.rl_line.specs.Retrace.{walk_after};
-ghost use Rattle.rl_line.specs.Walk.{WalksOver};
+ghost use Rattle.rl_line.specs.Walk.{HasSeveral, WalksOver};
 ghost use Rattle.rl_line.specs.Units.{is_begin, is_change, is_end};
 ghost use Rattle.rl_line.specs.Change.{Outgrows, text_after, text_back, place, entry_to_undo, greatest_back_over, length_back, order, entries_to_undo, way_back};
 
@@ -18,6 +18,7 @@ mod joining;
 use crate::inserted::Inserted;
 use crate::patched::{Patched, leads_by};
 use crate::roomy_line::RoomyLine;
+use crate::units;
 use rl_base::places::{is_alphanumeric, is_word_cluster};
 use rl_base::{ChangeListener, Gathered, Refusal};
 use std::alloc::Global;
@@ -340,6 +341,18 @@ impl Change {
         Ok(self.stands(text, way, true))
     }
 
+    // Whether a text can, if it goes over this change alone. It stays as it is, and nothing is copied.
+    #[tactic(auto, using(crate::proofs::Records::RetraceLemmas::both_cursors))]
+    fn walks_alone(&self, alloc: Global, text: &str, way: Way) -> bool
+        ensures { result ≡ is_some (walk_after (inverse (entry_to_undo way self.now)) text.now) }
+    {
+        let now = Patched::new(alloc, text);
+        if !self.stands(&now, way.back(), true) {
+            return false;
+        }
+        self.leads(text, way)
+    }
+
     /// Whether a text can go over the change, so that the cursor, if it was told, stands between two characters then. It looks
     /// only where the change and the cursor are.
     #[tactic(auto, using(crate::proofs::Records::ChangeLemmas::over_one))]
@@ -447,7 +460,8 @@ fn growth_over(changes: &[Change], way: Way, len: usize) -> Result<usize, Refusa
 }
 
 /// Whether a text can go over the changes, with both cursors of each, if they were told, standing between two characters. So
-/// it can come back, too.
+/// it can come back, too. One change alone is compared with the text; several are tried on a copy of the part that they touch.
+#[tactic(auto, using(crate::proofs::Records::RetraceLemmas::by_changes))]
 pub(crate) fn retraces(
     alloc: Global,
     text: &str,
@@ -455,8 +469,14 @@ pub(crate) fn retraces(
     way: Way,
 ) -> Result<bool, Refusal>
     ensures ok { IfOk result (λ answer. answer ≡ true ↔ WalksOver way (map entry_of changes.now) text.now) }
-    ensures err { IfErr result (λ r. r ≡ NoMemory) }
+    ensures err { IfErr result (λ r. (r ≡ NoMemory) × HasSeveral (map entry_of changes.now)) }
 {
+    if !units::has_change(changes) {
+        return Ok(true);
+    }
+    if let Some(change) = units::lone_change(changes) {
+        return Ok(change.walks_alone(alloc, text, way));
+    }
     let mut now = Patched::new(alloc, text);
     let mut left = changes.len();
     while left > 0 {

@@ -175,6 +175,10 @@ impl RoomyLine {
         ensures room { OnOk result (HasRoom (replace_range self.old.line.text from to part.now) self.new) }
         ensures err { IfErr result (λ r. (r ≡ NoMemory) × Grows (Replace from (slice_range self.old.line.text from to) part.now)) }
     {
+        // What fits beside the range fits instead of it.
+        if part.len() <= self.text.capacity() - self.text.len() {
+            return Ok(());
+        }
         self.find_room(part.len().saturating_sub(to - from))
     }
 

@@ -3,6 +3,7 @@ ghost use Rattle.std.specs.Prelude.{◌≡◌, ◌+◌, ◌^◌, ◌≤◌, ◌<
 ghost use Rattle.rl_line.specs.Record.{entry_of};
 ghost use Rattle.rl_line.specs.Units.{IsMatched, has_change, is_change, is_whole, last_of, level, oldest_is_open, open_size, redo_of, units};
 ghost use Rattle.rl_line.specs.Entries.{deep};
+ghost use Rattle.rl_line.specs.Walk.{changes_of};
 
 use crate::change::Change;
 
@@ -276,4 +277,21 @@ pub(crate) fn has_change(entries: &[Change]) -> bool
         }
     }
     false
+}
+
+/// The change among the entries, if it is one alone.
+pub(crate) fn lone_change(entries: &[Change]) -> Option<&Change>
+    ensures some { IfSome result (λ change. changes_of (map entry_of entries.now) ≡ entry_of change.now ∷ []) }
+    ensures none { result ≡ None → ¬ (length (changes_of (map entry_of entries.now)) ≡ 1) }
+{
+    let mut lone = None;
+    for entry in entries {
+        if entry.is_change() {
+            if lone.is_some() {
+                return None;
+            }
+            lone = Some(entry);
+        }
+    }
+    lone
 }

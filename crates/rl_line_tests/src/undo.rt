@@ -1,5 +1,4 @@
-//! The record, with answers that were worked out by hand, and what no clause says: that a call comes back with
-//! an answer.
+//! The record, with answers that were worked out by hand, and what no clause says: that a call returns an answer.
 use crate::edits::replace;
 use crate::line_buffer::line_of;
 use rl_base::{
@@ -426,11 +425,7 @@ fn other_calls_drop_what_was_undone(rt: HostRuntime) -> Result<(), Fail> {
         ("a text of length 0", Call::Insert('b', 0), false),
         ("a begin", Call::Begin, false),
         ("an end of nothing", Call::End, false),
-        (
-            "an end of one group where none is open",
-            Call::EndOne,
-            false,
-        ),
+        ("an end of one group, none open", Call::EndOne, false),
         ("an abandon where no group is open", Call::Abandon, true),
         ("a call that keeps it for undos", Call::KeepUndone, false),
         ("whether a redo would find it", Call::HasRedo, true),

@@ -1,11 +1,11 @@
 -- A text that goes back over entries, with both cursors of each standing, walks over them.
-use Rattle.rl_line.proofs.Common.{◌≡◌, ◌∙◌, ◌↔◌, ◌+◌, ◌<◌, ◌≤◌, ℕ, Bool, true, false, List, [], ◌∷◌, ◌++◌, arith, length, map, map-append, reverse, take, take_all, get_or, Option, Some, None, cond, is_some, ap, refl, sym, subst, same_Some, option_and_then, IsUtf8, Change, Entry, Record, Way, Back, Ahead, apply, entry_of, event_of, inverse, text_after, cursor_stands, LeadsTo, Walk, Walks, freshness_told, entries_to_undo, entry_to_undo, order}
+use Rattle.rl_line.proofs.Common.{◌≡◌, ◌∙◌, ◌↔◌, ◌+◌, ◌<◌, ◌≤◌, ℕ, Bool, true, false, List, [], ◌∷◌, ◌++◌, arith, length, map, map-append, reverse, take, take_all, get_or, Option, Some, None, cond, is_some, ap, refl, sym, subst, same_Some, option_and_then, IsUtf8, Change, Entry, Begin, End, Changed, Record, Way, Back, Ahead, has_change, zero, suc, apply, entry_of, event_of, inverse, text_after, cursor_stands, LeadsTo, Walk, Walks, freshness_told, entries_to_undo, entry_to_undo, order}
 use Rattle.std.proofs.lemmas.List.{take_more}
 use Rattle.rl_base.proofs.Texts.SwapLemmas.{apply-IsUtf8}
 use Rattle.rl_line.specs.Change.{way_back}
 use Rattle.rl_line.specs.Retrace.{walk_after, walk_back}
-use Rattle.rl_line.specs.Walk.{WalksOver}
-use Rattle.rl_line.proofs.Records.ChangeLemmas.{ahead-inverse, length-order}
+use Rattle.rl_line.specs.Walk.{HasSeveral, WalksOver, changes_of}
+use Rattle.rl_line.proofs.Records.ChangeLemmas.{ahead-inverse, length-order, mark-leaves}
 use Rattle.rl_line.proofs.Records.RecordLemmas.{inverse-inverse, inverse-undoes, then_both, then_some, through, undoes-inverse, value_of}
 use Rattle.rl_line.proofs.Records.TurnLemmas.{turned-cons, turned-turned}
 use Rattle.rl_line.proofs.Records.UndoLemmas.{text_after-means}
@@ -141,6 +141,66 @@ Walks-parts r text = (
   λ p. record { start = p.1.0; is_text = p.1.1; back = p.1.2; end = p.2.0; ahead = p.2.1; stale = p.0 },
 )
 
-pub ruleset both_cursors = (other_way, walk_after-astray, walk_after-not, walk_after-over)
+-- ---- one change, or none, and marks beside it
+Walk-to_changes : (es : List Entry) (x y : List ℕ) → Walk es x y → Walk (changes_of es) x y
+Walk-to_changes [] x y w = w
+Walk-to_changes (Changed k c ∷ es) x y w = (w.0, w.1, Walk-to_changes es w.0 y w.2)
+Walk-to_changes (Begin ∷ es) x y w = let same : w.0 ≡ x = same_Some _ _ (sym w.1.makes ∙ mark-leaves Begin x refl) in Walk-to_changes es x y (subst (λ t. Walk es t y) same w.2)
+Walk-to_changes (End ∷ es) x y w = let same : w.0 ≡ x = same_Some _ _ (sym w.1.makes ∙ mark-leaves End x refl) in Walk-to_changes es x y (subst (λ t. Walk es t y) same w.2)
+
+Walk-from_changes : (es : List Entry) (x y : List ℕ) → Walk (changes_of es) x y → Walk es x y
+Walk-from_changes [] x y w = w
+Walk-from_changes (Changed k c ∷ es) x y w = (w.0, w.1, Walk-from_changes es w.0 y w.2)
+Walk-from_changes (Begin ∷ es) x y w = (x, record { makes = mark-leaves Begin x refl; before = refl; after = refl }, Walk-from_changes es x y w)
+Walk-from_changes (End ∷ es) x y w = (x, record { makes = mark-leaves End x refl; before = refl; after = refl }, Walk-from_changes es x y w)
+
+changes-walk : (way : Way) (es : List Entry) (text : List ℕ) → WalksOver way (changes_of es) text ↔ WalksOver way es text
+changes-walk Back es text = (λ w. (w.0, w.1, Walk-from_changes es w.0 text w.2), λ w. (w.0, w.1, Walk-to_changes es w.0 text w.2))
+changes-walk Ahead es text = (λ w. (w.0, Walk-from_changes es text w.0 w.1), λ w. (w.0, Walk-to_changes es text w.0 w.1))
+
+pub lone-walks : (way : Way) (xs : List Change) (x : Change) (text : List ℕ) (answer : Bool) → IsUtf8 text → changes_of (map entry_of xs) ≡ entry_of x ∷ []
+    → answer ≡ is_some (walk_after (inverse (entry_to_undo way x)) text) → answer ≡ true ↔ WalksOver way (map entry_of xs) text
+lone-walks way xs x text answer u lone is =
+    let one = walks_over way (x ∷ []) text answer u (is ∙ alone way) in
+    let all = changes-walk way (map entry_of xs) text in (
+      λ h. all.0 (subst (λ es. WalksOver way es text) (sym lone) (one.0 h)),
+      λ w. one.1 (subst (λ es. WalksOver way es text) lone (all.1 w)),
+    )
+  where
+    alone : (way : Way) → is_some (walk_after (inverse (entry_to_undo way x)) text) ≡ is_some (walk_back (entries_to_undo way (x ∷ [])) text)
+    alone Back = refl
+    alone Ahead = refl
+
+none-changed : (es : List Entry) → has_change es ≡ false → changes_of es ≡ []
+none-changed [] h = refl
+none-changed (Changed k c ∷ es) h = cc
+none-changed (Begin ∷ es) h = none-changed es h
+none-changed (End ∷ es) h = none-changed es h
+
+pub marks-walk : (way : Way) (es : List Entry) (text : List ℕ) → IsUtf8 text → has_change es ≡ false → true ≡ true ↔ WalksOver way es text
+marks-walk Back es text u none = (λ h. (changes-walk Back es text).0 (text, u, subst (λ l. Walk l text text) (sym (none-changed es none)) refl), λ w. refl)
+marks-walk Ahead es text u none = (λ h. (changes-walk Ahead es text).0 (text, subst (λ l. Walk l text text) (sym (none-changed es none)) refl), λ w. refl)
+
+some-changed : (es : List Entry) → has_change es ≡ true → 0 < length (changes_of es)
+some-changed [] h = cc
+some-changed (Changed k c ∷ es) h = omega arith
+some-changed (Begin ∷ es) h = some-changed es h
+some-changed (End ∷ es) h = some-changed es h
+
+pub several-changed : (es : List Entry) → has_change es ≡ true → ¬ (length (changes_of es) ≡ 1) → HasSeveral es
+several-changed es some not = more (length (changes_of es)) (some-changed es some) not
+  where
+    more : (n : ℕ) → 0 < n → ¬ (n ≡ 1) → 1 < n
+    more zero some not = omega (arith, some)
+    more (suc zero) some not = absurd (not refl)
+    more (suc (suc n)) some not = omega arith
+
+-- the cursor that is tested first stands: the text goes over the entry as it goes where only the other is asked for
+pub walk_after-stood : (e : Entry) (text : List ℕ) → cursor_stands true (inverse e) text ≡ true → is_some (text_after true e text) ≡ is_some (walk_after e text)
+walk_after-stood e text stands = sym (ap is_some (walk_after-is e text true stands))
+
+pub ruleset both_cursors = (other_way, walk_after-astray, walk_after-not, walk_after-over, walk_after-stood)
+
+pub ruleset by_changes = (lone-walks, marks-walk, several-changed)
 
 pub ruleset walking = (Walks-parts)

@@ -191,9 +191,6 @@ pub asks-held : (k : ℕ) (t : Tally) (xs : List Change) (es : List Entry) → m
 asks-held k t xs es e f = ap (λ l. bytes_held (take t.counted l)) e ∙ f.counts.held
 
 -- ---- each way in which entries go
-pub first-left : (a n : ℕ) (es : List Entry) → a ≤ n → take a (take n es) ≡ take a es
-first-left a n es le = take-take a n es le
-
 one-front : (es : List Entry) → (take (length es - 1) (end_one es) ≡ take (length es - 1) es) × (length es - 1 ≤ length (end_one es))
 one-front es =
     elim (end_one-cases es) [
@@ -230,9 +227,6 @@ blanked xs n at fresh saved r v lt =
     ∙ ap (λ l. record { recorded = set (take n es) at End; pending = l; fresh = fresh; saved = saved }) (drop-set-lt n es at End before)
     ∙ ap (λ (q : Record). record q { recorded = set q.recorded at End }) v
 
-gone-held-before : (c k : ℕ) (es : List Entry) → c ≤ k → bytes_held (take c (set es k End)) ≡ bytes_held (take c es)
-gone-held-before c k es le = ap bytes_held (take-set-le c es k End le)
-
 gone-held : (c k size : ℕ) (xs : List Change) (x : Change) (es : List Entry) → map entry_of xs ≡ es → k < c → c ≤ length es → x ≡ get_or xs k x → size ≡ length (old_text (entry_of x)) + length (new_text (entry_of x))
     → bytes_held (take c es) ≡ size + bytes_held (take c (set es k End))
 gone-held c k size xs x es e lt le is s =
@@ -262,7 +256,7 @@ taken-size n k size t xs x e within h lt is s =
     sym h ∙ ap (λ m. bytes_held (take m (map entry_of xs))) (sym e) ∙ gone-held n k size xs x (map entry_of xs) refl lt (omega (arith, e, within, length-map xs entry_of)) is s
 
 pub taken-none : (k : ℕ) (t : Tally) (xs : List Change) → bytes_held (take t.counted (map entry_of xs)) ≡ t.held → t.counted ≤ k → bytes_held (take t.counted (set (map entry_of xs) k End)) ≡ t.held
-taken-none k t xs h le = gone-held-before t.counted k (map entry_of xs) le ∙ h
+taken-none k t xs h le = ap bytes_held (take-set-le t.counted (map entry_of xs) k End le) ∙ h
 
 pub gone-view : (k : ℕ) (r now s : Record) → without_first k r ≡ s → now ≡ record r { recorded = set r.recorded k End } → without_first (k + 1) now ≡ without_first 1 s
 gone-view k r now s v e =

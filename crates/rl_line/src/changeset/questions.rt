@@ -1,5 +1,5 @@
 //! What can be asked about a record and a line: whether undos and redos fit it.
-ghost use Rattle.std.specs.Prelude.{◌≡◌, ◌↔◌, ℕ, map, nat_le, true, false, is_some, length, IsSome, None, Some, IfOk, IfErr, IfSome};
+ghost use Rattle.std.specs.Prelude.{◌≡◌, ◌↔◌, ◌⊎◌, ℕ, map, nat_le, true, false, is_some, length, IsSome, None, Some, IfOk, IfErr, IfSome};
 ghost use Rattle.std.specs.Option.{option_map};
 ghost use Rattle.std.specs.String.{string_bytes};
 ghost use Rattle.rl_base.specs.Text.{HasText};
@@ -7,7 +7,7 @@ ghost use Rattle.rl_base.specs.declared.listeners.Refusal.TheVariants.{NoMemory}
 ghost use Rattle.rl_line.specs.Change.{greatest_back_over, longest_over};
 ghost use Rattle.rl_line.specs.Record.{entry_of, last_insert, replays_to};
 ghost use Rattle.rl_line.specs.Undo.{CopiesBack, Tries, TriesAhead, TriesBack, line_ahead, line_back, line_over, unit_of};
-ghost use Rattle.rl_line.specs.Walk.{Walks};
+ghost use Rattle.rl_line.specs.Walk.{HasSeveral, Walks};
 ghost use Rattle.rl_line.specs.Units.{last_of, open_group, redo_of};
 
 use crate::change::{Change, Way, copied, keeps_to, patch_over, retraces, text_over};
@@ -78,7 +78,7 @@ impl Changeset {
     #[tactic(auto, using(crate::proofs::Records::RetraceLemmas::walking))]
     pub fn walks(&self, line: &LineBuffer) -> Result<bool, Refusal>
         ensures ok { IfOk result (λ answer. answer ≡ true ↔ Walks self.now line.now.text) }
-        ensures err { IfErr result (λ r. r ≡ NoMemory) }
+        ensures err { IfErr result (λ r. (r ≡ NoMemory) × (HasSeveral self.now.recorded ⊎ HasSeveral self.now.pending)) }
     {
         if !self.entries.fresh().is_told() {
             return Ok(false);

@@ -1,5 +1,5 @@
 use Rattle.rl_line.proofs.Common.{arith, ◌≡◌, ◌+◌, ◌-◌, ◌<◌, length, order, subst, sym, ◌∙◌}
-use Rattle.rl_line.proofs.Records.RetraceLemmas.{WalksOn, WalksOn-all, WalksOn-next, WalksOn-not, WalksOn-start, walks_over}
+use Rattle.rl_line.proofs.Records.RetraceLemmas.{WalksOn, WalksOn-all, WalksOn-next, WalksOn-not, WalksOn-start, lone-walks, walks_over}
 use Rattle.rl_line.proofs.change.retraces.Goals as goal
 use Rattle.rl_line.proofs.change.retraces.Goals.{After-walks}
 
@@ -10,6 +10,10 @@ on : (c : After-walks) → WalksOn c.args.way (order c.args.way c.args.changes.n
 on c =
     let more : c.loop-left.left ≡ (c.loop-left.left - 1) + 1 = omega (arith, c.loop-left-test.true) in
     subst (λ k. WalksOn c.args.way (order c.args.way c.args.changes.now) k c.args.text.now c.loop-left.now) more c.loop-left.invariant
+
+pub returns-in-Some-clause-ok : goal.returns-in-Some-clause-ok
+returns-in-Some-clause-ok c =
+    lone-walks c.args.way c.args.changes.now c.in-Some.change.now c.args.text.now _ c.utf8.text c.in-Some.ensures.some c.walks_alone.ensures
 
 pub loop-left-init : goal.loop-left-init
 loop-left-init c = subst (WalksOn c.args.way (order c.args.way c.args.changes.now) (length c.args.changes.now) c.args.text.now) (sym c.new-now.ensures) (WalksOn-start c.args.way c.args.changes.now c.args.text.now)
