@@ -1,5 +1,5 @@
 -- Which texts of a ring fit a bound, and the ring of its newest texts alone.
-use Rattle.rl_base.proofs.Common.{◌≡◌, ℕ, ◌+◌, ◌-◌, ◌<◌, ◌≤◌, Bool, true, false, cond, min, List, [], ◌∷◌, ◌++◌, length, take, drop, get_or, reverse, None, refl, sym, ap, ◌∙◌, inl, inr, arith, slice_get, drop_more, drop_all, take_at, take-append-drop, reverse-append, reverse-reverse, length-reverse, length-append, length-take, length-drop, length-map, map-append, ap₂, ◌^◌, ◌==◌, cond-true, cond-false, nat_le, nat_lt, Gathering, texts, Ring, IsRing, Other, back_from, newest_first, fitting, left_with, with_newest, cut_to, resized, within_bytes, Action, NewKill, cases_lt, eq-eqb, unwrap_or, zero, suc, sum_by-append, sum_by-cons, take_all, take_more, length-take-le, FitsLast, Kill, Yank, behind, get_or_append_left, get_or-append-add, get_or-reverse, get_or-take, get_or-drop, leb-true, leb-false, ltb-true, eqb-true, eqb-false, sum_by, put_at, join_at, Mode, slice_set}
+use Rattle.rl_base.proofs.Common.{◌≡◌, ℕ, ◌+◌, ◌-◌, ◌<◌, ◌≤◌, Bool, true, false, cond, min, List, [], ◌∷◌, ◌++◌, length, take, drop, get_or, reverse, None, refl, sym, ap, ◌∙◌, inl, inr, arith, slice_get, drop_more, drop_all, take_at, take-append-drop, reverse-append, reverse-reverse, length-reverse, length-append, length-take, length-drop, length-map, map-append, ap₂, ◌^◌, ◌==◌, cond-true, cond-false, nat_le, nat_lt, Gathering, texts, Ring, IsRing, Other, back_from, newest_first, fitting, left_with, with_newest, cut_to, resized, within_bytes, Action, NewKill, cases_lt, eq-eqb, unwrap_or, zero, suc, sum_by-append, sum_by-cons, take_all, take_more, length-take-le, Some, option_map, FitsLast, Kill, Yank, behind, slice_get-get_or, get_or_append_left, get_or-append-add, get_or-reverse, get_or-take, get_or-drop, leb-true, leb-false, ltb-true, eqb-true, eqb-false, sum_by, put_at, join_at, Mode, slice_set}
 use Rattle.std.proofs.lemmas.List.{drop-map, get_or_past, take-map, take_min}
 use Rattle.std.proofs.lemmas.List.Sums.{sum_by-set}
 use Rattle.std.proofs.lemmas.Option.{unwrap_or-slice_get}
