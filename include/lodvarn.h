@@ -715,9 +715,9 @@ bool lodvarn_can_undo(lodvarn *s);
 bool lodvarn_can_redo(lodvarn *s);
 
 /* Returns whether the text is the one that lodvarn_mark_saved marked last, by the record: it was not changed since, or
- * undos, redos and abandons came back to it. It is false for good once a change that was made before the mark is
- * dropped: because its group was abandoned, because an edit dropped it after it was undone, or by a bound. With
- * keep_undone, only undos come back. */
+ * undos, redos and abandons came back to it. Groups that begin, end or are reopened leave it so. It is false for good
+ * once a change that was made before the mark is dropped: because its group was abandoned, because an edit dropped it
+ * after it was undone, or by a bound. With keep_undone, only undos come back. */
 bool lodvarn_is_saved(lodvarn *s);
 
 /* Returns the number of entries of the record, marks of groups included. */

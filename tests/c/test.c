@@ -405,10 +405,18 @@ static void a_saved_text_comes_back(void) {
     lodvarn_undo(s, 1);
     lodvarn_insert(s, 'a', 1);
     SEE(!lodvarn_is_saved(s) && lodvarn_mark_saved(s) == LODVARN_DONE);
+    /* marks of groups do not count */
+    SEE(lodvarn_begin_group(s) == LODVARN_DONE && lodvarn_is_saved(s));
+    SEE(lodvarn_end_group(s) == LODVARN_NOTHING && lodvarn_is_saved(s));
     SEE(SET(max_entries, 0) == LODVARN_DONE && lodvarn_is_saved(s));
     lodvarn_insert(s, 'b', 1);
     SEE(lodvarn_undo(s, 1) == LODVARN_NOTHING && !lodvarn_is_saved(s));
     SEE(lodvarn_mark_saved(s) == LODVARN_DONE && lodvarn_restart(s, "", 0) == LODVARN_DONE && !lodvarn_is_saved(s));
+    /* a letter that is refused in a reopened group leaves the text saved */
+    open_at("|", 1);
+    lodvarn_begin_group(s), lodvarn_insert(s, 'a', 1), lodvarn_end_group(s), lodvarn_mark_saved(s);
+    SEE(lodvarn_reopen_group(s) == LODVARN_DONE && lodvarn_insert(s, 'b', 1) == LODVARN_NO_ROOM);
+    SEE(lodvarn_end_group(s) == LODVARN_DONE && lodvarn_is_saved(s));
 }
 
 static void groups_are_closed(void) {

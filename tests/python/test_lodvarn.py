@@ -382,6 +382,9 @@ class Groups(Scripts):
         self.assertFalse(session.is_saved)
         session.undo()
         self.assertEqual((session.text, session.is_saved), ("é", True))
+        with session.group():
+            self.assertTrue(session.is_saved)
+        self.assertTrue(session.is_saved)
         session.undo()
         session.insert("é")
         self.assertEqual((session.text, session.is_saved), ("é", False))

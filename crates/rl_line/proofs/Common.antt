@@ -49,8 +49,8 @@ pub use Rattle.rl_base.specs.declared.motion.WordAction.TheVariants.{Capitalize,
 pub use Rattle.rl_line.specs.Change.{TakesIn, entries_to_undo, entry_to_undo, greatest_back_over, length_back, length_back_over, order, place, text_after, text_back}
 pub use Rattle.rl_line.specs.Deletions.{Told, delete_plan, is_exact, removal, side_of, side_of_place, side_of_search, ToldOutcome}
 pub use Rattle.rl_line.specs.Edits.{cut_to_limit, exchange_plan, insert_event, insert_plan, insert_str_plan, too_long, update_plan, yank_plan, yank_pop_plan}
-pub use Rattle.rl_line.specs.Entries.{Joins, added, cut_at, deep, settled}
-pub use Rattle.rl_line.specs.Forgetting.{Counts, FrontGone, bytes_held, fits, forgotten, gone_within, is_within, kept_within, unbounded, units_kept, without_first}
+pub use Rattle.rl_line.specs.Entries.{Joins, StandsAt, added, cut_at, cut_to, deep, settled}
+pub use Rattle.rl_line.specs.Forgetting.{Counts, FrontGone, bytes_held, fits, forgotten, blanked, gone_within, is_within, kept_within, unbounded, units_kept, without_first, past_front}
 pub use Rattle.rl_line.specs.Gapped.{IsAround, IsGapped, IsTableAround, gapped_of}
 pub use Rattle.rl_line.specs.Indents.{blanks, indent_plan, line_plan, lines_plan, parts, pulled, pushed, put_spaces, spaces}
 pub use Rattle.rl_line.specs.LetterCase.{edit_word_plan, mapped, recased, respell, respelled, word_ahead}
@@ -61,10 +61,10 @@ pub use Rattle.rl_line.specs.LineStarts.{IsTable, after_newlines, from_end, kept
 pub use Rattle.rl_line.specs.Plan.{Completed, Done, Halted, Outcome, Plan, Step, StepOutcome, Taken, Takes, Uncopied, a_copy, after, after_steps, answering, events_of, followed_by, listener_after, listener_after_step, nothing, nothing_more, or_no_memory, room_by_step, single}
 pub use Rattle.rl_line.specs.RoomyLine.{HasRoom, KeepsRoom, RoomyLine}
 pub use Rattle.rl_line.specs.Ranges.{covered, either_way, from_place, killed, newline_at, text_in, to_hit, to_place, unless_empty}
-pub use Rattle.rl_line.specs.Record.{Begin, Changed, Deletion, End, Entry, Insertion, IsOfKind, Kind, Record, Replacement, SavedAt, StaysSaved, Swap, agree, arrived, bytes_ahead, bytes_back, cursors_of, entries_after, entries_of, entries_told, entry_of, event_of, events_ahead, flipped, followed, freshness_added, freshness_at, freshness_joined, freshness_of, freshness_told, inverse, is_at, is_parted, is_saved, joined, joined_in, kept_point, last_insert, last_told, new_text, old_text, opposite, parted, past, pending_after, point_kept, point_past, put_in_first, record_step, recorded_after, replay_entries, replays_to, saved_here, swapped, turned_all, untold, unwind, with_cursors}
+pub use Rattle.rl_line.specs.Record.{Begin, Changed, Deletion, End, Entry, Insertion, IsOfKind, Kind, Record, Replacement, SavedAt, StaysSaved, Swap, agree, arrived, bytes_ahead, bytes_back, cursors_of, entries_after, entries_of, entries_told, entry_of, event_of, events_ahead, flipped, followed, freshness_added, freshness_at, freshness_joined, freshness_of, freshness_told, inverse, is_at, is_parted, is_saved, joined, joined_in, kept_point, last_insert, last_told, new_text, old_text, opposite, parted, past, pending_after, point_kept, point_past, put_in_first, record_step, recorded_after, replay_entries, replays_to, saved_here, swapped, turned_all, untold, unwind, with_cursors, is_change, changes_of, change_count, IsApart, gone_on}
 pub use Rattle.rl_line.specs.Transpositions.{are_two, clusters_around, end_of_cluster, exchanged_text, first_word, meeting_place, only_move, pull_back_plan, pulled_back, second_word, swap_plan, transpose_chars_plan, transpose_words_plan}
 pub use Rattle.rl_line.specs.Undo.{Abandoned, GoesOver, OutOfRoom, Reaches, Redone, Redos, StandAfter, StandBefore, StandsStill, Tries, TriesAhead, TriesBack, Undone, count_over, cursor_after, cursor_stands, cursor_told, line_after, line_ahead, line_back, line_over, moved, place_after, steps_ahead, steps_back, steps_over, texts_after, texts_ahead, texts_back, texts_over, unit_of}
-pub use Rattle.rl_line.specs.Units.{AtLevel, Begins, BothMatched, GroupAt, Hears, InGroup, IsMatched, Open, UndoUnit, Whole, abandoned, add_entry, adds_end, after_in_group, begun, close, closed_all, cut_more, end_one, end_times, ended, ended_one, ends_in_begin, ends_in_end, entries, has_change, in_group, is_begin, is_change, is_end, is_open, kept_of, kept_undone, last_of, last_units, level, mark, marks, next_of, open_group, oldest_is_open, open_size, opens, point_closed, redo_dropped, redo_from, redo_of, redone, reopened, size_to_open, there_and_back, together, touched, truncated, undone, units, waits, with_closed}
+pub use Rattle.rl_line.specs.Units.{AtLevel, Begins, BothMatched, GroupAt, Hears, InGroup, IsMatched, Open, UndoUnit, Whole, abandoned, add_entry, adds_end, after_in_group, begun, close, closed_all, cut_more, end_one, end_times, ended, ended_one, ends_in_begin, ends_in_end, entries, has_change, in_group, is_begin, is_end, is_open, kept_of, kept_undone, last_of, last_units, level, mark, marks, next_of, open_group, oldest_is_open, open_size, opens, redo_dropped, redo_from, redo_of, redone, reopened, size_to_open, there_and_back, together, touched, truncated, undone, units, waits, with_closed}
 pub use Rattle.rl_line.specs.Walk.{LeadsTo, Walk, Walks}
 pub use Rattle.rl_line.specs.declared.change.Change.{Change}
 pub use Rattle.rl_line.specs.declared.change.Freshness.{Freshness}

@@ -4,6 +4,7 @@ pub mod ReachLemmas
 pub mod RecordLemmas
 pub mod EntryLemmas
 pub mod LastLemmas
+pub mod PointLemmas
 pub mod SavedLemmas
 pub mod JoinLemmas
 pub mod PartLemmas

@@ -1,12 +1,16 @@
 -- What the private functions of a record's entries say of them.
 use Rattle.std.specs.Prelude.{◌≡◌, ℕ, suc, ◌-◌, Bool, true, false, List, [], ◌∷◌, ◌++◌, take, drop, Option}
 use Rattle.rl_base.specs.Event.{Event}
-use Rattle.rl_line.specs.Record.{Entry, Begin, End, Record, entries_of, freshness_added, point_kept, record_step}
+use Rattle.rl_line.specs.Record.{Entry, Begin, End, IsApart, Record, change_count, entries_of, freshness_added, freshness_at, kept_point, point_kept, record_step}
 use Rattle.rl_line.specs.declared.change.Freshness.{Freshness}
 
 -- a list of entries, read as a record: the first n are recorded, and those after them wait to be redone
 abbrev pub cut_at : ℕ → List Entry → Freshness → Option ℕ → Record
 cut_at n es fresh saved = record { recorded = take n es; pending = drop n es; fresh = fresh; saved = saved }
+
+-- the same list cut elsewhere, as an undo or a redo leaves it
+abbrev pub cut_to : ℕ → List Entry → Option ℕ → Record
+cut_to n es saved = cut_at n es (freshness_at (change_count (take n es)) saved) saved
 
 -- a record once what was undone is dropped, and once an entry was added
 abbrev pub settled : Freshness → Record → Record
@@ -14,6 +18,12 @@ settled fresh r = record { recorded = r.recorded; pending = []; fresh = fresh; s
 
 abbrev pub added : Entry → Freshness → Record → Record
 added e fresh r = record { recorded = r.recorded ++ e ∷ []; pending = []; fresh = fresh; saved = point_kept r }
+
+-- so many changes are recorded, and the save point has no more changes before it than there are; a record that stands there is parted
+pub record StandsAt (count : ℕ) (r : Record) : Type 0 where
+  pub counted : count ≡ change_count r.recorded
+  pub point : kept_point (change_count (r.recorded ++ r.pending)) r.saved ≡ r.saved
+  pub apart : IsApart r
 
 -- what a try to join an event to the last recorded entry does: it joins, or the record stays and the event adds its entries
 abbrev pub Joins : Event → Record → Record → Bool → Type 0

@@ -1,6 +1,6 @@
 -- Forgetting: the oldest units of a record go if more of it is kept than is wanted.
-use Rattle.std.specs.Prelude.{◌≡◌, true, ℕ, ◌+◌, ◌-◌, ◌^◌, ◌<◌, ◌≤◌, ◌&&◌, ◌||◌, nat_le, Bool, List, [], ◌∷◌, length, take, drop, replicate, reverse, if◌then◌else◌}
-use Rattle.rl_line.specs.Record.{Entry, End, Record, new_text, old_text, point_past}
+use Rattle.std.specs.Prelude.{◌≡◌, true, ℕ, ◌+◌, ◌-◌, ◌^◌, ◌<◌, ◌≤◌, ◌&&◌, ◌||◌, nat_le, Bool, List, [], ◌∷◌, get_or, length, set, take, drop, replicate, reverse, if◌then◌else◌}
+use Rattle.rl_line.specs.Record.{Entry, End, Record, change_count, new_text, old_text, point_past}
 use Rattle.rl_line.specs.Units.{UndoUnit, Open, Whole, oldest_is_open, together, units}
 use Rattle.rl_line.specs.declared.forgetting.Tally.{Tally}
 
@@ -36,15 +36,23 @@ kept_within most bytes es = together (reverse (units_kept most bytes (reverse (u
 abbrev pub gone_within : ℕ → ℕ → List Entry → List Entry
 gone_within most bytes es = take (length es - length (kept_within most bytes es)) es
 
--- the record once its oldest units were forgotten. What was undone stays, and a save point that has them before it
+-- the record once its oldest units were forgotten. What was undone stays, and a save point that has their changes before it
 abbrev pub forgotten : ℕ → ℕ → Record → Record
 forgotten most bytes r =
-    record r { recorded = kept_within most bytes r.recorded; saved = point_past (length r.recorded - length (kept_within most bytes r.recorded)) r.saved }
+    record r { recorded = kept_within most bytes r.recorded; saved = point_past (change_count (gone_within most bytes r.recorded)) r.saved }
 
 -- ---- what private functions say
 -- a record without its first k entries
 abbrev pub without_first : ℕ → Record → Record
-without_first k r = record r { recorded = drop k r.recorded; saved = point_past k r.saved }
+without_first k r = record r { recorded = drop k r.recorded; saved = point_past (change_count (take k r.recorded)) r.saved }
+
+-- a record without the first k entries, which are forgotten
+abbrev pub past_front : ℕ → Record → Record
+past_front k r = record r { recorded = drop k r.recorded }
+
+-- a record once its entry at i, which is forgotten, is an End; one change less stands before the save point if that was one
+abbrev pub blanked : ℕ → Record → Record
+blanked i r = record r { recorded = set r.recorded i End; saved = point_past (change_count (get_or r.recorded i End ∷ [])) r.saved }
 
 -- what a tally says of the first m entries, of which `gone` are forgotten
 pub record Counts (gone : ℕ) (tally : Tally) (m : ℕ) (es : List Entry) : Type 0 where

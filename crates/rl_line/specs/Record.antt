@@ -1,5 +1,6 @@
 -- The record of the changes of a line.
 use Rattle.std.specs.Prelude.{◌≡◌, ◌≤◌, ◌⊎◌, Bool, true, false, ℕ, ◌+◌, not, ◌==◌, ◌&&◌, ◌<◌, ◌-◌, nat_le, List, [], ◌∷◌, ◌++◌, length, map, take, reverse, encode_utf8, Option, Some, None, option_and_then, if◌then◌else◌}
+use Rattle.std.specs.List.{filter}
 use Rattle.std.specs.Option.{option_map_or}
 use Rattle.std.specs.Str.{bytes_eq}
 use Rattle.std.specs.String.{string_bytes}
@@ -53,8 +54,20 @@ IsOfKind (Changed Insertion swap) = swap.old ≡ []
 IsOfKind (Changed Deletion swap) = swap.new ≡ []
 IsOfKind _ = Unit {0}
 
+-- whether an entry is a change
+abbrev pub is_change : Entry → Bool
+is_change (Changed kind swap) = true
+is_change _ = false
+
+-- the changes among entries, and how many there are: marks are left out
+abbrev pub changes_of : List Entry → List Entry
+changes_of es = filter is_change es
+
+abbrev pub change_count : List Entry → ℕ
+change_count es = length (changes_of es)
+
 -- what was recorded, the oldest first; what was undone and waits to be redone, in the order in which it was made; and whether
--- the cursors of the last recorded change may still be told, and the next change may join it; and how many entries were recorded
+-- the cursors of the last recorded change may still be told, and the next change may join it; and how many changes were recorded
 -- when the text was saved, as long as these are there
 pub record Record : Type 0 where
   pub recorded : List Entry
@@ -66,28 +79,32 @@ pub record Record : Type 0 where
 abbrev pub no_changes : Record
 no_changes = record { recorded = []; pending = []; fresh = is.Stale; saved = None }
 
--- a save point, if no more than `len` entries stand before it
+-- a save point, if no more than `len` changes stand before it
 abbrev pub kept_point : ℕ → Option ℕ → Option ℕ
 kept_point len None = None
 kept_point len (Some n) = if nat_le n len then Some n else None
 
--- a save point once the first k entries are gone
+-- a save point once the first k changes are gone
 abbrev pub point_past : ℕ → Option ℕ → Option ℕ
 point_past k None = None
 point_past k (Some n) = if nat_le k n then Some (n - k) else None
 
--- whether so many entries stand before a save point
+-- whether so many changes stand before a save point
 abbrev pub is_at : ℕ → Option ℕ → Bool
 is_at len None = false
 is_at len (Some n) = n == len
 
--- a record that came to so many entries is parted at its save point, so that no change joins what was saved
+-- a record that came to so many changes is parted at its save point, so that no change joins what was saved
 abbrev pub freshness_at : ℕ → Option ℕ → Freshness
 freshness_at len point = if is_at len point then is.Parted else is.Stale
 
+-- whether a record stands where its text was saved: as many changes are recorded as then. Marks of groups do not count
+abbrev pub is_saved : Record → Bool
+is_saved r = is_at (change_count r.recorded) r.saved
+
 -- a record that came to these entries
 abbrev pub arrived : List Entry → List Entry → Option ℕ → Record
-arrived es pending point = record { recorded = es; pending = pending; fresh = freshness_at (length es) point; saved = point }
+arrived es pending point = record { recorded = es; pending = pending; fresh = freshness_at (change_count es) point; saved = point }
 
 -- a change that has no cursors yet
 abbrev pub untold : ℕ → List ℕ → List ℕ → Swap
@@ -212,7 +229,7 @@ pending_after _ pending = []
 
 -- the save point of a record that drops what was undone
 abbrev pub point_kept : Record → Option ℕ
-point_kept r = kept_point (length r.recorded) r.saved
+point_kept r = kept_point (change_count r.recorded) r.saved
 
 -- the save point after an event, which drops what was undone unless a kill starts or stops or cursors are told
 abbrev pub saved_after : Event → Record → Option ℕ
@@ -225,28 +242,32 @@ saved_after _ r = point_kept r
 unfoldable pub record_step : Record → Event → Record
 record_step r event = record { recorded = recorded_after event r; pending = pending_after event r.pending; fresh = freshness_after event r; saved = saved_after event r }
 
+-- the same record, in which the next change may join as this says, unless it stands at its save point; no cursors are told
+abbrev pub gone_on : Freshness → Record → Record
+gone_on fresh r = record r { fresh = if is_saved r then is.Parted else freshness_told fresh }
+
 -- the same record, in which the next change joins nothing
 abbrev pub parted : Record → Record
 parted r = record r { fresh = is.Parted }
 
 -- the same record, whose text is saved here
 abbrev pub saved_here : Record → Record
-saved_here r = record r { fresh = is.Parted; saved = Some (length r.recorded) }
+saved_here r = record r { fresh = is.Parted; saved = Some (change_count r.recorded) }
 
--- whether a record stands where its text was saved
-abbrev pub is_saved : Record → Bool
-is_saved r = is_at (length r.recorded) r.saved
+-- a record that stands there is parted
+abbrev pub IsApart : Record → Type 0
+IsApart r = is_saved r ≡ true → r.fresh ≡ is.Parted
 
--- a save point that is there has these entries before it: those that were recorded at the save. Once they alone are recorded
+-- a save point that is there has these changes before it: those that were recorded at the save. Once they alone are recorded
 -- no change joins them; and while the last of them is not recorded no cursors are told
-pub record SavedAt (es : List Entry) (r : Record) : Type 0 where
-  pub point : r.saved ≡ Some (length es)
-  pub begins : take (length es) (r.recorded ++ r.pending) ≡ es
-  pub apart : length r.recorded ≡ length es → r.fresh ≡ is.Parted
-  pub told : length r.recorded ≤ length es → freshness_told r.fresh ≡ r.fresh
+pub record SavedAt (cs : List Entry) (r : Record) : Type 0 where
+  pub point : r.saved ≡ Some (length cs)
+  pub begins : take (length cs) (changes_of (r.recorded ++ r.pending)) ≡ cs
+  pub apart : change_count r.recorded ≡ length cs → r.fresh ≡ is.Parted
+  pub told : change_count r.recorded ≤ length cs → freshness_told r.fresh ≡ r.fresh
 
 abbrev pub StaysSaved : List Entry → Record → Type 0
-StaysSaved es r = (r.saved ≡ None) ⊎ SavedAt es r
+StaysSaved cs r = (r.saved ≡ None) ⊎ SavedAt cs r
 
 -- an event that adds an entry or joins one: what is put in or taken out is not an empty text
 abbrev pub IsRecorded : Event → Type 0

@@ -4,7 +4,7 @@ use Rattle.std.specs.List.{flat_map}
 use Rattle.std.specs.Str.{IsUtf8}
 use Rattle.rl_base.specs.Saving.{Fits, numbers}
 use Rattle.rl_base.specs.declared.saving.Width.TheVariants.{Four, Eight}
-use Rattle.rl_line.specs.Record.{Entry, Begin, End, Changed, Insertion, Deletion, Replacement, Kind, Record, IsOfKind, cursors_of, kept_point, new_text, old_text}
+use Rattle.rl_line.specs.Record.{Entry, Begin, End, Changed, Insertion, Deletion, Replacement, Kind, Record, IsApart, IsOfKind, change_count, cursors_of, kept_point, new_text, old_text}
 use Rattle.rl_line.specs.Change.{place}
 use Rattle.rl_line.specs.Units.{BothMatched}
 use Rattle.rl_line.specs.declared.change.Freshness.{Freshness}
@@ -67,7 +67,7 @@ abbrev pub kept_number : Freshness → ℕ
 kept_number (is.Joined before) = before
 kept_number _ = 0
 
--- whether the text was saved, and after how many entries
+-- whether the text was saved, and after how many changes
 abbrev pub point_number : Option ℕ → ℕ
 point_number None = 0
 point_number (Some _) = 1
@@ -85,5 +85,6 @@ saved_record r = numbers Eight (record_numbers r) ++ saved_entries (r.recorded +
 pub record IsSavedRecord (r : Record) : Type 0 where
   pub fits : All (Fits Eight) (record_numbers r)
   pub matched : BothMatched r
-  pub point : kept_point (length (r.recorded ++ r.pending)) r.saved ≡ r.saved
+  pub point : kept_point (change_count (r.recorded ++ r.pending)) r.saved ≡ r.saved
+  pub apart : IsApart r
   pub entries : All IsSavedEntry (r.recorded ++ r.pending)

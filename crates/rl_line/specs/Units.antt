@@ -2,9 +2,8 @@
 use Rattle.std.specs.Prelude.{◌≡◌, ℕ, zero, suc, ◌+◌, ◌-◌, max, min, nat_le, not, ◌||◌, ◌&&◌, ◌==◌, Bool, true, false, List, [], ◌∷◌, ◌++◌, length, map, take, drop, reverse, Option, Some, None, IsSome, IsTrue, option_and_then, if◌then◌else◌}
 use Rattle.std.specs.Option.{option_map_or}
 use Rattle.rl_base.specs.Event.{Event}
-use Rattle.rl_line.specs.declared.change.Freshness.TheVariants.{Stale}
 use Rattle.rl_line.specs.declared.changeset.UnitStart.{UnitStart}
-use Rattle.rl_line.specs.Record.{Entry, Begin, End, Changed, Record, arrived, is_saved, kept_point, last_insert, point_kept, record_step, turned_all, parted}
+use Rattle.rl_line.specs.Record.{Entry, Begin, End, Changed, Record, arrived, change_count, gone_on, is_change, is_saved, kept_point, last_insert, point_kept, record_step, turned_all, parted}
 
 -- a unit: the Begin of an open group, or entries that come and go as one, which are a change or a closed group
 pub data UndoUnit : Type 0 where
@@ -97,10 +96,6 @@ redo_from es (Whole inner ∷ us) = inner
 abbrev pub redo_of : List Entry → List Entry
 redo_of es = redo_from es (reverse (units es))
 
-abbrev pub is_change : Entry → Bool
-is_change (Changed kind swap) = true
-is_change _ = false
-
 abbrev pub has_change : List Entry → Bool
 has_change [] = false
 has_change (e ∷ es) = is_change e || has_change es
@@ -141,16 +136,11 @@ adds_end (suc n) es = not (ends_in_begin es) || adds_end n (end_one es)
 
 -- the record after each call
 abbrev pub begun : Record → Record
-begun r = record { recorded = r.recorded ++ Begin ∷ []; pending = []; fresh = Stale; saved = point_kept r }
-
--- a save point after n groups were closed: it is gone with a Begin before it that was removed
-abbrev pub point_closed : ℕ → List Entry → Option ℕ → Option ℕ
-point_closed zero es point = point
-point_closed (suc n) es point = point_closed n (end_one es) (kept_point (length (end_one es)) point)
+begun r = arrived (r.recorded ++ Begin ∷ []) [] (point_kept r)
 
 -- after n groups were closed, the one that was opened last first; after all were; after one was, if one is open
 abbrev pub with_closed : ℕ → Record → Record
-with_closed n r = arrived (end_times n r.recorded) [] (point_closed n r.recorded (point_kept r))
+with_closed n r = arrived (end_times n r.recorded) [] (point_kept r)
 
 abbrev pub ended : Record → Record
 ended r = with_closed (level r.recorded) r
@@ -173,7 +163,7 @@ abbrev pub redone : Record → Record
 redone r = arrived (r.recorded ++ redo_of r.pending) (drop (length (redo_of r.pending)) r.pending) r.saved
 
 abbrev pub truncated : ℕ → Record → Record
-truncated len r = arrived (take len r.recorded) [] (kept_point (length (take len r.recorded)) r.saved)
+truncated len r = arrived (take len r.recorded) [] (kept_point (change_count (take len r.recorded)) r.saved)
 
 -- the entries of the next n units, at least one, or all if there are fewer: the first first
 abbrev pub next_of : ℕ → List Entry → List Entry
@@ -188,14 +178,9 @@ waits (e ∷ es) = true
 abbrev pub closed_all : List Entry → List Entry
 closed_all es = end_times (level es) es
 
--- a save point once m entries are recorded in place of k, where those after them stay: it stays where it was among its entries
-abbrev pub point_moved : ℕ → ℕ → Option ℕ → Option ℕ
-point_moved k m None = None
-point_moved k m (Some n) = if nat_le n k then kept_point m (Some n) else Some ((n - k) + m)
-
 -- the record once these entries are recorded, where what waits to be redone stays
 abbrev pub still_waiting : List Entry → Record → Record
-still_waiting es r = arrived es r.pending (point_moved (length r.recorded) (length es) r.saved)
+still_waiting es r = arrived es r.pending r.saved
 
 -- what waited to be redone, with its groups closed, and then the other way round
 abbrev pub there_and_back : List Entry → List Entry
@@ -204,7 +189,7 @@ there_and_back es = closed_all es ++ turned_all (closed_all es)
 -- the record that keeps what was undone: it goes there and back, nothing waits to be redone, and the next change joins nothing
 abbrev pub kept_undone : Record → Record
 kept_undone r =
-    if waits r.pending then parted (arrived (r.recorded ++ there_and_back r.pending) [] (point_closed (level r.pending) (r.recorded ++ r.pending) r.saved)) else r
+    if waits r.pending then parted (arrived (r.recorded ++ there_and_back r.pending) [] r.saved) else r
 
 -- the group that ends the record is taken up again, if one does: its End is taken off
 abbrev pub reopened : Record → Record
@@ -299,6 +284,6 @@ makes_group start r =
 -- the record once the unit is made. If no entry was recorded, it may go on as it could before the unit began
 abbrev pub united : UnitStart → Record → Record
 united start r =
-    if length r.recorded == start.len then record r { fresh = start.was }
-    else if makes_group start r then arrived (grouped_from start.from r.recorded) [] (kept_point start.from r.saved)
+    if length r.recorded == start.len then gone_on start.was r
+    else if makes_group start r then arrived (grouped_from start.from r.recorded) [] r.saved
     else r

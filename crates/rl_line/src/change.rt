@@ -6,11 +6,11 @@ ghost use Rattle.std.specs.Str.{IsUtf8};
 ghost use Rattle.rl_base.specs.Event.{Replace, apply};
 ghost use Rattle.rl_base.specs.declared.listeners.Refusal.TheVariants.{NoMemory};
 ghost use Rattle.rl_line.specs.Plan.{NeverRefuses, listener_after};
-ghost use Rattle.rl_line.specs.Record.{bytes_back, cursors_of, entry_of, event_of, freshness_joined, freshness_told, inverse, is_parted, new_text, old_text, with_cursors, flipped, swapped};
+ghost use Rattle.rl_line.specs.Record.{bytes_back, cursors_of, entry_of, event_of, freshness_joined, freshness_told, inverse, is_change, is_parted, new_text, old_text, with_cursors, flipped, swapped};
 ghost use Rattle.rl_line.specs.Undo.{Reaches, count_over, cursor_after, cursor_told, cursor_stands, line_back, steps_ahead};
 ghost use Rattle.rl_line.specs.Retrace.{walk_after};
 ghost use Rattle.rl_line.specs.Walk.{HasSeveral, WalksOver};
-ghost use Rattle.rl_line.specs.Units.{is_begin, is_change, is_end};
+ghost use Rattle.rl_line.specs.Units.{is_begin, is_end};
 ghost use Rattle.rl_line.specs.Change.{Outgrows, text_after, text_back, place, entry_to_undo, greatest_back_over, length_back, order, entries_to_undo, way_back};
 
 mod joining;

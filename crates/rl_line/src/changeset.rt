@@ -6,9 +6,9 @@ ghost use Rattle.rl_base.specs.declared.listeners.Refusal.TheVariants.{NoMemory}
 ghost use Rattle.rl_line.specs.Forgetting.{forgotten};
 ghost use Rattle.rl_line.specs.Change.{entries_to_undo};
 ghost use Rattle.rl_line.specs.Plan.{NeverRefuses};
-ghost use Rattle.rl_line.specs.Record.{Begin, End, IsOfKind, Record, entry_of, is_saved, no_changes, parted, record_step, saved_here};
+ghost use Rattle.rl_line.specs.Record.{Begin, End, IsApart, IsOfKind, Record, change_count, entry_of, is_change, is_saved, no_changes, parted, record_step, saved_here};
 ghost use Rattle.rl_line.specs.Undo.{Abandoned, GoesOver, LineOutOfRoom, OutOfRoom, Redone, StandsStill, Undone, line_ahead, line_back, line_over, listener_ahead, listener_back, listener_over, texts_ahead, texts_back, texts_over, unit_of};
-ghost use Rattle.rl_line.specs.Units.{BothMatched, IsMatched, adds_end, begun, ended, ended_one, ends_in_end, has_change, is_change, last_of, level, open_group, redo_of, reopened, truncated, units_in_group, with_closed, kept_of, kept_undone, makes_group, end_times, still_waiting, taken_in, unit_start, united, waits};
+ghost use Rattle.rl_line.specs.Units.{BothMatched, IsMatched, adds_end, begun, ended, ended_one, ends_in_end, has_change, last_of, level, open_group, redo_of, reopened, truncated, units_in_group, with_closed, kept_of, kept_undone, makes_group, end_times, still_waiting, taken_in, unit_start, united, waits};
 
 mod questions;
 mod saved;
@@ -128,7 +128,7 @@ impl Changeset {
         ensures err { IfErr result (λ r. (r ≡ NoMemory) × (self.new ≡ self.old) × (self.old.pending ≡ [])) }
     {
         let before = self.entries.len();
-        self.entries.add(Change::Begin, Freshness::Stale)?;
+        self.entries.begin()?;
         self.level += 1;
         Ok(before)
     }
@@ -275,8 +275,8 @@ impl Changeset {
 
     /// Makes one group of what was recorded since `start`, and of what that takes in, so that it is undone and redone
     /// together. It does so if these are several entries, each group that begins or ends among them is whole there, and
-    /// nothing waits to be redone; else the record stays. A save point inside the new group is gone. If no entry was
-    /// recorded, the next change may join as it could before. All room is found first, so refused it changes nothing.
+    /// nothing waits to be redone; else the record stays. If no entry was recorded, the next change may join as it could
+    /// before, unless the text was saved since. All room is found first, so refused it changes nothing.
     pub fn unite(&mut self, start: UnitStart) -> Result<(), Refusal>
         ensures ok { OnOk result (self.new ≡ united start self.old) }
         ensures unit { OnOk result (makes_group start self.old ≡ true
@@ -302,8 +302,9 @@ impl Changeset {
         self.entries.set_saved();
     }
 
-    /// Whether the record stands where its text was saved, also after undos and redos. It does no more once an entry from
-    /// before that point is dropped or forgotten, and in an empty record it does only if it was marked.
+    /// Whether the record stands where its text was saved, also after undos and redos: marks of groups do not count. It does
+    /// no more once a change from before that point is dropped or forgotten, and in an empty record it does only if it was
+    /// marked.
     pub fn is_saved(&self) -> bool
         ensures { result ≡ is_saved self.now }
     {
@@ -470,7 +471,9 @@ impl Changeset {
         if let Some(change) = self.alone(way, n) {
             line.go_over_one(change, way, listener)?;
             let len = self.entries.len();
-            self.entries.cut(count_over(way, len, 1));
+            let recorded = count_over(way, len, 1);
+            let changes = count_over(way, self.entries.changes(), 1);
+            self.entries.cut(recorded, changes);
             return Ok(true);
         }
         self.go_over_units(line, way, n, listener)
@@ -496,12 +499,13 @@ impl Changeset {
     {
         let unit = self.unit(way, n);
         go_over_all(line, unit, way, listener)?;
-        let changed = units::has_change(unit);
+        let changed = entries::count_changes(unit);
         let opened = units::level(unit);
         let recorded = count_over(way, self.entries.len(), unit.len());
-        self.entries.cut(recorded);
+        let changes = count_over(way, self.entries.changes(), changed);
+        self.entries.cut(recorded, changes);
         self.level = count_over(way, self.level, opened);
-        Ok(changed)
+        Ok(changed > 0)
     }
 
     // What is recorded, and what waits to be redone. Inlined, since a large caller would else keep two calls in each redo.

@@ -1,15 +1,15 @@
 //! The entries of a record: what an event makes of them, and how its groups are closed. A function that records drops what
 //! was undone; refused, it leaves every entry.
-ghost use Rattle.std.specs.Prelude.{◌≡◌, ◌+◌, ◌^◌, ◌≤◌, ◌<◌, ◌-◌, [], ◌∷◌, ◌++◌, All, encode_utf8, length, map, take, drop, set, true, false, None, IfOk, IfErr, IfSome, OnOk, OnErr, reverse};
-ghost use Rattle.std.specs.Option.{option_map_or};
+ghost use Rattle.std.specs.Prelude.{◌≡◌, ◌+◌, ◌^◌, ◌≤◌, ◌<◌, ◌-◌, [], ◌∷◌, ◌++◌, All, encode_utf8, length, map, take, drop, replicate, true, false, None, IfOk, IfErr, IfSome, OnOk, OnErr, reverse};
 ghost use Rattle.std.specs.Vec.{vec_len, vec_capacity};
 ghost use Rattle.rl_base.specs.Event.{InsertChar, InsertStr, Delete, Replace, Cursors};
 ghost use Rattle.rl_base.specs.declared.listeners.Direction.TheVariants.{Forward};
 ghost use Rattle.rl_base.specs.declared.listeners.Refusal.TheVariants.{NoMemory};
-ghost use Rattle.rl_line.specs.declared.change.Freshness.TheVariants.{Added, Stale};
-ghost use Rattle.rl_line.specs.Record.{Begin, Changed, End, Insertion, IsOfKind, untold, entry_of, freshness_at, freshness_told, is_at, is_saved, kept_point, no_changes, parted, point_past, record_step, saved_here, arrived, flipped, inverse};
-ghost use Rattle.rl_line.specs.Units.{adds_end, end_one, end_times, ends_in_begin, ends_in_end, grouped_from, point_closed, point_moved, still_waiting, truncated, with_closed, IsMatched, level, there_and_back};
-ghost use Rattle.rl_line.specs.Entries.{Joins, added, cut_at, settled};
+ghost use Rattle.rl_line.specs.declared.change.Freshness.TheVariants.{Added, Parted, Stale};
+ghost use Rattle.rl_line.specs.Forgetting.{blanked, past_front};
+ghost use Rattle.rl_line.specs.Record.{Begin, Changed, End, Insertion, IsApart, IsOfKind, change_count, untold, entry_of, freshness_at, freshness_told, gone_on, is_at, is_change, is_saved, kept_point, no_changes, parted, point_past, record_step, saved_here, arrived, flipped, inverse};
+ghost use Rattle.rl_line.specs.Units.{adds_end, begun, end_one, end_times, ends_in_begin, ends_in_end, grouped_from, still_waiting, truncated, with_closed, IsMatched, level, there_and_back};
+ghost use Rattle.rl_line.specs.Entries.{Joins, added, cut_at, cut_to, settled};
 
 use crate::change::{Change, Freshness, Texts, copied, seldom};
 use crate::inserted::Inserted;
@@ -24,22 +24,24 @@ pub(crate) struct Entries {
     list: Vec<Change>,
     // How many of them are recorded.
     recorded: usize,
+    // How many of these are changes.
+    changes: usize,
     // Whether the last recorded change may still be told its cursors, and joined.
     fresh: Freshness,
-    // How many were recorded when the text was saved, while these are in the list.
+    // How many changes were recorded when the text was saved, while these are in the list.
     saved: Option<usize>,
 }
 
 impl Model for Entries {
     ghost use Rattle.std.specs.Prelude.{◌≡◌, ◌≤◌, length, map};
-    ghost use Rattle.rl_line.specs.Record.{Record, entry_of, kept_point};
-    ghost use Rattle.rl_line.specs.Entries.{cut_at};
+    ghost use Rattle.rl_line.specs.Record.{Record, entry_of};
+    ghost use Rattle.rl_line.specs.Entries.{StandsAt, cut_at};
 
     ghost Value = { Record };
 
     ghost view = { λ e. cut_at e.recorded (map entry_of e.list.items) e.fresh e.saved };
 
-    ghost invariant = { λ e. (e.recorded ≤ length e.list.items) × (kept_point (length e.list.items) e.saved ≡ e.saved) };
+    ghost invariant = { λ e. (e.recorded ≤ length e.list.items) × StandsAt e.changes (cut_at e.recorded (map entry_of e.list.items) e.fresh e.saved) };
 }
 
 impl Entries {
@@ -49,12 +51,14 @@ impl Entries {
         Entries {
             list: Vec::new(alloc),
             recorded: 0,
+            changes: 0,
             fresh: Freshness::Stale,
             saved: None,
         }
     }
 
-    /// A list of entries, of which the first are recorded. None if it has fewer, or the save point is past them.
+    /// A list of entries, of which the first are recorded. None if it has fewer, if the save point is past them, or if they
+    /// stand there and are not parted.
     pub(crate) fn of(
         list: Vec<Change>,
         recorded: usize,
@@ -62,14 +66,19 @@ impl Entries {
         saved: Option<usize>,
     ) -> Option<Self>
         ensures some { IfSome result (λ entries. entries ≡ cut_at recorded (map entry_of list.items) fresh saved) }
-        ensures none { result ≡ None → recorded ≤ length list.items → ¬ (kept_point (length list.items) saved ≡ saved) }
+        ensures none { result ≡ None → recorded ≤ length list.items → ¬ ((kept_point (change_count (map entry_of list.items)) saved ≡ saved) × IsApart (cut_at recorded (map entry_of list.items) fresh saved)) }
     {
-        if recorded > list.len() || saved.unwrap_or(0) > list.len() {
+        if recorded > list.len() || saved.unwrap_or(0) > count_changes(&list) {
+            return None;
+        }
+        let changes = count_changes(&list[..recorded]);
+        if !is_apart(changes, saved, fresh) {
             return None;
         }
         Some(Entries {
             list,
             recorded,
+            changes,
             fresh,
             saved,
         })
@@ -89,16 +98,24 @@ impl Entries {
         self.recorded
     }
 
+    /// How many changes are recorded.
+    pub(crate) fn changes(&self) -> usize
+        ensures { result ≡ change_count self.now.recorded }
+    {
+        self.changes
+    }
+
     pub(crate) fn fresh(&self) -> Freshness
         ensures { result ≡ self.now.fresh }
     {
         self.fresh
     }
 
-    /// After how many entries the text was saved.
+    /// After how many changes the text was saved.
     pub(crate) fn saved(&self) -> Option<usize>
         ensures saved { result ≡ self.now.saved }
-        ensures within { kept_point (length (self.now.recorded ++ self.now.pending)) self.now.saved ≡ self.now.saved }
+        ensures within { kept_point (change_count (self.now.recorded ++ self.now.pending)) self.now.saved ≡ self.now.saved }
+        ensures apart { IsApart self.now }
     {
         self.saved
     }
@@ -290,91 +307,115 @@ impl Entries {
         self.fresh = Freshness::Parted;
     }
 
-    /// The last recorded change may be told its cursors, and joined, as `fresh` says.
+    /// The next event may join the last change as `fresh` says, unless the text is saved there. No cursors are told.
     pub(crate) fn go_on(&mut self, fresh: Freshness)
-        ensures { self.new ≡ record self.old { fresh = fresh } }
+        ensures { self.new ≡ gone_on fresh self.old }
     {
-        self.fresh = fresh;
+        self.fresh = fresh.told();
+        if is_at(self.changes, self.saved) {
+            self.fresh = Freshness::Parted;
+        }
     }
 
     /// Makes a group of the recorded entries from `from` on, where nothing waits to be redone.
     pub(crate) fn group_from(&mut self, from: usize) -> Result<(), Refusal>
         requires within { from ≤ length self.old.recorded }
         requires all { self.old.pending ≡ [] }
-        ensures done { OnOk result (self.new ≡ arrived (grouped_from from self.old.recorded) [] (kept_point from self.old.saved)) }
+        ensures done { OnOk result (self.new ≡ arrived (grouped_from from self.old.recorded) [] self.old.saved) }
         ensures err { IfErr result (λ r. (r ≡ NoMemory) × (self.new ≡ self.old)) }
     {
         self.list.reserve(2)?;
         put_marks(&mut self.list, from);
         self.recorded = self.list.len();
-        self.saved = kept_point(self.saved, from);
-        self.fresh = freshness_at(self.recorded, self.saved);
+        self.fresh = freshness_at(self.changes, self.saved);
         Ok(())
     }
 
     /// Records a Begin before what waits to be redone.
-    #[tactic(auto, using(crate::proofs::Records::WaitingLemmas::waiting))]
     pub(crate) fn open_group(&mut self) -> Result<(), Refusal>
         ensures done { OnOk result (self.new ≡ still_waiting (self.old.recorded ++ Begin ∷ []) self.old) }
         ensures err { IfErr result (λ r. (r ≡ NoMemory) × (self.new ≡ self.old)) }
     {
-        let opened = self.recorded + 1;
         self.list.insert(self.recorded, Change::Begin)?;
-        self.saved = point_moved(self.saved, self.recorded, opened);
-        self.recorded = opened;
-        self.fresh = freshness_at(opened, self.saved);
+        self.recorded += 1;
+        self.fresh = freshness_at(self.changes, self.saved);
         Ok(())
     }
 
     /// Takes the last `count` recorded entries off, where these are Begins. What waits to be redone stays.
-    #[tactic(auto, using(crate::proofs::Records::WaitingLemmas::waiting))]
     pub(crate) fn drop_begins(&mut self, count: usize)
         requires { adds_end count self.old.recorded ≡ false }
         ensures { self.new ≡ still_waiting (end_times count self.old.recorded) self.old }
     {
         let left = self.recorded - count;
         self.list.drain(left..self.recorded);
-        self.saved = point_moved(self.saved, self.recorded, left);
         self.recorded = left;
-        self.fresh = freshness_at(left, self.saved);
+        self.fresh = freshness_at(self.changes, self.saved);
     }
 
     /// Marks the text as saved here, and parts what comes from it.
     pub(crate) fn set_saved(&mut self)
         ensures { self.new ≡ saved_here self.old }
     {
-        self.saved = Some(self.recorded);
+        self.saved = Some(self.changes);
         self.fresh = Freshness::Parted;
     }
 
-    /// Whether the record stands where its text was saved.
+    /// Whether the record stands where its text was saved, marks aside.
     pub(crate) fn is_saved(&self) -> bool
         ensures { result ≡ is_saved self.now }
     {
-        is_at(self.recorded, self.saved)
+        is_at(self.changes, self.saved)
     }
 
-    /// Adds an entry to the recorded ones. If it replaces one that was undone, there is room for it. Inlined, so that
-    /// the entry is built in place.
+    /// Adds a Begin to the recorded entries. If it replaces one that was undone, there is room for it.
+    pub(crate) fn begin(&mut self) -> Result<(), Refusal>
+        ensures done { OnOk result (self.new ≡ begun self.old) }
+        ensures err { IfErr result (λ r. (r ≡ NoMemory) × (self.new ≡ self.old)) }
+        ensures full { OnErr result (self.old.pending ≡ []) }
+    {
+        if self.recorded == self.list.len() {
+            self.list.reserve(1)?;
+        }
+        keep(
+            &mut self.list,
+            &mut self.saved,
+            self.recorded,
+            self.changes,
+        );
+        match self.list.push(Change::Begin) {
+            Ok(()) => {}
+            Err(_) => unreachable!(),
+        }
+        self.recorded += 1;
+        self.fresh = freshness_at(self.changes, self.saved);
+        Ok(())
+    }
+
+    /// Adds a change to the recorded entries. If it replaces an entry that was undone, there is room for it. Inlined, so
+    /// that the change is built in place.
     #[inline(always)]
     pub(crate) fn add(&mut self, entry: Change, fresh: Freshness) -> Result<(), Refusal>
+        requires { is_change (entry_of entry) ≡ true }
         ensures done { OnOk result (self.new ≡ added (entry_of entry) fresh self.old) }
         ensures err { IfErr result (λ r. (r ≡ NoMemory) × (self.new ≡ self.old)) }
         ensures full { OnErr result (self.old.pending ≡ []) }
     {
         if self.recorded < self.list.len() {
             self.list.truncate(self.recorded);
-            self.saved = kept_point(self.saved, self.recorded);
+            self.saved = kept_point(self.saved, self.changes);
             match self.list.push(entry) {
                 Ok(()) => {}
                 Err(_) => unreachable!(),
             }
             self.recorded += 1;
+            self.changes += 1;
             self.fresh = fresh;
             return Ok(());
         }
         self.list.push(entry)?;
         self.recorded += 1;
+        self.changes += 1;
         self.fresh = fresh;
         Ok(())
     }
@@ -382,9 +423,15 @@ impl Entries {
     // Drops what was undone. Mostly nothing was, and then it costs no call.
     #[inline(always)]
     fn settle(&mut self, fresh: Freshness)
+        requires { IsApart (settled fresh self.old) }
         ensures { self.new ≡ settled fresh self.old }
     {
-        keep(&mut self.list, &mut self.saved, self.recorded);
+        keep(
+            &mut self.list,
+            &mut self.saved,
+            self.recorded,
+            self.changes,
+        );
         self.fresh = fresh;
     }
 
@@ -402,10 +449,15 @@ impl Entries {
     {
         let adds = adds_end(self.recorded(), count);
         find_ends(&mut self.list, adds, count)?;
-        keep(&mut self.list, &mut self.saved, self.recorded);
-        close_groups(&mut self.list, &mut self.saved, count);
+        keep(
+            &mut self.list,
+            &mut self.saved,
+            self.recorded,
+            self.changes,
+        );
+        close_groups(&mut self.list, count);
         self.recorded = self.list.len();
-        self.fresh = freshness_at(self.recorded, self.saved);
+        self.fresh = freshness_at(self.changes, self.saved);
         Ok(adds)
     }
 
@@ -414,75 +466,100 @@ impl Entries {
     pub(crate) fn keep_undone(&mut self, groups: usize) -> Result<(), Refusal>
         requires matched { IsMatched self.old.pending }
         requires level { groups ≡ level self.old.pending }
-        ensures done { OnOk result (self.new ≡ parted (arrived (self.old.recorded ++ there_and_back self.old.pending) [] (point_closed groups (self.old.recorded ++ self.old.pending) self.old.saved))) }
+        ensures done { OnOk result (self.new ≡ parted (arrived (self.old.recorded ++ there_and_back self.old.pending) [] self.old.saved)) }
         ensures err { IfErr result (λ r. (r ≡ NoMemory) × (self.new ≡ self.old)) }
     {
         let back = inverses(self.allocator(), self.pending(), groups)?;
         self.list.reserve(groups + back.len())?;
-        close_groups(&mut self.list, &mut self.saved, groups);
+        self.changes += 2 * count_changes(self.pending());
+        close_groups(&mut self.list, groups);
         push_turned(&mut self.list, back);
         self.recorded = self.list.len();
         self.fresh = Freshness::Parted;
         Ok(())
     }
 
-    /// Makes the first `recorded` entries those that are recorded. The others wait to be redone.
+    /// Makes the first `recorded` entries those that are recorded, of which so many are changes. The others wait to be redone.
     #[inline(always)]
-    pub(crate) fn cut(&mut self, recorded: usize)
-        requires { recorded ≤ length self.old.recorded + length self.old.pending }
-        ensures { self.new ≡ cut_at recorded (self.old.recorded ++ self.old.pending) (freshness_at recorded self.old.saved) self.old.saved }
+    pub(crate) fn cut(&mut self, recorded: usize, changes: usize)
+        requires within { recorded ≤ length self.old.recorded + length self.old.pending }
+        requires counted { changes ≡ change_count (take recorded (self.old.recorded ++ self.old.pending)) }
+        ensures { self.new ≡ cut_to recorded (self.old.recorded ++ self.old.pending) self.old.saved }
     {
         self.recorded = recorded;
-        self.fresh = freshness_at(recorded, self.saved);
+        self.changes = changes;
+        self.fresh = freshness_at(changes, self.saved);
     }
 
     /// Keeps the first `len` of the recorded entries alone.
     pub(crate) fn truncate(&mut self, len: usize)
         ensures { self.new ≡ truncated len self.old }
     {
-        keep(&mut self.list, &mut self.saved, len.min(self.recorded));
-        self.recorded = self.list.len();
-        self.fresh = freshness_at(self.recorded, self.saved);
+        let len = len.min(self.recorded);
+        let left = self.changes - count_changes(&self.list[len..self.recorded]);
+        keep(&mut self.list, &mut self.saved, len, left);
+        self.recorded = len;
+        self.changes = left;
+        self.fresh = freshness_at(left, self.saved);
     }
 
-    /// Makes an End of a recorded entry, whose texts are dropped.
+    /// Makes an End of a recorded entry, whose texts are dropped. A change goes before the save point, too.
     pub(crate) fn blank(&mut self, at: usize)
         requires { at < length self.old.recorded }
-        ensures { self.new ≡ record self.old { recorded = set self.old.recorded at End } }
+        ensures { self.new ≡ blanked at self.old }
     {
+        let gone = count_changes(&self.list[at..at + 1]);
+        self.changes -= gone;
+        self.saved = point_past(self.saved, gone);
         self.list[at] = Change::End;
     }
 
-    /// Drops the first `count` entries. The others move once.
+    /// Drops the first `count` entries, which are Ends. The others move once.
     pub(crate) fn drop_first(&mut self, count: usize)
-        requires { count ≤ length self.old.recorded }
-        ensures { self.new ≡ record self.old { recorded = drop count self.old.recorded; saved = point_past count self.old.saved } }
+        requires { take count self.old.recorded ≡ replicate count End }
+        ensures { self.new ≡ past_front count self.old }
     {
         if count > 0 {
             self.list.drain(..count);
             self.recorded -= count;
-            self.saved = point_past(self.saved, count);
         }
     }
 }
 
-/// Keeps the first `len` entries, and the save point if it is in them. Mostly these are all, and then it costs no call.
+/// Keeps the first `len` entries, which have so many changes, and the save point if it is in them. Mostly these are all, and
+/// then it costs no call.
 #[inline(always)]
 #[tactic(auto, using(crate::proofs::Records::EntryLemmas::at_the_end))]
-fn keep(entries: &mut Vec<Change>, saved: &mut Option<usize>, len: usize)
-    requires { kept_point (length entries.old.items) saved.old ≡ saved.old }
+fn keep(entries: &mut Vec<Change>, saved: &mut Option<usize>, len: usize, changes: usize)
+    requires counted { changes ≡ change_count (take len (map entry_of entries.old.items)) }
+    requires point { kept_point (change_count (map entry_of entries.old.items)) saved.old ≡ saved.old }
     ensures items { map entry_of entries.new.items ≡ take len (map entry_of entries.old.items) }
-    ensures saved { saved.new ≡ kept_point len saved.old }
+    ensures saved { saved.new ≡ kept_point changes saved.old }
     ensures len { vec_len entries.new ≤ vec_len entries.old }
     ensures capacity { vec_capacity entries.new ≡ vec_capacity entries.old }
 {
     if len < entries.len() {
         entries.truncate(len);
-        *saved = kept_point(*saved, len);
+        *saved = kept_point(*saved, changes);
     }
 }
 
-/// The save point, if no more than `len` entries stand before it.
+/// How many of the entries are changes.
+#[tactic(auto, using(crate::proofs::Records::PointLemmas::counts))]
+pub(crate) fn count_changes(entries: &[Change]) -> usize
+    ensures count { result ≡ change_count (map entry_of entries.now) }
+    ensures within { result ≤ length entries.now }
+{
+    let mut count = 0;
+    for entry in entries {
+        if entry.is_change() {
+            count += 1;
+        }
+    }
+    count
+}
+
+/// The save point, if no more than `len` changes stand before it.
 fn kept_point(saved: Option<usize>, len: usize) -> Option<usize>
     ensures { result ≡ kept_point len saved }
 {
@@ -492,25 +569,14 @@ fn kept_point(saved: Option<usize>, len: usize) -> Option<usize>
     }
 }
 
-/// The save point once the first `count` entries are gone.
-pub(crate) fn point_past(saved: Option<usize>, count: usize) -> Option<usize>
+/// The save point once the first `count` changes are gone.
+fn point_past(saved: Option<usize>, count: usize) -> Option<usize>
     ensures { result ≡ point_past count saved }
 {
     saved?.checked_sub(count)
 }
 
-/// The save point once `to` entries are recorded in place of `from`, where those after them stay.
-fn point_moved(saved: Option<usize>, from: usize, to: usize) -> Option<usize>
-    requires { to + option_map_or (λ n. n - from) saved 0 < 2 ^ 64 }
-    ensures { result ≡ point_moved from to saved }
-{
-    match saved {
-        Some(at) if at > from => Some(at - from + to),
-        _ => kept_point(saved, to),
-    }
-}
-
-/// Whether so many entries stand before the save point.
+/// Whether so many changes stand before the save point.
 fn is_at(len: usize, saved: Option<usize>) -> bool
     ensures { result ≡ is_at len saved }
 {
@@ -520,7 +586,18 @@ fn is_at(len: usize, saved: Option<usize>) -> bool
     }
 }
 
-/// How a record that came to so many entries may go on: at its save point no change joins what was saved.
+/// Whether a record with so many changes is parted, if it stands at its save point.
+fn is_apart(changes: usize, saved: Option<usize>, fresh: Freshness) -> bool
+    ensures apart { result ≡ true → is_at changes saved ≡ true → fresh ≡ Parted }
+    ensures joins { result ≡ false → ¬ (is_at changes saved ≡ true → fresh ≡ Parted) }
+{
+    if fresh.is_parted() {
+        return true;
+    }
+    !is_at(changes, saved)
+}
+
+/// How a record that came to so many changes may go on: at its save point no change joins what was saved.
 fn freshness_at(len: usize, saved: Option<usize>) -> Freshness
     ensures { result ≡ freshness_at len saved }
 {
@@ -572,18 +649,14 @@ fn find_ends(entries: &mut Vec<Change>, adds: bool, count: usize) -> Result<(), 
 }
 
 /// Closes `count` groups in a list that has room for as many Ends, if one is added.
-fn close_groups(entries: &mut Vec<Change>, saved: &mut Option<usize>, count: usize)
+fn close_groups(entries: &mut Vec<Change>, count: usize)
     requires room { adds_end count (map entry_of entries.old.items) ≡ true → vec_len entries.old + count ≤ vec_capacity entries.old }
-    requires within { kept_point (length entries.old.items) saved.old ≡ saved.old }
     ensures entries { map entry_of entries.new.items ≡ end_times count (map entry_of entries.old.items) }
-    ensures saved { saved.new ≡ point_closed count (map entry_of entries.old.items) saved.old }
-    ensures within { kept_point (length entries.new.items) saved.new ≡ saved.new }
     ensures len { vec_len entries.new ≤ vec_len entries.old + count }
     ensures capacity { vec_capacity entries.old ≤ vec_capacity entries.new }
 {
     for _ in 0..count {
         close_last(entries);
-        *saved = kept_point(*saved, entries.len());
     }
 }
 
@@ -598,7 +671,7 @@ fn inverses(alloc: Global, entries: &[Change], count: usize) -> Result<Vec<Chang
         made.push(entry.inverse(alloc)?)?;
     }
     find_ends(&mut made, true, count)?;
-    close_groups(&mut made, &mut None, count);
+    close_groups(&mut made, count);
     Ok(made)
 }
 

@@ -7,7 +7,7 @@ ghost use Rattle.rl_base.specs.Event.{Event};
 ghost use Rattle.rl_line.specs.Forgetting.{fits, forgotten, gone_within, kept_within};
 ghost use Rattle.rl_line.specs.Line.{Line};
 ghost use Rattle.rl_line.specs.Plan.{Step, after, listener_after};
-ghost use Rattle.rl_line.specs.Record.{Begin, Entry, End, IsRecorded, Record, SavedAt, StaysSaved, arrived, entries_of, is_saved, parted, point_kept, record_step, saved_here, replay_entries, unwind};
+ghost use Rattle.rl_line.specs.Record.{Begin, Entry, End, IsRecorded, Record, SavedAt, StaysSaved, arrived, change_count, changes_of, entries_of, is_saved, parted, point_kept, record_step, saved_here, replay_entries, unwind};
 ghost use Rattle.rl_line.specs.declared.change.Freshness.TheVariants.{Parted};
 ghost use Rattle.rl_line.specs.Undo.{Redone, Redos, StandAfter, StandBefore, Undone, line_ahead, line_back, steps_ahead, steps_back};
 ghost use Rattle.rl_line.specs.Units.{BothMatched, GroupAt, InGroup, IsMatched, abandoned, adds_end, after_in_group, begun, ended, ended_one, group_of, has_change, in_group, kept_of, last_of, last_units, level, open_group, opens, redo_of, redone, reopened, truncated, undone, unit_start, united, with_closed, closed_all, kept_undone, next_of, there_and_back, units, waits};
@@ -105,25 +105,28 @@ pub fn undos_lead_where_redos_led()
         → kept_of (length (units (there_and_back r.pending))) (kept_undone r).recorded ≡ r.recorded }
 {}
 
-/// A save point stays as long as the entries that were recorded at the save begin the record, recorded and undone ones
-/// together: no call changes them and leaves the point, and one that drops one of them, or forgets the one before the first,
-/// takes the point away. So if the record says that it is saved, those entries are recorded, no more and no fewer.
+/// A save point stays as long as the changes that were recorded at the save begin those of the record, recorded and undone ones
+/// together: no call makes others of them and leaves the point, and one that drops one of them, or forgets the one before the
+/// first, takes the point away. Marks of groups may come and go. So if the record says that it is saved, those changes are
+/// recorded, no more and no fewer, and lead to the text of the save.
 pub fn save_point_stays()
-    ensures marked { (r : Record) → SavedAt r.recorded (saved_here r) }
-    ensures saved { (es : List Entry) (r : Record) → StaysSaved es r → is_saved r ≡ true → r.recorded ≡ es }
-    ensures back { (es : List Entry) (r : Record) → SavedAt es r → r.recorded ≡ es → is_saved r ≡ true }
-    ensures event { (es : List Entry) (r : Record) (event : Event) → StaysSaved es r → StaysSaved es (record_step r event) }
-    ensures parted { (es : List Entry) (r : Record) → StaysSaved es r → StaysSaved es (parted r) }
-    ensures begun { (es : List Entry) (r : Record) → StaysSaved es r → StaysSaved es (begun r) }
-    ensures closed { (es : List Entry) (r : Record) (n : ℕ) → StaysSaved es r → StaysSaved es (with_closed n r) }
-    ensures reopened { (es : List Entry) (r : Record) → StaysSaved es r → StaysSaved es (reopened r) }
-    ensures undone { (es : List Entry) (r : Record) (n : ℕ) → StaysSaved es r → StaysSaved es (undone n r) }
-    ensures abandoned { (es : List Entry) (r : Record) → StaysSaved es r → StaysSaved es (abandoned r) }
-    ensures redone { (es : List Entry) (r : Record) → StaysSaved es r → StaysSaved es (redone r) }
-    ensures kept { (es : List Entry) (r : Record) → IsMatched r.pending → StaysSaved es r → StaysSaved es (kept_undone r) }
-    ensures truncated { (es : List Entry) (r : Record) (len : ℕ) → StaysSaved es r → StaysSaved es (truncated len r) }
-    ensures forgotten { (most bytes : ℕ) (es : List Entry) (r : Record) → StaysSaved es r
-        → StaysSaved (drop (length r.recorded - length (kept_within most bytes r.recorded)) es) (forgotten most bytes r) }
+    ensures marked { (r : Record) → SavedAt (changes_of r.recorded) (saved_here r) }
+    ensures saved { (cs : List Entry) (r : Record) → StaysSaved cs r → is_saved r ≡ true → changes_of r.recorded ≡ cs }
+    ensures text { (es : List Entry) (r : Record) (start : List ℕ) → StaysSaved (changes_of es) r → is_saved r ≡ true
+        → replay_entries r.recorded start ≡ replay_entries es start }
+    ensures back { (cs : List Entry) (r : Record) → SavedAt cs r → changes_of r.recorded ≡ cs → is_saved r ≡ true }
+    ensures event { (cs : List Entry) (r : Record) (event : Event) → StaysSaved cs r → StaysSaved cs (record_step r event) }
+    ensures parted { (cs : List Entry) (r : Record) → StaysSaved cs r → StaysSaved cs (parted r) }
+    ensures begun { (cs : List Entry) (r : Record) → StaysSaved cs r → StaysSaved cs (begun r) }
+    ensures closed { (cs : List Entry) (r : Record) (n : ℕ) → StaysSaved cs r → StaysSaved cs (with_closed n r) }
+    ensures reopened { (cs : List Entry) (r : Record) → StaysSaved cs r → StaysSaved cs (reopened r) }
+    ensures undone { (cs : List Entry) (r : Record) (n : ℕ) → StaysSaved cs r → StaysSaved cs (undone n r) }
+    ensures abandoned { (cs : List Entry) (r : Record) → StaysSaved cs r → StaysSaved cs (abandoned r) }
+    ensures redone { (cs : List Entry) (r : Record) → StaysSaved cs r → StaysSaved cs (redone r) }
+    ensures kept { (cs : List Entry) (r : Record) → StaysSaved cs r → StaysSaved cs (kept_undone r) }
+    ensures truncated { (cs : List Entry) (r : Record) (len : ℕ) → StaysSaved cs r → StaysSaved cs (truncated len r) }
+    ensures forgotten { (most bytes : ℕ) (cs : List Entry) (r : Record) → StaysSaved cs r
+        → StaysSaved (drop (change_count (gone_within most bytes r.recorded)) cs) (forgotten most bytes r) }
 {}
 
 /// After a part an event that records a change adds an entry of its own, whatever was recorded before: an undo of one unit

@@ -9,8 +9,7 @@ ghost use Rattle.rl_line.specs.Line.{Line, stepped};
 ghost use Rattle.rl_line.specs.Plan.{AreReplay, NeverRefuses, Step, StepOutcome, Taken, after, room_by_step};
 ghost use Rattle.rl_line.specs.Undo.{LineOutOfRoom, line_back, listener_back, texts_back};
 ghost use Rattle.rl_line.specs.Change.{entry_to_undo, entries_to_undo};
-ghost use Rattle.rl_line.specs.Record.{entry_of};
-ghost use Rattle.rl_line.specs.Units.{is_change};
+ghost use Rattle.rl_line.specs.Record.{entry_of, is_change};
 ghost use Rattle.rl_line.specs.Edits.{DeletesRange, replace_step};
 ghost use Rattle.rl_line.specs.LineRanges.{IsRange};
 

@@ -4,13 +4,13 @@ ghost use Rattle.std.specs.Prelude.{◌≡◌, ◌+◌, ◌^◌, ◌≤◌, ◌<
 ghost use Rattle.rl_base.specs.Event.{InsertChar, InsertStr, Delete, Replace, Cursors};
 ghost use Rattle.rl_base.specs.declared.listeners.Direction.TheVariants.{Forward};
 ghost use Rattle.rl_base.specs.declared.listeners.Refusal.TheVariants.{NoMemory};
-ghost use Rattle.rl_line.specs.Record.{Begin, IsOfKind, entry_of, freshness_at, is_saved, kept_point, no_changes, parted, record_step, saved_here, arrived};
-ghost use Rattle.rl_line.specs.Units.{adds_end, end_times, grouped_from, oldest_is_open, point_closed, still_waiting, truncated, with_closed, IsMatched, level, redo_of, there_and_back, units};
-ghost use Rattle.rl_line.specs.Entries.{added, cut_at};
+ghost use Rattle.rl_line.specs.Record.{Begin, IsApart, IsOfKind, change_count, entry_of, gone_on, is_saved, kept_point, no_changes, parted, record_step, saved_here, arrived};
+ghost use Rattle.rl_line.specs.Units.{adds_end, begun, end_times, grouped_from, oldest_is_open, still_waiting, truncated, with_closed, IsMatched, level, redo_of, there_and_back, units};
+ghost use Rattle.rl_line.specs.Entries.{cut_at, cut_to};
 ghost use Rattle.rl_line.specs.Forgetting.{fits, forgotten, kept_within, without_first};
 
 use crate::change::{Change, Freshness};
-use crate::entries::{Entries, point_past};
+use crate::entries::Entries;
 use crate::forgetting::{Tally, hold_at_most};
 use crate::units;
 use rl_base::Refusal;
@@ -28,11 +28,11 @@ pub(crate) struct Recent {
 
 impl Model for Recent {
     ghost use Rattle.rl_line.specs.Record.{Record};
-    ghost use Rattle.rl_line.specs.Forgetting.{FrontGone, without_first};
+    ghost use Rattle.rl_line.specs.Forgetting.{FrontGone, past_front};
 
     ghost Value = { Record };
 
-    ghost view = { λ r. without_first r.gone r.all };
+    ghost view = { λ r. past_front r.gone r.all };
 
     ghost invariant = { λ r. FrontGone r.gone r.tally r.all.recorded };
 }
@@ -45,7 +45,8 @@ impl Recent {
         Recent::whole(Entries::new(alloc))
     }
 
-    /// A list of entries, of which the first are recorded. None if it has fewer, or the save point is past them.
+    /// A list of entries, of which the first are recorded. None if it has fewer, if the save point is past them, or if they
+    /// stand there and are not parted.
     pub(crate) fn of(
         list: Vec<Change>,
         recorded: usize,
@@ -53,7 +54,7 @@ impl Recent {
         saved: Option<usize>,
     ) -> Option<Self>
         ensures some { IfSome result (λ entries. entries ≡ cut_at recorded (map entry_of list.items) fresh saved) }
-        ensures none { result ≡ None → recorded ≤ length list.items → ¬ (kept_point (length list.items) saved ≡ saved) }
+        ensures none { result ≡ None → recorded ≤ length list.items → ¬ ((kept_point (change_count (map entry_of list.items)) saved ≡ saved) × IsApart (cut_at recorded (map entry_of list.items) fresh saved)) }
     {
         Some(Recent::whole(Entries::of(list, recorded, fresh, saved)?))
     }
@@ -86,18 +87,26 @@ impl Recent {
         self.all.len() - self.gone
     }
 
+    /// How many changes are recorded.
+    pub(crate) fn changes(&self) -> usize
+        ensures { result ≡ change_count self.now.recorded }
+    {
+        self.all.changes()
+    }
+
     pub(crate) fn fresh(&self) -> Freshness
         ensures { result ≡ self.now.fresh }
     {
         self.all.fresh()
     }
 
-    /// After how many entries the text was saved.
+    /// After how many changes the text was saved.
     pub(crate) fn saved(&self) -> Option<usize>
         ensures saved { result ≡ self.now.saved }
-        ensures within { kept_point (length (self.now.recorded ++ self.now.pending)) self.now.saved ≡ self.now.saved }
+        ensures within { kept_point (change_count (self.now.recorded ++ self.now.pending)) self.now.saved ≡ self.now.saved }
+        ensures apart { IsApart self.now }
     {
-        point_past(self.all.saved(), self.gone)
+        self.all.saved()
     }
 
     /// Those that are recorded, and after them those that wait to be redone.
@@ -172,7 +181,7 @@ impl Recent {
     }
 
     pub(crate) fn go_on(&mut self, fresh: Freshness)
-        ensures { self.new ≡ record self.old { fresh = fresh } }
+        ensures { self.new ≡ gone_on fresh self.old }
     {
         self.all.go_on(fresh);
     }
@@ -180,7 +189,7 @@ impl Recent {
     pub(crate) fn group_from(&mut self, from: usize) -> Result<(), Refusal>
         requires within { from ≤ length self.old.recorded }
         requires all { self.old.pending ≡ [] }
-        ensures done { OnOk result (self.new ≡ arrived (grouped_from from self.old.recorded) [] (kept_point from self.old.saved)) }
+        ensures done { OnOk result (self.new ≡ arrived (grouped_from from self.old.recorded) [] self.old.saved) }
         ensures err { IfErr result (λ r. (r ≡ NoMemory) × (self.new ≡ self.old)) }
     {
         // So the proof knows how long the list can be.
@@ -221,12 +230,12 @@ impl Recent {
     }
 
     #[inline(always)]
-    pub(crate) fn add(&mut self, entry: Change, fresh: Freshness) -> Result<(), Refusal>
-        ensures done { OnOk result (self.new ≡ added (entry_of entry) fresh self.old) }
+    pub(crate) fn begin(&mut self) -> Result<(), Refusal>
+        ensures done { OnOk result (self.new ≡ begun self.old) }
         ensures err { IfErr result (λ r. (r ≡ NoMemory) × (self.new ≡ self.old)) }
         ensures full { OnErr result (self.old.pending ≡ []) }
     {
-        self.all.add(entry, fresh)?;
+        self.all.begin()?;
         Ok(())
     }
 
@@ -245,7 +254,7 @@ impl Recent {
     pub(crate) fn keep_undone(&mut self, groups: usize) -> Result<(), Refusal>
         requires matched { IsMatched self.old.pending }
         requires level { groups ≡ level self.old.pending }
-        ensures done { OnOk result (self.new ≡ parted (arrived (self.old.recorded ++ there_and_back self.old.pending) [] (point_closed groups (self.old.recorded ++ self.old.pending) self.old.saved))) }
+        ensures done { OnOk result (self.new ≡ parted (arrived (self.old.recorded ++ there_and_back self.old.pending) [] self.old.saved)) }
         ensures err { IfErr result (λ r. (r ≡ NoMemory) × (self.new ≡ self.old)) }
     {
         self.all.keep_undone(groups)?;
@@ -253,21 +262,22 @@ impl Recent {
     }
 
     #[inline(always)]
-    pub(crate) fn cut(&mut self, recorded: usize)
-        requires { recorded ≤ length self.old.recorded + length self.old.pending }
-        ensures { self.new ≡ cut_at recorded (self.old.recorded ++ self.old.pending) (freshness_at recorded self.old.saved) self.old.saved }
+    pub(crate) fn cut(&mut self, recorded: usize, changes: usize)
+        requires within { recorded ≤ length self.old.recorded + length self.old.pending }
+        requires counted { changes ≡ change_count (take recorded (self.old.recorded ++ self.old.pending)) }
+        ensures { self.new ≡ cut_to recorded (self.old.recorded ++ self.old.pending) self.old.saved }
     {
         // As above.
         let _all = self.all.len();
         let recorded = self.gone + recorded;
         if self.tally.is_below(recorded) {
-            self.all.cut(recorded);
+            self.all.cut(recorded, changes);
             return;
         }
         self.tally = self
             .tally
             .within(self.all.recorded(), recorded.saturating_sub(1));
-        self.all.cut(recorded);
+        self.all.cut(recorded, changes);
     }
 
     pub(crate) fn truncate(&mut self, len: usize)

@@ -316,8 +316,9 @@ fn a_record_comes_back_to_its_save(rt: HostRuntime) -> Result<(), Fail> {
     const GROUPS: &[Step] = &[
         (Call::Insert('a', 1), 1, "a", 1, 1, 0),
         (Call::SetSaved, 1, "a", 1, 1, 0),
+        // marks of groups leave it
         (Call::Begin, 1, "a", 1, 2, 1),
-        (Call::IsSaved, 0, "a", 1, 2, 1),
+        (Call::IsSaved, 1, "a", 1, 2, 1),
         (Call::End, 0, "a", 1, 1, 0),
         (Call::IsSaved, 1, "a", 1, 1, 0),
         (Call::Insert('b', 1), 1, "ab", 2, 2, 0),
@@ -327,27 +328,37 @@ fn a_record_comes_back_to_its_save(rt: HostRuntime) -> Result<(), Fail> {
         (Call::SetSaved, 1, "a", 1, 2, 1),
         (Call::IsSaved, 1, "a", 1, 2, 1),
         (Call::End, 0, "a", 1, 1, 0),
-        (Call::IsSaved, 0, "a", 1, 1, 0),
+        (Call::IsSaved, 1, "a", 1, 1, 0),
         // an end comes in its place
         (Call::Begin, 1, "a", 1, 2, 1),
         (Call::Insert('b', 1), 1, "ab", 2, 3, 1),
         (Call::Begin, 3, "ab", 2, 4, 2),
         (Call::SetSaved, 1, "ab", 2, 4, 2),
         (Call::End, 1, "ab", 2, 4, 0),
-        (Call::IsSaved, 0, "ab", 2, 4, 0),
+        (Call::IsSaved, 1, "ab", 2, 4, 0),
         (Call::SetSaved, 1, "ab", 2, 4, 0),
         (Call::Insert('c', 1), 1, "abc", 3, 5, 0),
         (Call::Back(1), 1, "ab", 2, 6, 0),
         (Call::Truncate(4), 1, "ab", 2, 4, 0),
         (Call::IsSaved, 1, "ab", 2, 4, 0),
         (Call::Reopen, 1, "ab", 2, 3, 1),
+        (Call::IsSaved, 1, "ab", 2, 3, 1),
+        // a letter does not join what was saved
+        (Call::Insert('c', 1), 1, "abc", 3, 4, 1),
+        (Call::Undo(1), 1, "ab", 2, 3, 1),
         (Call::EndOne, 1, "ab", 2, 4, 0),
-        (Call::IsSaved, 0, "ab", 2, 4, 0),
-        // a save in a group goes with it
+        (Call::IsSaved, 1, "ab", 2, 4, 0),
+        // a save in an empty group stays
         (Call::Begin, 4, "ab", 2, 5, 1),
         (Call::SetSaved, 1, "ab", 2, 5, 1),
         (Call::Abandon, 1, "ab", 2, 4, 0),
-        (Call::Insert('c', 1), 1, "abc", 3, 5, 0),
+        (Call::IsSaved, 1, "ab", 2, 4, 0),
+        // one after a change in a group goes with it
+        (Call::Begin, 4, "ab", 2, 5, 1),
+        (Call::Yank("c"), 1, "abc", 3, 6, 1),
+        (Call::SetSaved, 1, "abc", 3, 6, 1),
+        (Call::Abandon, 1, "ab", 2, 4, 0),
+        (Call::Yank("c"), 1, "abc", 3, 5, 0),
         (Call::IsSaved, 0, "abc", 3, 5, 0),
     ];
     goes(&rt, rt.alloc(), "", GROUPS)
@@ -386,6 +397,7 @@ fn undos_come_to_a_save_that_was_undone(rt: HostRuntime) -> Result<(), Fail> {
         (Call::SetSaved, 1, "ab", 2, 4, 2),
         (Call::Undo(1), 0, "ab", 2, 3, 1),
         (Call::KeepUndone, 1, "ab", 2, 3, 1),
+        (Call::IsSaved, 1, "ab", 2, 3, 1),
         (Call::Yank("c"), 1, "abc", 3, 4, 1),
         (Call::IsSaved, 0, "abc", 3, 4, 1),
     ];

@@ -100,10 +100,10 @@ pub fn undo_gives_back_the_cursor()
 {}
 
 /// Once a text was saved (`Session::set_saved`), a run that ends with a record which says so ends with that text, whatever
-/// was done on the way. No command leaves a save point with other entries before it.
+/// was done on the way. No command leaves a save point with other changes before it.
 pub fn a_saved_text_comes_back()
-    ensures stays { (es : List Entry) (old new : State) (commands : List Command) (replies : List Reply)
-        → Run old commands replies new → StaysSaved es old.pair.changes → StaysSaved es new.pair.changes }
+    ensures stays { (cs : List Entry) (old new : State) (commands : List Command) (replies : List Reply)
+        → Run old commands replies new → StaysSaved cs old.pair.changes → StaysSaved cs new.pair.changes }
     ensures text { (start : List ℕ) (held : List (List ℕ)) (old new : State) (commands : List Command) (replies : List Reply)
         → Holds start held old → Run (saved_now old) commands replies new → is_saved new.pair.changes ≡ true
         → new.line.text ≡ old.line.text }

@@ -94,8 +94,7 @@ pub fn an_empty_group_leaves_what_waits()
 {}
 
 /// Once a text was saved (`Session::set_saved`), performed commands that end with a record which says so end with that
-/// text, whatever was done on the way, also if a mark came or went among the entries before the save point.
-/// Condition: the session has no bound.
+/// text, whatever was done on the way. Condition: the session has no bound.
 pub fn a_saved_text_comes_back()
     ensures { (start : List ℕ) (held : List (List ℕ)) (old new : State) (calls : Calls (saved_now old) new)
         → Holds start held old → old.options.bound ≡ no_bound → is_saved new.pair.changes ≡ true

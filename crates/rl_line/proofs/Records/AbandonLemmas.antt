@@ -1,8 +1,8 @@
 -- Taking back the group that was opened last: what it makes of a record, and what stands after it.
-use Rattle.rl_line.proofs.Common.{◌≡◌, ◌⊎◌, inl, inr, ℕ, zero, suc, not, ne_eqb, max, arith, Bool, true, false, List, [], ◌∷◌, ◌++◌, length, take, drop, take-append-drop, Some, refl, sym, ap, subst, ◌∙◌, same_Some, cond, drop_at, append_assoc, IsUtf8, Line, Event, Entry, Begin, Record, UndoUnit, Open, Whole, IsMatched, StaysSaved, Abandoned, Undone, Walks, abandoned, has_change, in_group, is_open, kept_of, last_of, level, line_back, open_group, open_size, opens, point_kept, redo_dropped, redo_of, redone, size_to_open, together, undone, units, cond_both, IsSome, ◌<◌, ◌≤◌}
+use Rattle.rl_line.proofs.Common.{change_count, ◌≡◌, ◌⊎◌, inl, inr, ℕ, zero, suc, not, ne_eqb, max, arith, Bool, true, false, List, [], ◌∷◌, ◌++◌, length, take, drop, take-append-drop, Some, refl, sym, ap, subst, ◌∙◌, same_Some, cond, drop_at, append_assoc, IsUtf8, Line, Event, Entry, Begin, Record, UndoUnit, Open, Whole, IsMatched, StaysSaved, Abandoned, Undone, Walks, abandoned, has_change, in_group, is_open, kept_of, last_of, level, line_back, open_group, open_size, opens, point_kept, redo_dropped, redo_of, redone, size_to_open, together, undone, units, cond_both, IsSome, ◌<◌, ◌≤◌}
 use Rattle.rl_line.proofs.Records.EndLemmas.{within, level-group}
 use Rattle.rl_line.proofs.Records.OriginLemmas.{Kept, Kept-Undone}
-use Rattle.rl_line.proofs.Records.SavedLemmas.{arrived-stays, longer, saved-undone, settles-in, told-at}
+use Rattle.rl_line.proofs.Records.SavedLemmas.{saved-dropped, saved-undone, told-at}
 use Rattle.rl_line.proofs.Records.UnitLemmas.{cut_more-append, good_cuts, opens-append, together-append, together-units, units-append, AllGood, AllGood-right, IsMatched-append, IsMatched-front, IsMatched-together, units-good}
 use Rattle.rl_line.proofs.Records.WalkLemmas.{Walks-Undone}
 use Rattle.rl_line.proofs.Records.MatchLemmas.{redo-front}
@@ -72,7 +72,7 @@ abandoned-as r now old new a d = from (is_open r.recorded) d.line_is d.record_is
     from false l k = inl (k, sym (same_Some _ _ l))
 
 Walks-dropped : (r : Record) (text : List ℕ) → Walks r text → Walks (redo_dropped r) text
-Walks-dropped r text w = record { start = w.start; is_text = w.is_text; back = w.back; end = text; ahead = refl; stale = told-at (length r.recorded) (point_kept r) }
+Walks-dropped r text w = record { start = w.start; is_text = w.is_text; back = w.back; end = text; ahead = refl; stale = told-at (change_count r.recorded) (point_kept r) }
 
 pub Walks-Abandoned : (r now : Record) (old new : Line) (a : Bool) → Abandoned r now old new a → Walks r old.text → Walks now new.text
 Walks-Abandoned r now old new a d w = elim (abandoned-as r now old new a d) [
@@ -88,14 +88,11 @@ Kept-Abandoned r now old new a utf8 d = elim (abandoned-as r now old new a d) [
       subst (λ (k : Record). Kept r k old new) (sym k) (record { origin_is = kept.origin_is; utf8 = kept.utf8 })
 ]
 
-saved-dropped : (es : List Entry) (r : Record) → StaysSaved es r → StaysSaved es (redo_dropped r)
-saved-dropped es r s = arrived-stays es r.recorded [] (point_kept r) (longer es r.recorded [] (point_kept r) (settles-in es r s))
-
 pub saved-abandoned : (es : List Entry) (r : Record) → StaysSaved es r → StaysSaved es (abandoned r)
 saved-abandoned es r s = from (is_open r.recorded)
   where
     from : (x : Bool) → StaysSaved es (cond x (redo_dropped (undone (open_size r.recorded) r)) r)
-    from true = saved-dropped es (undone (open_size r.recorded) r) (saved-undone es r (open_size r.recorded) s)
+    from true = let back = undone (open_size r.recorded) r in saved-dropped es back.recorded back refl (saved-undone es r (open_size r.recorded) s)
     from false = s
 
 -- ---- where the line can go back

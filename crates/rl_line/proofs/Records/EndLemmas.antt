@@ -1,11 +1,11 @@
 -- The end of one group: it leaves one unit, or no trace. And whether the last unit, and the next one, holds a change.
-use Rattle.rl_line.proofs.Common.{common_steps, arrived, kept_point, point_kept, Option, length-append, cond_both, ends_in_end, reopened, with_closed, zero, ◌≤◌, ◌≡◌, ℕ, ◌+◌, suc, true, false, List, [], ◌∷◌, ◌++◌, length, ◌-◌, take, drop, map, min, refl, sym, ap, subst, ◌∙◌, inl, inr, arith, append_assoc, drop_at, reverse-reverse, max, not, ◌||◌, reverse, slice_get, Some, None, Event, Change, Entry, Begin, End, Changed, Record, entry_of, record_step, UndoUnit, Open, Whole, AtLevel, Hears, IsMatched, adds_end, after_in_group, begun, close, end_one, end_times, ended_one, ends_in_begin, has_change, in_group, is_begin, kept_of, last_of, level, opens, redo_from, redo_of, together, units}
+use Rattle.rl_line.proofs.Common.{change_count, common_steps, arrived, kept_point, point_kept, Option, length-append, cond_both, ends_in_end, reopened, with_closed, zero, ◌≤◌, ◌≡◌, ℕ, ◌+◌, suc, true, false, List, [], ◌∷◌, ◌++◌, length, ◌-◌, take, drop, map, min, refl, sym, ap, subst, ◌∙◌, inl, inr, arith, append_assoc, drop_at, reverse-reverse, max, not, ◌||◌, reverse, slice_get, Some, None, Event, Change, Entry, Begin, End, Changed, Record, entry_of, record_step, UndoUnit, Open, Whole, AtLevel, Hears, IsMatched, adds_end, after_in_group, begun, close, end_one, end_times, ended_one, ends_in_begin, has_change, in_group, is_begin, kept_of, last_of, level, opens, redo_from, redo_of, together, units}
 use Rattle.rl_line.proofs.Records.EntryLemmas.{last-split, none-last}
 use Rattle.rl_line.proofs.Records.LastLemmas.{but_last, end-added, EndsOne, end_one-begin, end_one-cases, end_one-past, ends-past}
 use Rattle.rl_line.proofs.Records.GroupLemmas.{Inside-steps, Settles-change, ends_in_begin-begin, has_change-append, touching}
 use Rattle.rl_line.proofs.Records.LevelLemmas.{AtLevel-step, level-append, level-begin}
 use Rattle.rl_line.proofs.Records.MatchLemmas.{IsMatched-begin, Lower-end_one}
-use Rattle.rl_line.proofs.Records.SavedLemmas.{kept-again}
+use Rattle.rl_line.proofs.Records.PointLemmas.{kept-again}
 use Rattle.rl_line.proofs.Records.UnitLemmas.{AllGood, AllGood-reverse, Gathers, Gathers-more, Gathers-nil, Settles-group, cut_more-append, last_of-change, on, opens-reverse, together-reverse, together-units, units-good}
 
 -- the entries of the units, the oldest unit first, are all
@@ -179,21 +179,16 @@ next-holds es m = from (reverse (units es)) refl
 pub ruleset holds = (last-entry-holds, next-holds, no-entry-holds)
 
 -- the end of a group that added an End is taken back
-abbrev marked : List Entry → Option ℕ → Record
-marked es point = arrived es [] (kept_point (length es) point)
-
-taken_up : (es : List Entry) (point : Option ℕ) → reopened (marked (es ++ End ∷ []) (kept_point (length es) point)) ≡ marked es point
+taken_up : (es : List Entry) (point : Option ℕ) → reopened (arrived (es ++ End ∷ []) [] (kept_point (change_count es) point)) ≡ arrived es [] (kept_point (change_count es) point)
 taken_up es point =
-    let long : length es ≤ length (es ++ End ∷ []) = omega (arith, length-append es (End ∷ [])) in
-    let same : kept_point (length es) (kept_point (length (es ++ End ∷ [])) (kept_point (length es) point)) ≡ kept_point (length es) point =
-    ap (kept_point (length es)) (kept-again (length es) (length (es ++ End ∷ [])) point long) ∙ kept-again (length es) (length es) point (omega arith) in
-    cond_both (ends_in_end (es ++ End ∷ [])) _ _ (λ k. k ≡ marked es point)
-    (λ h. ap (λ l. marked l (kept_point (length (es ++ End ∷ [])) (kept_point (length es) point))) (but_last es End) ∙ ap (arrived es []) same) (λ h. let e = end-added es in cc)
+    let n = change_count es in
+    cond_both (ends_in_end (es ++ End ∷ [])) _ _ (λ k. k ≡ arrived es [] (kept_point n point))
+    (λ h. ap (λ l. arrived l [] (kept_point (change_count l) (kept_point n point))) (but_last es End) ∙ ap (arrived es []) (kept-again n n point (omega arith))) (λ h. let e = end-added es in cc)
 
 pub reopened-end : (r : Record) → adds_end (min 1 (level r.recorded)) r.recorded ≡ true → reopened (ended_one r) ≡ arrived r.recorded [] (point_kept r)
 reopened-end r = by_level (min 1 (level r.recorded)) (omega arith)
   where
-    by_level : (n : ℕ) → n ≤ 1 → adds_end n r.recorded ≡ true → reopened (with_closed n r) ≡ marked r.recorded r.saved
+    by_level : (n : ℕ) → n ≤ 1 → adds_end n r.recorded ≡ true → reopened (with_closed n r) ≡ arrived r.recorded [] (point_kept r)
     by_level zero few h = cc
     by_level (suc zero) few h =
         elim (end_one-cases r.recorded) [
@@ -201,6 +196,6 @@ reopened-end r = by_level (min 1 (level r.recorded)) (omega arith)
               let off : ends_in_begin r.recorded ≡ true = ap ends_in_begin c.list_is ∙ ends_in_begin-begin c.front in
               let no : false ≡ true = sym (ap (λ b. not b || false) off) ∙ h in
               cc
-          | inr c ↦ ap (λ es. reopened (marked es (point_kept r))) c.after_is ∙ taken_up r.recorded r.saved
+          | inr c ↦ ap (λ es. reopened (arrived es [] (point_kept r))) c.after_is ∙ taken_up r.recorded r.saved
         ]
     by_level (suc (suc n)) few h = absurd (omega (arith, few))

@@ -1,5 +1,6 @@
 -- Forgetting the oldest units: which units go, and what is left.
-use Rattle.rl_line.proofs.Common.{common_steps, AtLevel, Begin, Bool, Change, Changed, End, Entry, add_entry, close, cut_more, oldest_is_open, without_first, Freshness, IsMatched, List, None, Open, Option, Record, SavedAt, Some, StaysSaved, UndoUnit, Walk, Walks, Whole, [], after, ap, append-nil, append_assoc, arith, bytes_held, cond, cut_at, drop, drop-map, drop-take, drop_at, entry_of, false, fits, forgotten, gone_within, inl, inr, is_within, kept_within, le-leb, leb, leb-true, length, length-append, length-drop, level, map, nat_le, opens, or-true, point_past, redo_from, redo_of, refl, remove_range, replay_entries, reverse, reverse-append, reverse-reverse, subst, sym, take, take-append-add, take_at, together, true, unbounded, units, units_kept, ℕ, ◌++◌, ◌+◌, ◌-◌, ◌<◌, ◌∙◌, ◌∷◌, ◌≡◌, ◌≤◌, ◌⊎◌}
+use Rattle.rl_line.proofs.Common.{common_steps, AtLevel, Begin, Bool, Change, Changed, End, Entry, add_entry, close, cut_more, oldest_is_open, without_first, Freshness, IsMatched, List, None, Open, Option, Record, SavedAt, Some, StaysSaved, UndoUnit, Walk, Walks, Whole, [], after, ap, append-nil, append_assoc, arith, bytes_held, cond, cut_at, drop, drop-map, drop-take, drop_at, entry_of, false, fits, forgotten, gone_within, inl, inr, is_within, kept_within, le-leb, leb, leb-true, length, length-append, length-drop, level, map, nat_le, opens, or-true, point_past, redo_from, redo_of, refl, remove_range, replay_entries, reverse, reverse-append, reverse-reverse, subst, sym, take, take-append-add, take_at, together, true, unbounded, units, units_kept, ℕ, ◌++◌, ◌+◌, ◌-◌, ◌<◌, ◌∙◌, ◌∷◌, ◌≡◌, ◌≤◌, ◌⊎◌, change_count, changes_of, past_front}
+use Rattle.rl_line.proofs.Records.PointLemmas.{changes-append, count-append, count-parts}
 use Rattle.rl_line.proofs.Records.FrontLemmas.{past-more, past-none}
 use Rattle.rl_line.proofs.Records.WalkLemmas.{Walk-IsUtf8, Walk-split}
 use Rattle.rl_line.proofs.Records.RecordLemmas.{replay-append, through}
@@ -141,15 +142,15 @@ removed-front n xs ys e = ap (map entry_of) e ∙ sym (drop-map entry_of n xs)
 
 -- where the record is cut then
 pub dropped-first : (n count : ℕ) (r : Record) (es now : List Entry) (fresh : Freshness) (saved : Option ℕ) → n ≤ length es → cut_at n es fresh saved ≡ r → count ≤ length r.recorded → now ≡ drop count es
-    → (n - count ≤ length now) × (cut_at (n - count) now fresh (point_past count saved) ≡ record r { recorded = drop count r.recorded; saved = point_past count r.saved })
+    → (n - count ≤ length now) × (cut_at (n - count) now fresh saved ≡ past_front count r)
 dropped-first n count r es now fresh saved within v few e = grind (arith, common_steps, drop-take)
 
 -- where all stays, so does the record
 pub forgotten-stays : (most bytes : ℕ) (r : Record) → kept_within most bytes r.recorded ≡ r.recorded → forgotten most bytes r ≡ r
 forgotten-stays most bytes r all =
     let none : length r.recorded - length (kept_within most bytes r.recorded) ≡ 0 = omega (arith, ap length all) in
-    ap (λ es. record r { recorded = es; saved = point_past (length r.recorded - length (kept_within most bytes r.recorded)) r.saved }) all
-    ∙ ap (λ p. record r { saved = p }) (ap (λ k. point_past k r.saved) none ∙ past-none r.saved)
+    ap (λ es. record r { recorded = es; saved = point_past (change_count (gone_within most bytes r.recorded)) r.saved }) all
+    ∙ ap (λ p. record r { saved = p }) (ap (λ k. point_past (change_count (take k r.recorded)) r.saved) none ∙ past-none r.saved)
 
 pub forgotten-fits : (most bytes : ℕ) (r : Record) → fits most bytes r.recorded ≡ true → forgotten most bytes r ≡ r
 forgotten-fits most bytes r h = forgotten-stays most bytes r (fitting-stay most bytes r.recorded h)
@@ -282,6 +283,9 @@ gone-is most bytes es =
 pub gone-kept : (most bytes : ℕ) (es : List Entry) → gone_within most bytes es ++ kept_within most bytes es ≡ es
 gone-kept most bytes es = ap (λ gone. gone ++ kept_within most bytes es) (gone-is most bytes es) ∙ went-list most bytes es
 
+count-gone : (most bytes : ℕ) (es : List Entry) → change_count es ≡ change_count (gone_within most bytes es) + change_count (kept_within most bytes es)
+count-gone most bytes es = ap change_count (sym (gone-kept most bytes es)) ∙ count-append (gone_within most bytes es) (kept_within most bytes es)
+
 -- the oldest unit goes, where it is whole and the entries do not fit
 pub record GoesFirst (most bytes n : ℕ) (r : Record) : Type 0 where
   pub within : n ≤ length r.recorded
@@ -298,13 +302,13 @@ goes-first most bytes n r m over some e none =
     let few : n ≤ length es = omega (arith, e, ap length d.list_is, length-append (redo_of es) (drop (length (redo_of es)) es)) in
     let kept : kept_within most bytes (drop n es) ≡ kept_within most bytes es =
     ap (kept_within most bytes) (sym rest) ∙ sym (whole-goes most bytes es over (oldest-whole es m (omega (arith, some, few)) none)) in
-    let left = ap length (gone-kept most bytes (drop n es)) in
-    let sum : n + (length (drop n es) - length (kept_within most bytes (drop n es))) ≡ length es - length (kept_within most bytes es) =
-    omega (arith, few, left, length-append (gone_within most bytes (drop n es)) (kept_within most bytes (drop n es)), length-drop n es, ap length kept) in
+    let gone = gone_within most bytes (drop n es) in
+    let sum : change_count (take n es) + change_count gone ≡ change_count (gone_within most bytes es) =
+    omega (arith, count-parts n es, ap change_count kept, count-gone most bytes es, count-gone most bytes (drop n es)) in
     record {
       within = few;
-      kept = ap (λ l. record r { recorded = l; saved = point_past (length (drop n es) - length (kept_within most bytes (drop n es))) (point_past n r.saved) }) kept
-          ∙ ap (λ p. record r { recorded = kept_within most bytes es; saved = p }) (past-more n (length (drop n es) - length (kept_within most bytes (drop n es))) r.saved ∙ ap (λ k. point_past k r.saved) sum);
+      kept = ap (λ l. record r { recorded = l; saved = point_past (change_count gone) (point_past (change_count (take n es)) r.saved) }) kept
+          ∙ ap (λ p. record r { recorded = kept_within most bytes es; saved = p }) (past-more (change_count (take n es)) (change_count gone) r.saved ∙ ap (λ k. point_past k r.saved) sum);
       matched = subst IsMatched rest d.rest_matched;
       level = sym (ap level (sym d.list_is) ∙ level-append (redo_of es) (drop (length (redo_of es)) es) d.rest_matched ∙ ap (λ l. level l + level (redo_of es)) rest ∙ ap (λ k. level (drop n es) + k) none ∙ plus (level (drop n es)));
     }
@@ -353,33 +357,35 @@ Walks-forgotten most bytes r text w =
     let (mid, first, after) = Walk-split gone kept w.start text (subst (λ es. Walk es w.start text) (sym (gone-kept most bytes r.recorded)) w.back) in
     record { start = mid; is_text = Walk-IsUtf8 gone w.start mid w.is_text first; back = after; end = w.end; ahead = w.ahead; stale = w.stale }
 
--- the save point goes with the entries before it
-pub saved-forgotten : (most bytes : ℕ) (es : List Entry) (r : Record) → StaysSaved es r
-    → StaysSaved (drop (length r.recorded - length (kept_within most bytes r.recorded)) es) (forgotten most bytes r)
-saved-forgotten most bytes es r s = elim s [ inl none ↦ inl (ap (point_past (length r.recorded - length kept)) none) | inr x ↦ from (nat_le (length r.recorded - length kept) (length es)) refl x ]
+-- the save point goes with the changes before it
+pub saved-forgotten : (most bytes : ℕ) (cs : List Entry) (r : Record) → StaysSaved cs r → StaysSaved (drop (change_count (gone_within most bytes r.recorded)) cs) (forgotten most bytes r)
+saved-forgotten most bytes cs r s = elim s [ inl none ↦ inl (ap (point_past k) none) | inr x ↦ from (nat_le k (length cs)) refl x ]
   where
+    gone : List Entry
+    gone = gone_within most bytes r.recorded
+
     kept : List Entry
     kept = kept_within most bytes r.recorded
 
-    from : (y : Bool) → nat_le (length r.recorded - length kept) (length es) ≡ y → SavedAt es r → StaysSaved (drop (length r.recorded - length kept) es) (forgotten most bytes r)
+    k : ℕ
+    k = change_count gone
+
+    from : (y : Bool) → nat_le k (length cs) ≡ y → SavedAt cs r → StaysSaved (drop k cs) (forgotten most bytes r)
     from true h x =
-        let gone = gone_within most bytes r.recorded in
-        let k = length r.recorded - length kept in
-        let n = length es - k in
-        let all : gone ++ kept ≡ r.recorded = gone-kept most bytes r.recorded in
-        let sum : length r.recorded ≡ length gone + length kept = sym (ap length all) ∙ length-append gone kept in
-        let long : length gone ≡ k = omega (arith, sum) in
-        let within = leb-true k (length es) h in
-        let whole : length gone + n ≡ length es = omega (arith, long, within) in
-        let begins : gone ++ take n (kept ++ r.pending) ≡ es = sym (take-append-add gone (kept ++ r.pending) n) ∙ ap (λ m. take m (gone ++ (kept ++ r.pending))) whole
-        ∙ ap (take (length es)) (sym (append_assoc gone kept r.pending) ∙ ap (λ l. l ++ r.pending) all) ∙ x.begins in
-        let left : length (drop k es) ≡ n = length-drop k es in
+        let n = length cs - k in
+        let sum : change_count r.recorded ≡ k + change_count kept = count-gone most bytes r.recorded in
+        let whole : k + n ≡ length cs = omega (arith, leb-true k (length cs) h) in
+        let parts : changes_of (r.recorded ++ r.pending) ≡ changes_of gone ++ changes_of (kept ++ r.pending) =
+        ap (λ l. changes_of (l ++ r.pending)) (sym (gone-kept most bytes r.recorded)) ∙ ap changes_of (append_assoc gone kept r.pending) ∙ changes-append gone (kept ++ r.pending) in
+        let begins : changes_of gone ++ take n (changes_of (kept ++ r.pending)) ≡ cs = sym (take-append-add (changes_of gone) (changes_of (kept ++ r.pending)) n)
+        ∙ ap (λ m. take m (changes_of gone ++ changes_of (kept ++ r.pending))) whole ∙ ap (take (length cs)) (sym parts) ∙ x.begins in
+        let left : length (drop k cs) ≡ n = length-drop k cs in
         inr (record {
           point = ap (point_past k) x.point ∙ ap (λ (y : Bool). cond y (Some n) None) h ∙ ap (λ m. Some m) (sym left);
-          begins = ap (λ m. take m (kept ++ r.pending)) left ∙ sym (drop_at gone (take n (kept ++ r.pending)) k long) ∙ ap (drop k) begins;
+          begins = ap (λ m. take m (changes_of (kept ++ r.pending))) left ∙ sym (drop_at (changes_of gone) (take n (changes_of (kept ++ r.pending))) k refl) ∙ ap (drop k) begins;
           apart = λ same. x.apart (omega (arith, same, left, whole, sum));
           told = λ few. x.told (omega (arith, few, left, whole, sum));
         })
-    from false h x = inl (ap (point_past (length r.recorded - length kept)) x.point ∙ ap (λ (y : Bool). cond y (Some (length es - (length r.recorded - length kept))) None) h)
+    from false h x = inl (ap (point_past k) x.point ∙ ap (λ (y : Bool). cond y (Some (length cs - k)) None) h)
 
 pub ruleset none_forgotten = (forgotten-same)

@@ -1,9 +1,10 @@
 -- The last recorded entry, where an event joins it and where it does not.
-use Rattle.rl_line.proofs.Common.{common_steps, Bool, if◌then◌else◌, true, ◌==◌, Added, Change, Changed, Cursors, Delete, Deletion, Direction, Entry, Event, Forward, Freshness, InsertChar, InsertStr, Insertion, Joined, Joins, List, Parted, None, Option, Record, Replace, Replacement, Some, Stale, Start, Stop, TakesIn, [], added, after, ap, append-nil, arith, cut_at, drop, drop-map, drop-set-lt, encode_utf8, entries_after, entries_told, entry_of, false, cursors_of, freshness_added, freshness_joined, freshness_of, freshness_told, get_or, kept_point, point_kept, is_parted, joined, joined_in, last_told, option_map_or, length, length-map, length-take, map, map-append, map-set_same, nil_from_length, refl, set, settled, subst, sym, take, take-map, take_at_read, take_more_set, untold, with_cursors, ℕ, ◌++◌, ◌+◌, ◌-◌, ◌<◌, ◌∙◌, ◌∷◌, ◌≡◌, ◌≤◌}
+use Rattle.rl_line.proofs.Common.{StandsAt, change_count, append_assoc, drop_all, take_all, length-append, common_steps, Bool, if◌then◌else◌, true, ◌==◌, Added, Change, Changed, Cursors, Delete, Deletion, Direction, Entry, Event, Forward, Freshness, InsertChar, InsertStr, Insertion, Joined, Joins, List, Parted, None, Option, Record, Replace, Replacement, Some, Stale, Start, Stop, TakesIn, [], added, after, ap, append-nil, arith, cut_at, drop, drop-map, drop-set-lt, encode_utf8, entries_after, entries_told, entry_of, false, cursors_of, freshness_added, freshness_joined, freshness_of, freshness_told, get_or, kept_point, point_kept, is_parted, joined, joined_in, last_told, option_map_or, length, length-map, length-take, map, map-append, map-set_same, nil_from_length, refl, set, settled, subst, sym, take, take-map, take_at_read, take_more_set, untold, with_cursors, ℕ, ◌++◌, ◌+◌, ◌-◌, ◌<◌, ◌∙◌, ◌∷◌, ◌≡◌, ◌≤◌}
 use Rattle.std.specs.Str.{chars}
 use Rattle.unicode_segmentation.specs.Segments.{cut, segments}
 use Rattle.rl_base.specs.Event.{apply}
 use Rattle.rl_line.specs.Record.{entries_of, record_step}
+use Rattle.rl_line.proofs.Records.PointLemmas.{count-last, joined-kind}
 use Rattle.rl_line.proofs.Records.LastLemmas.{ends_in, joined_in-as, joins_nothing, last_told-past, parted-apart, told-none}
 
 -- the entry that stands last among the first n of a list, and the list with another in its place
@@ -72,8 +73,9 @@ joins event r xs n fresh saved told x y step le v loose some is t =
     let l = LastOf-at xs n (n - 1) x y le some refl is in
     let was : r.recorded ≡ l.front ++ entry_of x ∷ [] = ap (λ (s : Record). s.recorded) (sym v) ∙ l.was in
     let ends = ends_in r.fresh event r.recorded l.front (entry_of x) (Some (entry_of y)) was (joined-as event r (map entry_of xs) n fresh saved (entry_of x) (Some (entry_of y)) v loose t.0) in
-    let same : length (take n (map entry_of (set xs (n - 1) y))) ≡ length r.recorded = grind (arith, common_steps, l.now, was) in
-    let point : point_kept (cut_at n (map entry_of (set xs (n - 1) y)) fresh saved) ≡ point_kept r = ap (λ k. kept_point k saved) same ∙ ap (λ (s : Record). kept_point (length r.recorded) s.saved) v in
+    let same : change_count (take n (map entry_of (set xs (n - 1) y))) ≡ change_count r.recorded =
+    ap change_count l.now ∙ count-last l.front (entry_of x) (entry_of y) (joined-kind event (entry_of x) (entry_of y) t.0) ∙ sym (ap change_count was) in
+    let point : point_kept (cut_at n (map entry_of (set xs (n - 1) y)) fresh saved) ≡ point_kept r = ap (λ k. kept_point k saved) same ∙ ap (λ (s : Record). kept_point (change_count r.recorded) s.saved) v in
     ap (λ p. record (settled told (cut_at n (map entry_of (set xs (n - 1) y)) fresh saved)) { saved = p }) point
     ∙ sym (heard-is event r (take n (map entry_of (set xs (n - 1) y))) told step (ends.0 ∙ sym l.now) (ends.1 ∙ sym t.1))
 
@@ -118,8 +120,18 @@ told-last r xs n before after first fresh saved x y le v some is e told stale = 
 
 -- an entry that is added, and none
 pub added-entry : (xs now : List Change) (n k : ℕ) (e : Change) (fresh : Freshness) (saved : Option ℕ) (told : Freshness) (r : Record) → n ≤ length xs → cut_at n (map entry_of xs) fresh saved ≡ r
-    → now ≡ take n xs ++ e ∷ [] → k ≡ n + 1 → (k ≤ length now) × (cut_at k (map entry_of now) told (kept_point n saved) ≡ added (entry_of e) told r)
+    → now ≡ take n xs ++ e ∷ [] → k ≡ n + 1 → (k ≤ length now) × (cut_at k (map entry_of now) told (kept_point (change_count r.recorded) saved) ≡ added (entry_of e) told r)
 added-entry xs now n k e fresh saved told r le v is at = grind (arith, common_steps, length-map, length-take, take-map)
+
+-- where nothing waits, the save point stays
+pub added-last : (xs now : List Change) (n k count : ℕ) (e : Change) (fresh : Freshness) (saved : Option ℕ) (told : Freshness) (r : Record) → n ≤ length xs → length xs ≤ n → cut_at n (map entry_of xs) fresh saved ≡ r
+    → StandsAt count r → now ≡ xs ++ e ∷ [] → k ≡ n + 1 → cut_at k (map entry_of now) told saved ≡ added (entry_of e) told r
+added-last xs now n k count e fresh saved told r le all v s is at =
+    let one : now ≡ take n xs ++ e ∷ [] = is ∙ ap (λ l. l ++ e ∷ []) (sym (take_all n xs all)) in
+    let none : r.pending ≡ [] = ap (λ (q : Record). q.pending) (sym v) ∙ drop_all n (map entry_of xs) (omega (arith, all, length-map xs entry_of)) in
+    let kept : saved ≡ kept_point (change_count r.recorded) saved =
+    ap (λ (q : Record). q.saved) v ∙ sym s.point ∙ ap (λ l. kept_point (change_count l) r.saved) (ap (λ ps. r.recorded ++ ps) none ∙ append-nil r.recorded) ∙ ap (λ (q : Record). kept_point (change_count r.recorded) q.saved) (sym v) in
+    ap (cut_at k (map entry_of now) told) kept ∙ (added-entry xs now n k e fresh saved told r le v one at).1
 
 -- ---- events that join nothing
 pub record_step-Start : (r : Record) → record_step r Start ≡ r

@@ -1,11 +1,12 @@
 -- The record that the code's list of entries stands for, and what an event, an undo and a redo make of it.
-use Rattle.rl_line.proofs.Common.{common_steps, IsMatched, Ahead, All, All-drop, All-map, All-take, Back, Bool, BothMatched, Change, Entry, Freshness, GoesOver, IsCharBoundary, IsOfKind, IsSome, Line, List, Option, Reaches, Record, Some, StandsStill, Way, [], ap, append_assoc, arith, arrived, count_over, cut_at, drop, drop-map, drop_at, entries_to_undo, entry_of, entry_to_undo, false, freshness_at, get_or, greatest_back_over, has_change, inverse, kept_of, last_of, length, length-append, length-map, line_ahead, line_back, line_over, map, min, moved, redo_of, refl, reverse, steps_back, steps_over, subst, sym, take, take-map, take_at, take_rest, texts_back, texts_over, unit_of, ℕ, ◌++◌, ◌+◌, ◌-◌, ◌<◌, ◌^◌, ◌∙◌, ◌∷◌, ◌≡◌, ◌≤◌}
+use Rattle.rl_line.proofs.Common.{common_steps, IsMatched, Ahead, All, All-drop, All-map, All-take, Back, Bool, BothMatched, Change, Entry, Freshness, GoesOver, IsCharBoundary, IsOfKind, IsSome, Line, List, Option, Reaches, Record, Some, StandsStill, Way, [], ap, append_assoc, arith, arrived, change_count, count_over, cut_at, cut_to, drop, drop-map, drop_at, entries_to_undo, entry_of, entry_to_undo, false, freshness_at, get_or, greatest_back_over, has_change, inverse, kept_of, last_of, length, length-append, length-map, line_ahead, line_back, line_over, map, min, moved, redo_of, refl, reverse, steps_back, steps_over, subst, sym, take, take-map, take_at, take_rest, texts_back, texts_over, unit_of, ℕ, ◌++◌, ◌+◌, ◌-◌, ◌<◌, ◌^◌, ◌∙◌, ◌∷◌, ◌≡◌, ◌≤◌}
 use Rattle.rl_line.specs.Change.{longest_over}
 use Rattle.rl_line.proofs.Records.RoomLemmas.{texts_ahead-back}
 use Rattle.rl_line.proofs.Records.HeardLemmas.{steps_ahead-back}
 use Rattle.rl_line.specs.declared.change.Change.TheVariants as made
 use Rattle.rl_line.proofs.Records.ChangeLemmas.{ahead-inverse}
 use Rattle.rl_line.proofs.Records.MatchLemmas.{Redoes-of, redo-front}
+use Rattle.rl_line.proofs.Records.PointLemmas.{count-append, count-within}
 use Rattle.rl_line.proofs.Records.RecordLemmas.{IsSome-through}
 use Rattle.rl_line.proofs.Records.UndoLemmas.{line_ahead-append, line_ahead-back, line_ahead-marks, line_back-marks, line_back-append, marks-ahead, marks-back}
 use Rattle.rl_line.proofs.Records.UnitLemmas.{kept-last}
@@ -48,15 +49,10 @@ next-part len xs m e =
     (few, sym (take-map entry_of len xs) ∙ ap (take len) (sym list) ∙ take_at (redo_of es) (drop (length (redo_of es)) es) len (sym e))
 
 -- ---- undo and redo: the list stays, and is cut at another place
--- the code's list, cut there
-abbrev pub cut_to : ℕ → List Entry → Option ℕ → Record
-cut_to n es saved = cut_at n es (freshness_at n saved) saved
-
 front-of : (n : ℕ) (xs ys : List Entry) (saved : Option ℕ) → n ≡ length xs → cut_to n (xs ++ ys) saved ≡ arrived xs ys saved
 front-of n xs ys saved e =
-    ap (λ es. record { recorded = es; pending = drop n (xs ++ ys); fresh = freshness_at n saved; saved = saved }) (take_at xs ys n (sym e))
-    ∙ ap (λ es. record { recorded = xs; pending = es; fresh = freshness_at n saved; saved = saved }) (drop_at xs ys n (sym e))
-    ∙ ap (λ k. record { recorded = xs; pending = ys; fresh = freshness_at k saved; saved = saved }) e
+    ap (λ es. record { recorded = es; pending = drop n (xs ++ ys); fresh = freshness_at (change_count es) saved; saved = saved }) (take_at xs ys n (sym e))
+    ∙ ap (λ es. record { recorded = xs; pending = es; fresh = freshness_at (change_count xs) saved; saved = saved }) (drop_at xs ys n (sym e))
 
 pub moved-cut : (way : Way) (n count : ℕ) (r : Record) → BothMatched r → count ≡ length (unit_of way n r)
     → cut_to (count_over way (length r.recorded) count) (r.recorded ++ r.pending) r.saved ≡ moved way n r
@@ -87,6 +83,29 @@ pub unit-reaches : (way : Way) (n count : ℕ) (r : Record) → BothMatched r �
     → Reaches way (length r.recorded) count
 unit-reaches Back n count r m small e = omega (arith, e, ap length (kept-last n r.recorded), length-append (kept_of n r.recorded) (last_of n r.recorded))
 unit-reaches Ahead n count r m small e = omega (arith, unit-within Ahead n count r m e)
+
+-- the same of how many of them are changes
+counted-over : (way : Way) (n changes : ℕ) (r : Record) → changes ≡ change_count (unit_of way n r) → count_over way (change_count r.recorded) changes ≡ change_count (moved way n r).recorded
+counted-over Back n changes r e = omega (arith, e, ap change_count (kept-last n r.recorded), count-append (kept_of n r.recorded) (last_of n r.recorded))
+counted-over Ahead n changes r e = omega (arith, e, count-append r.recorded (redo_of r.pending))
+
+pub changes-over : (way : Way) (n len count recorded total changes sum : ℕ) (was r : Record) → was ≡ r → BothMatched was → len ≡ length was.recorded → count ≡ length (unit_of way n r)
+    → recorded ≡ count_over way len count → total ≡ change_count was.recorded → changes ≡ change_count (unit_of way n r) → sum ≡ count_over way total changes
+    → sum ≡ change_count (take recorded (was.recorded ++ was.pending))
+changes-over way n len count recorded total changes sum was r v m l e f t c s =
+    s ∙ ap (λ k. count_over way k changes) (t ∙ ap (λ (q : Record). change_count q.recorded) v) ∙ counted-over way n changes r c
+    ∙ ap (λ (q : Record). change_count q.recorded) (sym (moved-at way n len count recorded was r (cut_to recorded (was.recorded ++ was.pending) was.saved) v m l e f refl))
+
+pub changes-reach : (way : Way) (n total changes : ℕ) (was r : Record) → was ≡ r → BothMatched was → length was.recorded + length was.pending < 2 ^ 63 → total ≡ change_count was.recorded
+    → changes ≡ change_count (unit_of way n r) → Reaches way total changes
+changes-reach way n total changes was r v =
+    subst (λ (q : Record). BothMatched q → length q.recorded + length q.pending < 2 ^ 63 → total ≡ change_count q.recorded → changes ≡ change_count (unit_of way n r) → Reaches way total changes) (sym v)
+    (λ m small t c. reach way m small t c)
+  where
+    reach : (way : Way) → BothMatched r → length r.recorded + length r.pending < 2 ^ 63 → total ≡ change_count r.recorded → changes ≡ change_count (unit_of way n r) → Reaches way total changes
+    reach Back m small t c = omega (arith, t, c, ap change_count (kept-last n r.recorded), count-append (kept_of n r.recorded) (last_of n r.recorded))
+    reach Ahead m small t c =
+        omega (arith, t, c, small, count-within r.recorded, count-within (redo_of r.pending), unit-within Ahead n (length (redo_of r.pending)) r m refl)
 
 pub GoesOver-of : (way : Way) (n : ℕ) (old new : Record) (line line' : Line) (answer : Bool) → line_over way (unit_of way n old) line ≡ Some line' → new ≡ moved way n old
     → answer ≡ has_change (unit_of way n old) → GoesOver way n old new line line' answer

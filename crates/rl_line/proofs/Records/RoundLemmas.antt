@@ -1,12 +1,12 @@
 -- Going over what was undone there and back: it ends where it began, and undos lead where redos led. And what each call keeps
 -- that touches no line.
-use Rattle.rl_line.proofs.Common.{end_times, ends_in_end, min, ◌≡◌, ◌≤◌, ℕ, max, arith, Bool, true, List, [], ◌∷◌, ◌++◌, length, take, drop, map, reverse, Option, Some, refl, sym, ap, subst, ◌∙◌, cond_both, append-nil, append_assoc, reverse-append, take-append-le, length-reverse, option_and_then, IsSome, IsUtf8, Entry, Begin, End, Changed, Record, UndoUnit, Open, Whole, AtLevel, BothMatched, IsMatched, StaysSaved, Walk, Walks, LeadsTo, arrived, closed_all, cursor_stands, cut_more, event_of, flipped, inverse, kept_of, kept_undone, last_of, level, marks, opens, point_closed, replay_entries, there_and_back, together, touched, turned_all, units, unwind, waits, None, cond, drop_at, length-map, next_of, take-append-drop, take-map, ◌<◌}
+use Rattle.rl_line.proofs.Common.{end_times, ends_in_end, min, ◌≡◌, ◌≤◌, ℕ, max, arith, Bool, true, List, [], ◌∷◌, ◌++◌, length, take, drop, map, reverse, Option, Some, refl, sym, ap, subst, ◌∙◌, cond_both, append-nil, append_assoc, reverse-append, take-append-le, length-reverse, option_and_then, IsSome, IsUtf8, Entry, Begin, End, Changed, Record, UndoUnit, Open, Whole, AtLevel, BothMatched, IsMatched, StaysSaved, Walk, Walks, LeadsTo, arrived, closed_all, cursor_stands, cut_more, event_of, flipped, inverse, kept_of, kept_undone, last_of, level, marks, opens, replay_entries, there_and_back, together, touched, turned_all, units, unwind, waits, None, cond, drop_at, length-map, next_of, take-append-drop, take-map, ◌<◌}
 use Rattle.rl_base.specs.Event.{apply}
 use Rattle.rl_line.proofs.Records.LastLemmas.{end_times-keeps, map-reverse}
 use Rattle.rl_line.proofs.Records.LevelLemmas.{level-append}
 use Rattle.rl_line.proofs.Records.MatchLemmas.{Lower-end_times}
 use Rattle.rl_line.proofs.Records.RecordLemmas.{inverse-inverse, inverse-undoes, unwind-append, unwind-replay, value_of, replay-append, replay-unwind}
-use Rattle.rl_line.proofs.Records.SavedLemmas.{StaysIn, arrived-stays, closed-in, longer, stays-in, saved-begun, saved-closed, saved-parted, saved-reopened, saved-truncated}
+use Rattle.rl_line.proofs.Records.SavedLemmas.{saved-begun, saved-closed, saved-parted, saved-reopened, saved-there_and_back, saved-truncated}
 use Rattle.rl_line.proofs.Records.UnitLemmas.{AllGood, IsMatched-append, cut_more-append, marks-append, on, together-reverse, together-units, turned-append, units-append, units-good, opens-append, opens-reverse}
 use Rattle.rl_line.proofs.Records.WalkLemmas.{Walk-append, Walk-end_one, Walk-IsUtf8}
 use Rattle.rl_base.proofs.Texts.SwapLemmas.{apply-IsUtf8}
@@ -81,7 +81,7 @@ level-round es m =
 
 -- the record that goes there and back
 abbrev pub round : Record → Record
-round r = parted (arrived (r.recorded ++ there_and_back r.pending) [] (point_closed (level r.pending) (r.recorded ++ r.pending) r.saved))
+round r = parted (arrived (r.recorded ++ there_and_back r.pending) [] r.saved)
 
 pub BothMatched-round : (r : Record) → BothMatched r → BothMatched (round r)
 BothMatched-round r b = record { recorded = IsMatched-append r.recorded (there_and_back r.pending) b.recorded (IsMatched-round r.pending b.pending); pending = refl }
@@ -215,15 +215,8 @@ replays-round es text u h =
     replay-append c (turned_all c) text ∙ ap (option_and_then (replay_entries (turned_all c))) there
     ∙ replay-unwind (turned_all c) text end u (unwind-turned c text ∙ there)
 
-pub saved-kept : (es : List Entry) (r : Record) → IsMatched r.pending → StaysSaved es r → StaysSaved es (kept_undone r)
-saved-kept es r m s =
-    let c = closed_all r.pending in
-    let point = point_closed (level r.pending) (r.recorded ++ r.pending) r.saved in
-    let closed : StaysIn es (r.recorded ++ c) point =
-    subst (λ l. StaysIn es l point) (ends_past (level r.pending) r.recorded r.pending m refl) (closed-in es (level r.pending) (r.recorded ++ r.pending) r.saved (stays-in es r s)) in
-    let all : StaysIn es (r.recorded ++ there_and_back r.pending) point = subst (λ l. StaysIn es l point) (append_assoc r.recorded c (turned_all c)) (longer es (r.recorded ++ c) (turned_all c) point closed) in
-    let here = arrived-stays es (r.recorded ++ there_and_back r.pending) [] point (longer es (r.recorded ++ there_and_back r.pending) [] point all) in
-    kept-either (StaysSaved es) r s (saved-parted es (arrived (r.recorded ++ there_and_back r.pending) [] point) here)
+pub saved-kept : (es : List Entry) (r : Record) → StaysSaved es r → StaysSaved es (kept_undone r)
+saved-kept es r s = kept-either (StaysSaved es) r s (saved-parted es (arrived (r.recorded ++ there_and_back r.pending) [] r.saved) (saved-there_and_back es r s))
 
 pub Inside-kept : (front : List Entry) (r : Record) → IsMatched r.pending → Inside front r → Inside front (kept_undone r)
 Inside-kept front r m k = kept-either (Inside front) r k (record {
@@ -255,5 +248,5 @@ saved-call es puts_begin r text m s = saved-begun es r s
 saved-call es puts_ends r text m s = saved-closed es r (level r.recorded) s
 saved-call es puts_end r text m s = saved-closed es r (min 1 (level r.recorded)) s
 saved-call es reopens r text m s = saved-reopened es r s
-saved-call es keeps_undone r text m s = saved-kept es r m.0 s
+saved-call es keeps_undone r text m s = saved-kept es r s
 saved-call es (shortens len) r text m s = saved-truncated es r len s

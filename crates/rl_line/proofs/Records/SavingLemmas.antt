@@ -1,11 +1,11 @@
 -- Entries and records as bytes.
-use Rattle.rl_line.proofs.Common.{◌≡◌, ◌<◌, ◌+◌, ◌-◌, ◌^◌, ◌∙◌, ◌++◌, [], ℕ, List, arith, length-append, min, take, ap, ap₂, get_or, get_or-map, length-map, map, subst, sym, drop_at, length, refl, take_at, IsUtf8, Change, Entry, Begin, End, Changed, Record, Option, None, Some, IfOk, IfSome, cut_at, entry_of, inverse}
+use Rattle.rl_line.proofs.Common.{◌≡◌, ◌<◌, ◌+◌, ◌-◌, ◌^◌, ◌∙◌, ◌++◌, [], ℕ, List, arith, length-append, min, take, ap, ap₂, get_or, get_or-map, length-map, map, subst, sym, drop_at, length, refl, take_at, IsUtf8, Change, Entry, Begin, End, Changed, Record, Option, None, Some, IfOk, IfSome, cut_at, entry_of, inverse, Freshness, IsApart, change_count, kept_point}
 use Rattle.std.specs.Option.{ok_or}
 use Rattle.rl_base.specs.Saving.{numbers}
 use Rattle.rl_base.specs.declared.saving.Width.TheVariants.{Eight, Four}
 use Rattle.rl_base.proofs.Texts.SavingLemmas.{length-numbers, put-more}
 use Rattle.rl_line.specs.Record.{new_text, old_text}
-use Rattle.rl_line.specs.SavedRecord.{FitsEntry, IsSavedEntry, entry_numbers, record_numbers, saved_entries, saved_entry, saved_record}
+use Rattle.rl_line.specs.SavedRecord.{IsSavedRecord, FitsEntry, IsSavedEntry, entry_numbers, record_numbers, saved_entries, saved_entry, saved_record}
 use Rattle.rl_line.proofs.Records.MoveLemmas.{of_kind}
 
 -- what goes when an entry is taken back came with it
@@ -56,6 +56,15 @@ record-length r entries len were is =
 pub cut-here : (r : Record) → cut_at (length r.recorded) (r.recorded ++ r.pending) r.fresh r.saved ≡ r
 cut-here r =
     ap₂ (λ xs ys. record { recorded = xs; pending = ys; fresh = r.fresh; saved = r.saved }) (take_at r.recorded r.pending (length r.recorded) refl) (drop_at r.recorded r.pending (length r.recorded) refl)
+
+-- it stands where a record that can be read again may
+pub cut-stands : (r : Record) (n : ℕ) (es : List Entry) (fresh : Freshness) (saved : Option ℕ) → IsSavedRecord r → es ≡ r.recorded ++ r.pending → n ≡ length r.recorded → fresh ≡ r.fresh → saved ≡ r.saved
+    → (kept_point (change_count es) saved ≡ saved) × IsApart (cut_at n es fresh saved)
+cut-stands r n es fresh saved s e long f p =
+    let is : cut_at n es fresh saved ≡ r =
+    ap (λ k. cut_at k es fresh saved) long ∙ ap (λ l. cut_at (length r.recorded) l fresh saved) e ∙ ap (λ x. cut_at (length r.recorded) (r.recorded ++ r.pending) x saved) f
+    ∙ ap (cut_at (length r.recorded) (r.recorded ++ r.pending) r.fresh) p ∙ cut-here r in
+    (ap (λ l. kept_point (change_count l) saved) e ∙ ap (kept_point (change_count (r.recorded ++ r.pending))) p ∙ s.point ∙ sym p, subst IsApart (sym is) s.apart)
 
 pub ruleset records = (cut-here)
 

@@ -1,12 +1,12 @@
 -- What is counted of recorded entries, the bytes that they hold and an open group in front of them, and what keeps it.
-use Rattle.rl_line.proofs.Common.{take_at_read, All, All-drop, Begin, Change, Counts, Cursors, Delete, Direction, InsertChar, InsertStr, IsOfKind, Replace, added, adds_end, arrived, cut_at, freshness_at, is_saved, kept_point, parted, point_closed, saved_here, there_and_back, truncated, with_closed, End, Entry, Event, Freshness, FrontGone, List, Option, IsMatched, Added, Joined, Parted, Stale, ◌||◌, ◌&&◌, inl, inr, cases_lt, deep, Changed, drop_all, drop-append-le, or-true, with_cursors, Record, [], ap, arith, bytes_held, drop, drop-set-lt, drop-take, end_one, end_times, entries_after, entries_of, entries_told, entry_of, false, fits, get_or, is_within, last_told, le-leb, length, length-append, length-drop, length-map, length-take, length-take-le, level, lt-leb, map, min, nat_le, new_text, old_text, oldest_is_open, point_past, record_step, refl, replicate, set, subst, suc, sym, take, take-append-drop, take-append-le, take-map, take-take, take_all, take_more_set, true, unbounded, units, without_first, zero, ℕ, ◌++◌, ◌+◌, ◌-◌, ◌<◌, ◌^◌, ◌∙◌, ◌∷◌, ◌≡◌, ◌≤◌}
+use Rattle.rl_line.proofs.Common.{take_at_read, All, All-drop, Begin, Change, Counts, Cursors, Delete, Direction, InsertChar, InsertStr, IsOfKind, Replace, adds_end, arrived, cut_at, is_saved, kept_point, parted, saved_here, there_and_back, truncated, with_closed, End, Entry, Event, Freshness, FrontGone, List, Option, IsMatched, Added, Joined, Parted, Stale, ◌||◌, ◌&&◌, inl, inr, cases_lt, deep, Changed, drop_all, drop-append-le, or-true, with_cursors, Record, [], ap, arith, bytes_held, drop, drop-set-lt, drop-take, end_one, end_times, entries_after, entries_of, entries_told, entry_of, false, fits, get_or, is_within, last_told, le-leb, length, length-append, length-drop, length-map, length-take, length-take-le, level, lt-leb, map, min, nat_le, new_text, old_text, oldest_is_open, point_past, record_step, refl, replicate, set, subst, suc, sym, take, take-append-drop, take-append-le, take-map, take-take, take_all, take_more_set, true, unbounded, units, without_first, zero, ℕ, ◌++◌, ◌+◌, ◌-◌, ◌<◌, ◌^◌, ◌∙◌, ◌∷◌, ◌≡◌, ◌≤◌, IsApart, begun, blanked, change_count, cut_to, gone_on, past_front}
 use Rattle.std.proofs.lemmas.List.{get_or-map, get_or-take, length-set, map-set, replicate_more, take-replicate, take-set-le}
 use Rattle.std.proofs.Math.Seq.{take-set-lt}
 use Rattle.rl_line.specs.Units.{grouped_from, still_waiting}
 use Rattle.rl_line.specs.declared.change.Change.TheVariants as made
 use Rattle.rl_line.specs.declared.forgetting.Tally.{Tally}
 use Rattle.rl_line.proofs.Records.ForgettingLemmas.{open-front, open-on}
-use Rattle.rl_line.proofs.Records.FrontLemmas.{Cursors-front, Delete-front, Ends, Ends-within, Fronted, InsertChar-front, InsertStr-front, Replace-front, added-front, adds-front, cut-front, dropped-front, first-more, grouped-front, kept-undone-front, none-first, opened-front, point-within, rest-part, saved-front, set-saved-front, truncated-all, truncated-front, with_closed-front}
+use Rattle.rl_line.proofs.Records.FrontLemmas.{Cursors-front, Delete-front, Ends, Ends-within, Fronted, InsertChar-front, InsertStr-front, Replace-front, adds-front, cut-front, dropped-front, first-more, grouped-front, kept-undone-front, none-first, opened-front, point-within, rest-part, saved-front, set-saved-front, truncated-all, truncated-front, with_closed-front, apart-front, begun-front, count-front, cut-count, gone-on-front, past-none}
 use Rattle.rl_line.proofs.Records.JoinLemmas.{heard, step-Cursors, step-Delete, step-InsertChar, step-InsertStr, step-Replace}
 use Rattle.rl_line.proofs.Records.LastLemmas.{after-cases, but_last, by_last, end_one-cases, last_told-past, read-last}
 use Rattle.rl_line.proofs.Records.LevelLemmas.{front-matched, level-within}
@@ -216,16 +216,16 @@ times-front (suc n) (suc j) es h =
 
 -- ---- the first entry that is left is forgotten
 -- in the list of the code
-pub blanked : (xs : List Change) (n at : ℕ) (fresh : Freshness) (saved : Option ℕ) (r : Record) → cut_at n (map entry_of xs) fresh saved ≡ r → at < length r.recorded
-    → cut_at n (map entry_of (set xs at made.End)) fresh saved ≡ record r { recorded = set r.recorded at End }
-blanked xs n at fresh saved r v lt =
+pub blank-view : (xs : List Change) (n at : ℕ) (fresh : Freshness) (saved point : Option ℕ) (r : Record) → cut_at n (map entry_of xs) fresh saved ≡ r → at < length r.recorded
+    → point ≡ point_past (change_count (get_or r.recorded at End ∷ [])) r.saved → cut_at n (map entry_of (set xs at made.End)) fresh point ≡ blanked at r
+blank-view xs n at fresh saved point r v lt p =
     let es = map entry_of xs in
     let first : take n es ≡ r.recorded = ap (λ (q : Record). q.recorded) v in
     let before : at < n = omega (arith, lt, ap length first, length-take n es) in
     let list : map entry_of (set xs at made.End) ≡ set es at End = map-set entry_of xs at made.End in
-    ap (λ l. cut_at n l fresh saved) list ∙ ap (λ l. record { recorded = l; pending = drop n (set es at End); fresh = fresh; saved = saved }) (take-set-lt n es at End before)
-    ∙ ap (λ l. record { recorded = set (take n es) at End; pending = l; fresh = fresh; saved = saved }) (drop-set-lt n es at End before)
-    ∙ ap (λ (q : Record). record q { recorded = set q.recorded at End }) v
+    ap (λ l. cut_at n l fresh point) list ∙ ap (λ l. record { recorded = l; pending = drop n (set es at End); fresh = fresh; saved = point }) (take-set-lt n es at End before)
+    ∙ ap (λ l. record { recorded = set (take n es) at End; pending = l; fresh = fresh; saved = point }) (drop-set-lt n es at End before)
+    ∙ ap (λ (q : Record). record { recorded = set q.recorded at End; pending = q.pending; fresh = q.fresh; saved = point }) v ∙ ap (λ x. record r { recorded = set r.recorded at End; saved = x }) p
 
 gone-held : (c k size : ℕ) (xs : List Change) (x : Change) (es : List Entry) → map entry_of xs ≡ es → k < c → c ≤ length es → x ≡ get_or xs k x → size ≡ length (old_text (entry_of x)) + length (new_text (entry_of x))
     → bytes_held (take c es) ≡ size + bytes_held (take c (set es k End))
@@ -258,10 +258,8 @@ taken-size n k size t xs x e within h lt is s =
 pub taken-none : (k : ℕ) (t : Tally) (xs : List Change) → bytes_held (take t.counted (map entry_of xs)) ≡ t.held → t.counted ≤ k → bytes_held (take t.counted (set (map entry_of xs) k End)) ≡ t.held
 taken-none k t xs h le = ap bytes_held (take-set-le t.counted (map entry_of xs) k End le) ∙ h
 
-pub gone-view : (k : ℕ) (r now s : Record) → without_first k r ≡ s → now ≡ record r { recorded = set r.recorded k End } → without_first (k + 1) now ≡ without_first 1 s
-gone-view k r now s v e =
-    ap (without_first (k + 1)) e ∙ ap (λ l. record { recorded = l; pending = r.pending; fresh = r.fresh; saved = point_past (k + 1) r.saved }) (drop-set-lt (k + 1) r.recorded k End (omega arith))
-    ∙ sym (first-more k 1 r) ∙ ap (without_first 1) v
+pub gone-view : (k : ℕ) (r now s : Record) → past_front k r ≡ s → k < length r.recorded → now ≡ blanked k r → past_front (k + 1) now ≡ without_first 1 s
+gone-view k r now s v lt e = ap (past_front (k + 1)) e ∙ first-more k r lt ∙ ap (without_first 1) v
 
 -- what is forgotten goes out of the list
 pub gone-up : (k : ℕ) (t now : Tally) (es : List Entry) → FrontGone k t es → now.counted ≡ t.counted - k → now.held ≡ t.held → now.opened ≡ 0 → FrontGone 0 now (drop k es)
@@ -378,7 +376,7 @@ pub OpenAt-small : (xs : List Change) (at n : ℕ) → IsMatched (map entry_of x
 OpenAt-small xs at n m o = omega (arith, o.level, level-within (map entry_of (take at xs)) (front-matched xs at m), length-map (take at xs) entry_of, length-take at xs)
 
 -- from what is kept of an open group
-pub open-kept : (k : ℕ) (t : Tally) (r s : Record) → FrontGone k t r.recorded → without_first k r ≡ s → k < t.opened → oldest_is_open (units (take (t.opened - k) s.recorded)) ≡ true
+pub open-kept : (k : ℕ) (t : Tally) (r s : Record) → FrontGone k t r.recorded → past_front k r ≡ s → k < t.opened → oldest_is_open (units (take (t.opened - k) s.recorded)) ≡ true
 open-kept k t r s f v some =
     let sum : k + (t.opened - k) ≡ t.opened = omega (arith, some) in
     subst (λ (q : Record). oldest_is_open (units (take (t.opened - k) q.recorded)) ≡ true) v
@@ -394,76 +392,73 @@ open-last es n long h some =
 -- the tally holds of the record that it leaves, and without what is in front this is the record that the call leaves of the other
 pub record Leaves (k : ℕ) (t : Tally) (now left : Record) : Type 0 where
   pub gone : FrontGone k t now.recorded
-  pub view : without_first k now ≡ left
+  pub view : past_front k now ≡ left
 
 leaves : (k : ℕ) (t : Tally) (r made now left : Record) → FrontGone k t r.recorded → GoesOn r.recorded made.recorded → Fronted k made left → now ≡ made → Leaves k t now left
 leaves k t r made now left f g b e =
     subst (λ q. Leaves k t q left) (sym e) (record { gone = Front-on k t r.recorded made.recorded f g b.ends; view = b.rest })
 
-of-other : (k : ℕ) (t : Tally) (r s now : Record) (f : Record → Record) → without_first k r ≡ s → Leaves k t now (f (without_first k r)) → Leaves k t now (f s)
+of-other : (k : ℕ) (t : Tally) (r s now : Record) (f : Record → Record) → past_front k r ≡ s → Leaves k t now (f (past_front k r)) → Leaves k t now (f s)
 of-other k t r s now f v l = subst (λ q. Leaves k t now (f q)) v l
 
-heard-leaves : (event : Event) (k : ℕ) (t : Tally) (r s now : Record) → ((q : Record) → record_step q event ≡ heard event q) → Fronted k (record_step r event) (record_step (without_first k r) event)
-    → FrontGone k t r.recorded → without_first k r ≡ s → now ≡ record_step r event → Leaves k t now (record_step s event)
+heard-leaves : (event : Event) (k : ℕ) (t : Tally) (r s now : Record) → ((q : Record) → record_step q event ≡ heard event q) → Fronted k (record_step r event) (record_step (past_front k r) event)
+    → FrontGone k t r.recorded → past_front k r ≡ s → now ≡ record_step r event → Leaves k t now (record_step s event)
 heard-leaves event k t r s now step b f v e =
     of-other k t r s now (λ q. record_step q event) v
-    (leaves k t r (record_step r event) now (record_step (without_first k r) event) f (subst (λ q. GoesOn r.recorded q.recorded) (sym (step r)) (on-after r.fresh event r.recorded)) b e)
+    (leaves k t r (record_step r event) now (record_step (past_front k r) event) f (subst (λ q. GoesOn r.recorded q.recorded) (sym (step r)) (on-after r.fresh event r.recorded)) b e)
 
-pub InsertChar-leaves : (k i c : ℕ) (t : Tally) (r s now : Record) → FrontGone k t r.recorded → without_first k r ≡ s → now ≡ record_step r (InsertChar i c) → Leaves k t now (record_step s (InsertChar i c))
+pub InsertChar-leaves : (k i c : ℕ) (t : Tally) (r s now : Record) → FrontGone k t r.recorded → past_front k r ≡ s → now ≡ record_step r (InsertChar i c) → Leaves k t now (record_step s (InsertChar i c))
 InsertChar-leaves k i c t r s now f v e = heard-leaves (InsertChar i c) k t r s now (λ q. step-InsertChar q i c) (InsertChar-front k i c r f.ends) f v e
 
-pub InsertStr-leaves : (k i : ℕ) (text : List ℕ) (t : Tally) (r s now : Record) → FrontGone k t r.recorded → without_first k r ≡ s → now ≡ record_step r (InsertStr i text)
+pub InsertStr-leaves : (k i : ℕ) (text : List ℕ) (t : Tally) (r s now : Record) → FrontGone k t r.recorded → past_front k r ≡ s → now ≡ record_step r (InsertStr i text)
     → Leaves k t now (record_step s (InsertStr i text))
 InsertStr-leaves k i text t r s now f v e = heard-leaves (InsertStr i text) k t r s now (λ q. step-InsertStr q i text) (InsertStr-front k i text r f.ends) f v e
 
-pub Delete-leaves : (k i : ℕ) (text : List ℕ) (side : Direction) (t : Tally) (r s now : Record) → FrontGone k t r.recorded → without_first k r ≡ s → now ≡ record_step r (Delete i text side)
+pub Delete-leaves : (k i : ℕ) (text : List ℕ) (side : Direction) (t : Tally) (r s now : Record) → FrontGone k t r.recorded → past_front k r ≡ s → now ≡ record_step r (Delete i text side)
     → Leaves k t now (record_step s (Delete i text side))
 Delete-leaves k i text side t r s now f v e = heard-leaves (Delete i text side) k t r s now (λ q. step-Delete q i text side) (Delete-front k i text side r f.ends) f v e
 
-pub Replace-leaves : (k i : ℕ) (old new : List ℕ) (t : Tally) (r s now : Record) → FrontGone k t r.recorded → without_first k r ≡ s → now ≡ record_step r (Replace i old new)
+pub Replace-leaves : (k i : ℕ) (old new : List ℕ) (t : Tally) (r s now : Record) → FrontGone k t r.recorded → past_front k r ≡ s → now ≡ record_step r (Replace i old new)
     → Leaves k t now (record_step s (Replace i old new))
 Replace-leaves k i old new t r s now f v e = heard-leaves (Replace i old new) k t r s now (λ q. step-Replace q i old new) (Replace-front k i old new r f.ends) f v e
 
-pub Cursors-leaves : (k before after : ℕ) (t : Tally) (r s now : Record) → FrontGone k t r.recorded → without_first k r ≡ s → now ≡ record_step r (Cursors before after)
+pub Cursors-leaves : (k before after : ℕ) (t : Tally) (r s now : Record) → FrontGone k t r.recorded → past_front k r ≡ s → now ≡ record_step r (Cursors before after)
     → Leaves k t now (record_step s (Cursors before after))
 Cursors-leaves k before after t r s now f v e =
     of-other k t r s now (λ q. record_step q (Cursors before after)) v
-    (leaves k t r (record_step r (Cursors before after)) now (record_step (without_first k r) (Cursors before after)) f
+    (leaves k t r (record_step r (Cursors before after)) now (record_step (past_front k r) (Cursors before after)) f
     (subst (λ (q : Record). GoesOn r.recorded q.recorded) (sym (step-Cursors r before after)) (on-entries_told r.fresh before after r.recorded)) (Cursors-front k before after r f.ends) e)
 
-pub added-leaves : (k : ℕ) (x : Entry) (fresh : Freshness) (t : Tally) (r s now : Record) → FrontGone k t r.recorded → without_first k r ≡ s → now ≡ added x fresh r → Leaves k t now (added x fresh s)
-added-leaves k x fresh t r s now f v e =
-    of-other k t r s now (added x fresh) v (leaves k t r (added x fresh r) now (added x fresh (without_first k r)) f (on-more r.recorded (x ∷ [])) (added-front k x fresh r f.ends) e)
+pub begun-leaves : (k : ℕ) (t : Tally) (r s now : Record) → FrontGone k t r.recorded → past_front k r ≡ s → now ≡ begun r → Leaves k t now (begun s)
+begun-leaves k t r s now f v e = of-other k t r s now begun v (leaves k t r (begun r) now (begun (past_front k r)) f (on-more r.recorded (Begin ∷ [])) (begun-front k r f.ends) e)
 
-pub opened-leaves : (k : ℕ) (t : Tally) (r s now : Record) → FrontGone k t r.recorded → without_first k r ≡ s → now ≡ still_waiting (r.recorded ++ Begin ∷ []) r
+pub opened-leaves : (k : ℕ) (t : Tally) (r s now : Record) → FrontGone k t r.recorded → past_front k r ≡ s → now ≡ still_waiting (r.recorded ++ Begin ∷ []) r
     → Leaves k t now (still_waiting (s.recorded ++ Begin ∷ []) s)
 opened-leaves k t r s now f v e =
     of-other k t r s now (λ (q : Record). still_waiting (q.recorded ++ Begin ∷ []) q) v
-    (leaves k t r (still_waiting (r.recorded ++ Begin ∷ []) r) now (still_waiting (drop k r.recorded ++ Begin ∷ []) (without_first k r)) f (on-more r.recorded (Begin ∷ [])) (opened-front k r f.ends) e)
+    (leaves k t r (still_waiting (r.recorded ++ Begin ∷ []) r) now (still_waiting (drop k r.recorded ++ Begin ∷ []) (past_front k r)) f (on-more r.recorded (Begin ∷ [])) (opened-front k r f.ends) e)
 
-pub saved-leaves : (k : ℕ) (t : Tally) (r s now : Record) → FrontGone k t r.recorded → without_first k r ≡ s → now ≡ saved_here r → Leaves k t now (saved_here s)
-saved-leaves k t r s now f v e = of-other k t r s now saved_here v (leaves k t r (saved_here r) now (saved_here (without_first k r)) f (on-all r.recorded) (set-saved-front k r f.ends) e)
+pub saved-leaves : (k : ℕ) (t : Tally) (r s now : Record) → FrontGone k t r.recorded → past_front k r ≡ s → now ≡ saved_here r → Leaves k t now (saved_here s)
+saved-leaves k t r s now f v e = of-other k t r s now saved_here v (leaves k t r (saved_here r) now (saved_here (past_front k r)) f (on-all r.recorded) (set-saved-front k r f.ends) e)
 
-pub parted-leaves : (k : ℕ) (t : Tally) (r s now : Record) → FrontGone k t r.recorded → without_first k r ≡ s → now ≡ parted r → Leaves k t now (parted s)
-parted-leaves k t r s now f v e = of-other k t r s now parted v (leaves k t r (parted r) now (parted (without_first k r)) f (on-all r.recorded) (record { ends = f.ends; rest = refl }) e)
+pub parted-leaves : (k : ℕ) (t : Tally) (r s now : Record) → FrontGone k t r.recorded → past_front k r ≡ s → now ≡ parted r → Leaves k t now (parted s)
+parted-leaves k t r s now f v e = of-other k t r s now parted v (leaves k t r (parted r) now (parted (past_front k r)) f (on-all r.recorded) (record { ends = f.ends; rest = refl }) e)
 
-pub fresh-leaves : (k : ℕ) (fresh : Freshness) (t : Tally) (r s now : Record) → FrontGone k t r.recorded → without_first k r ≡ s → now ≡ record r { fresh = fresh } → Leaves k t now (record s { fresh = fresh })
+pub fresh-leaves : (k : ℕ) (fresh : Freshness) (t : Tally) (r s now : Record) → FrontGone k t r.recorded → past_front k r ≡ s → now ≡ gone_on fresh r → Leaves k t now (gone_on fresh s)
 fresh-leaves k fresh t r s now f v e =
-    of-other k t r s now (λ (q : Record). record q { fresh = fresh }) v (leaves k t r (record r { fresh = fresh }) now (record (without_first k r) { fresh = fresh }) f (on-all r.recorded) (record { ends = f.ends; rest = refl }) e)
+    of-other k t r s now (gone_on fresh) v (leaves k t r (gone_on fresh r) now (gone_on fresh (past_front k r)) f (on-all r.recorded) (gone-on-front k fresh r f.ends) e)
 
-abbrev kept : ℕ → Record → Record
-kept n q = parted (arrived (q.recorded ++ there_and_back q.pending) [] (point_closed n (q.recorded ++ q.pending) q.saved))
+abbrev kept : Record → Record
+kept q = parted (arrived (q.recorded ++ there_and_back q.pending) [] q.saved)
 
-pub kept-leaves : (k n : ℕ) (t : Tally) (r s now : Record) → FrontGone k t r.recorded → without_first k r ≡ s
-    → now ≡ parted (arrived (r.recorded ++ there_and_back r.pending) [] (point_closed n (r.recorded ++ r.pending) r.saved))
-    → Leaves k t now (parted (arrived (s.recorded ++ there_and_back s.pending) [] (point_closed n (s.recorded ++ s.pending) s.saved)))
-kept-leaves k n t r s now f v e =
-    of-other k t r s now (kept n) v
-    (leaves k t r (kept n r) now (kept n (without_first k r)) f (on-more r.recorded (there_and_back r.pending)) (kept-undone-front k n (there_and_back r.pending) r f.ends) e)
+pub kept-leaves : (k : ℕ) (t : Tally) (r s now : Record) → FrontGone k t r.recorded → past_front k r ≡ s → now ≡ parted (arrived (r.recorded ++ there_and_back r.pending) [] r.saved)
+    → Leaves k t now (parted (arrived (s.recorded ++ there_and_back s.pending) [] s.saved))
+kept-leaves k t r s now f v e =
+    of-other k t r s now kept v (leaves k t r (kept r) now (kept (past_front k r)) f (on-more r.recorded (there_and_back r.pending)) (kept-undone-front k (there_and_back r.pending) r f.ends) e)
 
 -- a refused call left all
-pub same-leaves : (k : ℕ) (t : Tally) (r s now : Record) → FrontGone k t r.recorded → without_first k r ≡ s → now ≡ r → Leaves k t now s
-same-leaves k t r s now f v e = of-other k t r s now (λ q. q) v (leaves k t r r now (without_first k r) f (on-all r.recorded) (record { ends = f.ends; rest = refl }) e)
+pub same-leaves : (k : ℕ) (t : Tally) (r s now : Record) → FrontGone k t r.recorded → past_front k r ≡ s → now ≡ r → Leaves k t now s
+same-leaves k t r s now f v e = of-other k t r s now (λ q. q) v (leaves k t r r now (past_front k r) f (on-all r.recorded) (record { ends = f.ends; rest = refl }) e)
 
 -- ---- each call that takes entries off, after the tally
 -- what the tally is of the first l entries
@@ -489,24 +484,23 @@ cuts k l t t' r made now left f w same few b e =
     })
 
 -- a refused call left all but the tally
-pub tally-leaves : (k l : ℕ) (t t' : Tally) (r s now : Record) → FrontGone k t r.recorded → without_first k r ≡ s → IsWithin l t t' r.recorded → now ≡ r
+pub tally-leaves : (k l : ℕ) (t t' : Tally) (r s now : Record) → FrontGone k t r.recorded → past_front k r ≡ s → IsWithin l t t' r.recorded → now ≡ r
     → Leaves k t' now s
 tally-leaves k l t t' r s now f v w e =
-    of-other k t' r s now (λ q. q) v (cuts k l t t' r r now (without_first k r) f w refl (omega arith) (record { ends = f.ends; rest = refl }) e)
+    of-other k t' r s now (λ q. q) v (cuts k l t t' r r now (past_front k r) f w refl (omega arith) (record { ends = f.ends; rest = refl }) e)
 
-pub cut-leaves : (k n l : ℕ) (t t' : Tally) (r s now : Record) → FrontGone k t r.recorded → without_first k r ≡ s → IsWithin l t t' r.recorded → l ≡ (k + n) - 1
-    → n ≤ length s.recorded + length s.pending → now ≡ cut_at (k + n) (r.recorded ++ r.pending) (freshness_at (k + n) r.saved) r.saved
-    → Leaves k t' now (cut_at n (s.recorded ++ s.pending) (freshness_at n s.saved) s.saved)
+pub cut-leaves : (k n l : ℕ) (t t' : Tally) (r s now : Record) → FrontGone k t r.recorded → past_front k r ≡ s → IsWithin l t t' r.recorded → l ≡ (k + n) - 1
+    → n ≤ length s.recorded + length s.pending → now ≡ cut_to (k + n) (r.recorded ++ r.pending) r.saved → Leaves k t' now (cut_to n (s.recorded ++ s.pending) s.saved)
 cut-leaves k n l t t' r s now f v w is few e =
     let all = r.recorded ++ r.pending in
     let m = min l (length r.recorded - 1) in
     let within : k + n ≤ length all =
     omega (arith, Ends-within k r.recorded f.ends, length-append r.recorded r.pending, subst (λ (q : Record). n ≤ length q.recorded + length q.pending) (sym v) few, length-drop k r.recorded) in
-    of-other k t' r s now (λ (q : Record). cut_at n (q.recorded ++ q.pending) (freshness_at n q.saved) q.saved) v
-    (cuts k l t t' r (cut_at (k + n) all (freshness_at (k + n) r.saved) r.saved) now (cut_at n (drop k r.recorded ++ r.pending) (freshness_at n (point_past k r.saved)) (point_past k r.saved)) f w
+    of-other k t' r s now (λ (q : Record). cut_to n (q.recorded ++ q.pending) q.saved) v
+    (cuts k l t t' r (cut_to (k + n) all r.saved) now (cut_to n (drop k r.recorded ++ r.pending) r.saved) f w
     (take-take m (k + n) all (omega (arith, is)) ∙ take-append-le m r.recorded r.pending (omega arith)) (omega (arith, is, length-take-le (k + n) all within)) (cut-front k n r f.ends) e)
 
-pub truncated-leaves : (k n len l : ℕ) (t t' : Tally) (r s now : Record) → FrontGone k t r.recorded → without_first k r ≡ s → IsWithin l t t' r.recorded
+pub truncated-leaves : (k n len l : ℕ) (t t' : Tally) (r s now : Record) → FrontGone k t r.recorded → past_front k r ≡ s → IsWithin l t t' r.recorded
     → n ≡ min len (length s.recorded) → l ≡ (k + n) - 1 → now ≡ truncated (k + n) r → Leaves k t' now (truncated len s)
 truncated-leaves k n len l t t' r s now f v w least is e =
     let m = min l (length r.recorded - 1) in
@@ -514,44 +508,44 @@ truncated-leaves k n len l t t' r s now f v w least is e =
     omega (arith, Ends-within k r.recorded f.ends, least, ap (λ (q : Record). length q.recorded) v, length-drop k r.recorded) in
     subst (λ q. Leaves k t' now q) (ap (λ j. truncated j s) least ∙ truncated-all len s)
     (of-other k t' r s now (truncated n) v
-    (cuts k l t t' r (truncated (k + n) r) now (truncated n (without_first k r)) f w (take-take m (k + n) r.recorded (omega (arith, is))) (omega (arith, is, length-take-le (k + n) r.recorded within))
+    (cuts k l t t' r (truncated (k + n) r) now (truncated n (past_front k r)) f w (take-take m (k + n) r.recorded (omega (arith, is))) (omega (arith, is, length-take-le (k + n) r.recorded within))
     (truncated-front k n r f.ends) e))
 
-pub closed-leaves : (k n l : ℕ) (t t' : Tally) (r s now : Record) → FrontGone k t r.recorded → without_first k r ≡ s → IsWithin l t t' r.recorded
+pub closed-leaves : (k n l : ℕ) (t t' : Tally) (r s now : Record) → FrontGone k t r.recorded → past_front k r ≡ s → IsWithin l t t' r.recorded
     → l ≡ (length r.recorded - n) - 1 → now ≡ with_closed n r → Leaves k t' now (with_closed n s)
 closed-leaves k n l t t' r s now f v w is e =
     let m = min l (length r.recorded - 1) in
     let keeps = times-front n m r.recorded (λ some. omega (arith, is, some)) in
     let longer = times-front n (length r.recorded - n) r.recorded (λ some. omega (arith, some)) in
     of-other k t' r s now (with_closed n) v
-    (cuts k l t t' r (with_closed n r) now (with_closed n (without_first k r)) f w keeps.0 (omega (arith, is, longer.1)) (with_closed-front k n r f.ends) e)
+    (cuts k l t t' r (with_closed n r) now (with_closed n (past_front k r)) f w keeps.0 (omega (arith, is, longer.1)) (with_closed-front k n r f.ends) e)
 
-pub dropped-leaves : (k n l : ℕ) (t t' : Tally) (r s now : Record) → FrontGone k t r.recorded → without_first k r ≡ s → IsWithin l t t' r.recorded
+pub dropped-leaves : (k n l : ℕ) (t t' : Tally) (r s now : Record) → FrontGone k t r.recorded → past_front k r ≡ s → IsWithin l t t' r.recorded
     → l ≡ (length r.recorded - n) - 1 → now ≡ still_waiting (end_times n r.recorded) r → Leaves k t' now (still_waiting (end_times n s.recorded) s)
 dropped-leaves k n l t t' r s now f v w is e =
     let m = min l (length r.recorded - 1) in
     let keeps = times-front n m r.recorded (λ some. omega (arith, is, some)) in
     let longer = times-front n (length r.recorded - n) r.recorded (λ some. omega (arith, some)) in
     of-other k t' r s now (λ (q : Record). still_waiting (end_times n q.recorded) q) v
-    (cuts k l t t' r (still_waiting (end_times n r.recorded) r) now (still_waiting (end_times n (drop k r.recorded)) (without_first k r)) f w keeps.0 (omega (arith, is, longer.1))
+    (cuts k l t t' r (still_waiting (end_times n r.recorded) r) now (still_waiting (end_times n (drop k r.recorded)) (past_front k r)) f w keeps.0 (omega (arith, is, longer.1))
     (dropped-front k n r f.ends) e)
 
 -- the groups that are given up are among those that are left
-pub adds-none : (k n : ℕ) (t : Tally) (r s : Record) → FrontGone k t r.recorded → without_first k r ≡ s → adds_end n s.recorded ≡ false → adds_end n r.recorded ≡ false
+pub adds-none : (k n : ℕ) (t : Tally) (r s : Record) → FrontGone k t r.recorded → past_front k r ≡ s → adds_end n s.recorded ≡ false → adds_end n r.recorded ≡ false
 adds-none k n t r s f v h = adds-front k n r.recorded f.ends ∙ ap (λ (q : Record). adds_end n q.recorded) v ∙ h
 
-pub adds-same : (k n : ℕ) (t : Tally) (r s : Record) → FrontGone k t r.recorded → without_first k r ≡ s → adds_end n r.recorded ≡ adds_end n s.recorded
+pub adds-same : (k n : ℕ) (t : Tally) (r s : Record) → FrontGone k t r.recorded → past_front k r ≡ s → adds_end n r.recorded ≡ adds_end n s.recorded
 adds-same k n t r s f v = adds-front k n r.recorded f.ends ∙ ap (λ (q : Record). adds_end n q.recorded) v
 
-pub few-none : (k n : ℕ) (t : Tally) (r s : Record) → FrontGone k t r.recorded → without_first k r ≡ s → adds_end n s.recorded ≡ false → n ≤ length r.recorded
+pub few-none : (k n : ℕ) (t : Tally) (r s : Record) → FrontGone k t r.recorded → past_front k r ≡ s → adds_end n s.recorded ≡ false → n ≤ length r.recorded
 few-none k n t r s f v h = (ended-empty n r.recorded (adds-none k n t r s f v h)).0
 
 abbrev grouped : ℕ → Record → Record
-grouped from q = arrived (grouped_from from q.recorded) [] (kept_point from q.saved)
+grouped from q = arrived (grouped_from from q.recorded) [] q.saved
 
-pub grouped-leaves : (k from : ℕ) (t t' : Tally) (r s now : Record) → FrontGone k t r.recorded → without_first k r ≡ s → IsWithin (k + from) t t' r.recorded
-    → from ≤ length s.recorded → now ≡ arrived (grouped_from (k + from) r.recorded) [] (kept_point (k + from) r.saved)
-    → Leaves k t' now (arrived (grouped_from from s.recorded) [] (kept_point from s.saved))
+pub grouped-leaves : (k from : ℕ) (t t' : Tally) (r s now : Record) → FrontGone k t r.recorded → past_front k r ≡ s → IsWithin (k + from) t t' r.recorded
+    → from ≤ length s.recorded → now ≡ arrived (grouped_from (k + from) r.recorded) [] r.saved
+    → Leaves k t' now (arrived (grouped_from from s.recorded) [] s.saved)
 grouped-leaves k from t t' r s now f v w few e =
     let l = k + from in
     let m = min l (length r.recorded - 1) in
@@ -560,38 +554,48 @@ grouped-leaves k from t t' r s now f v w few e =
     let long : length (grouped_from l r.recorded) ≡ length r.recorded + 2 =
     omega (arith, within, length-append (take l r.recorded) (Begin ∷ (drop l r.recorded ++ End ∷ [])), length-append (drop l r.recorded) (End ∷ []), length-take-le l r.recorded within, length-drop l r.recorded) in
     of-other k t' r s now (grouped from) v
-    (cuts k l t t' r (grouped l r) now (grouped from (without_first k r)) f w
+    (cuts k l t t' r (grouped l r) now (grouped from (past_front k r)) f w
     (take-append-le m (take l r.recorded) (Begin ∷ (drop l r.recorded ++ End ∷ [])) (omega (arith, length-take-le l r.recorded within)) ∙ take-take m l r.recorded (omega arith)) (omega (arith, long))
     (grouped-front k from r f.ends less) e)
 
 -- ---- what the code reads
-pub front-len : (k n : ℕ) (r s : Record) → without_first k r ≡ s → n ≡ length r.recorded → n - k ≡ length s.recorded
+pub front-len : (k n : ℕ) (r s : Record) → past_front k r ≡ s → n ≡ length r.recorded → n - k ≡ length s.recorded
 front-len k n r s v e = omega (arith, e, length-drop k r.recorded, ap (λ (q : Record). length q.recorded) v)
 
-pub front-small : (k : ℕ) (r s : Record) → without_first k r ≡ s → length r.recorded + length r.pending < 2 ^ 63 → length s.recorded + length s.pending < 2 ^ 63
+pub front-small : (k : ℕ) (r s : Record) → past_front k r ≡ s → length r.recorded + length r.pending < 2 ^ 63 → length s.recorded + length s.pending < 2 ^ 63
 front-small k r s v small = omega (arith, small, length-drop k r.recorded, ap (λ (q : Record). length q.recorded) v, ap (λ (q : Record). length q.pending) v)
 
 pub front-few : (k : ℕ) (t : Tally) (es : List Entry) → FrontGone k t es → k ≤ length es
 front-few k t es f = Ends-within k es f.ends
 
-pub front-recorded : (k : ℕ) (xs : List Change) (r s : Record) → without_first k r ≡ s → map entry_of xs ≡ r.recorded → map entry_of (take (length xs - k) (drop k xs)) ≡ s.recorded
+pub front-recorded : (k : ℕ) (xs : List Change) (r s : Record) → past_front k r ≡ s → map entry_of xs ≡ r.recorded → map entry_of (take (length xs - k) (drop k xs)) ≡ s.recorded
 front-recorded k xs r s v e = rest-part k xs r.recorded e ∙ ap (λ (q : Record). q.recorded) v
 
-pub front-all : (k : ℕ) (t : Tally) (xs : List Change) (r s : Record) → FrontGone k t r.recorded → without_first k r ≡ s → map entry_of xs ≡ r.recorded ++ r.pending
+pub front-all : (k : ℕ) (t : Tally) (xs : List Change) (r s : Record) → FrontGone k t r.recorded → past_front k r ≡ s → map entry_of xs ≡ r.recorded ++ r.pending
     → map entry_of (take (length xs - k) (drop k xs)) ≡ s.recorded ++ s.pending
 front-all k t xs r s f v e =
     rest-part k xs (r.recorded ++ r.pending) e ∙ drop-append-le k r.recorded r.pending (Ends-within k r.recorded f.ends) ∙ ap (λ (q : Record). q.recorded ++ q.pending) v
 
-pub front-kinds : (k : ℕ) (r s : Record) → without_first k r ≡ s → All IsOfKind r.recorded × All IsOfKind r.pending → All IsOfKind s.recorded × All IsOfKind s.pending
+pub front-kinds : (k : ℕ) (r s : Record) → past_front k r ≡ s → All IsOfKind r.recorded × All IsOfKind r.pending → All IsOfKind s.recorded × All IsOfKind s.pending
 front-kinds k r s v h = subst (λ (q : Record). All IsOfKind q.recorded × All IsOfKind q.pending) v (All-drop IsOfKind k r.recorded h.0, h.1)
 
-pub front-within : (k : ℕ) (t : Tally) (r s : Record) → FrontGone k t r.recorded → without_first k r ≡ s → kept_point (length (r.recorded ++ r.pending)) r.saved ≡ r.saved
-    → kept_point (length (s.recorded ++ s.pending)) s.saved ≡ s.saved
-front-within k t r s f v h = subst (λ (q : Record). kept_point (length (q.recorded ++ q.pending)) q.saved ≡ q.saved) v (point-within k r f.ends h)
+pub front-within : (k : ℕ) (t : Tally) (r s : Record) → FrontGone k t r.recorded → past_front k r ≡ s → kept_point (change_count (r.recorded ++ r.pending)) r.saved ≡ r.saved
+    → kept_point (change_count (s.recorded ++ s.pending)) s.saved ≡ s.saved
+front-within k t r s f v h = subst (λ (q : Record). kept_point (change_count (q.recorded ++ q.pending)) q.saved ≡ q.saved) v (point-within k r f.ends h)
 
-pub front-saved : (k : ℕ) (t : Tally) (r s : Record) → FrontGone k t r.recorded → without_first k r ≡ s → is_saved r ≡ is_saved s
+pub front-apart : (k : ℕ) (t : Tally) (r s : Record) → FrontGone k t r.recorded → past_front k r ≡ s → IsApart r → IsApart s
+front-apart k t r s f v h = subst IsApart v (apart-front k r f.ends h)
+
+pub front-count : (k n : ℕ) (t : Tally) (r s : Record) → FrontGone k t r.recorded → past_front k r ≡ s → n ≡ change_count r.recorded → n ≡ change_count s.recorded
+front-count k n t r s f v e = e ∙ count-front k r.recorded f.ends ∙ ap (λ (q : Record). change_count q.recorded) v
+
+pub front-counted : (k n count : ℕ) (t : Tally) (r s : Record) → FrontGone k t r.recorded → past_front k r ≡ s → count ≡ change_count (take n (s.recorded ++ s.pending))
+    → count ≡ change_count (take (k + n) (r.recorded ++ r.pending))
+front-counted k n count t r s f v e = e ∙ ap (λ (q : Record). change_count (take n (q.recorded ++ q.pending))) (sym v) ∙ sym (cut-count k n r f.ends)
+
+pub front-saved : (k : ℕ) (t : Tally) (r s : Record) → FrontGone k t r.recorded → past_front k r ≡ s → is_saved r ≡ is_saved s
 front-saved k t r s f v = saved-front k r f.ends ∙ ap is_saved v
 
 pub ruleset opens_at = (OpenAt-before, OpenAt-done, OpenAt-first, OpenAt-small)
 
-pub ruleset fronts = (adds-none, adds-same, asks-few, asks-held, asks-within, few-none, front-all, front-few, front-kinds, front-len, front-recorded, front-saved, front-small, front-within, none-counted, none-first)
+pub ruleset fronts = (adds-none, adds-same, asks-few, asks-held, asks-within, few-none, front-all, front-apart, front-count, front-counted, front-few, front-kinds, front-len, front-recorded, front-saved, front-small, front-within, none-counted, none-first)

@@ -1,5 +1,5 @@
 -- What was recorded becomes one unit: its two marks lead nowhere, and the group that they make is the last unit.
-use Rattle.rl_line.proofs.Common.{Parted, StaysSaved, inl, inr, ◌⊎◌, length-take-le, put_in_first, reverse-append, cut_more, is_saved, touched, length-drop, length-map, both_ways, leb-true, ◌≡◌, ℕ, ◌+◌, ◌-◌, ◌<◌, ◌≤◌, ◌==◌, ◌&&◌, not, nat_le, suc, arith, Bool, true, false, cond_both, List, [], ◌∷◌, ◌++◌, length, map, take, drop, insert, Option, Some, None, refl, sym, ap, subst, ◌∙◌, append-nil, append_assoc, map-append, take-map, drop-map, take-append-drop, take_rest, eqb-true, le-leb, length-append, option_and_then, option_map_or, IsUtf8, Line, Freshness, Change, Entry, Begin, End, Record, arrived, cut_at, entry_of, freshness_at, freshness_told, kept_point, replay_entries, unwind, UndoUnit, Open, Whole, close, units, together, opens, level, last_of, kept_of, marks, IsMatched, BothMatched, AtLevel, Walk, Walks, waits}
+use Rattle.rl_line.proofs.Common.{change_count, cond, gone_on, is_at, Parted, StaysSaved, inl, inr, ◌⊎◌, length-take-le, put_in_first, reverse-append, cut_more, is_saved, touched, length-drop, length-map, both_ways, leb-true, ◌≡◌, ℕ, ◌+◌, ◌-◌, ◌<◌, ◌≤◌, ◌==◌, ◌&&◌, not, nat_le, suc, arith, Bool, true, false, cond_both, List, [], ◌∷◌, ◌++◌, length, map, take, drop, insert, Option, Some, None, refl, sym, ap, subst, ◌∙◌, append-nil, append_assoc, map-append, take-map, drop-map, take-append-drop, take_rest, eqb-true, le-leb, length-append, option_and_then, option_map_or, IsUtf8, Line, Freshness, Change, Entry, Begin, End, Record, arrived, cut_at, entry_of, freshness_at, freshness_told, kept_point, replay_entries, unwind, UndoUnit, Open, Whole, close, units, together, opens, level, last_of, kept_of, marks, IsMatched, BothMatched, AtLevel, Walk, Walks, waits}
 use Rattle.std.proofs.lemmas.Bool.{and_from, and_parts, cond-false, cond-true, eq-eqb, ne_eqb, not-true}
 use Rattle.std.proofs.Math.Seq.{drop-append-add, take-append-add}
 use Rattle.rl_base.specs.Event.{apply}
@@ -10,12 +10,14 @@ use Rattle.rl_line.specs.declared.change.Change.TheVariants as made
 use Rattle.rl_line.specs.declared.changeset.UnitStart.{UnitStart}
 use Rattle.rl_line.proofs.Records.GroupLemmas.{Inside}
 use Rattle.rl_line.proofs.Records.KeepLemmas.{view-of}
+use Rattle.rl_line.proofs.Records.LastLemmas.{told-twice}
 use Rattle.rl_line.proofs.Records.LevelLemmas.{level-append}
 use Rattle.rl_line.proofs.Records.MarkLemmas.{replay-begin, replay-end}
 use Rattle.rl_line.proofs.Records.MatchLemmas.{level-is}
 use Rattle.rl_line.proofs.Records.OriginLemmas.{Kept}
+use Rattle.rl_line.proofs.Records.PointLemmas.{changes-grouped}
 use Rattle.rl_line.proofs.Records.RecordLemmas.{replay-append, then_some, unwind-append, value_of}
-use Rattle.rl_line.proofs.Records.SavedLemmas.{StaysIn, arrived-stays, longer, shorter, stays-in, told-at}
+use Rattle.rl_line.proofs.Records.SavedLemmas.{saved-dropped_all, told-at}
 use Rattle.rl_line.proofs.Records.UnitLemmas.{IsMatched-append, IsMatched-front, cut_more-append, flags_on, good_cuts, good_marks, kept-last, marks-append, together-units, units-append, units-good}
 use Rattle.rl_line.proofs.Records.WalkLemmas.{Walk-append, Walk-split, mark-leads}
 
@@ -70,16 +72,18 @@ grouped-put k xs =
     ∙ ap (λ l. l ++ Begin ∷ (map entry_of (drop k xs) ++ End ∷ [])) (sym (take-map entry_of k xs))
     ∙ ap (λ l. take k (map entry_of xs) ++ Begin ∷ (l ++ End ∷ [])) (sym (drop-map entry_of k xs))
 
-pub grouped-view : (k n len : ℕ) (l now : List Entry) (before fresh : Freshness) (point point' : Option ℕ) (r : Record) → cut_at n l before point ≡ r → r.pending ≡ []
-    → now ≡ grouped_from k l → len ≡ length now → point' ≡ kept_point k point → fresh ≡ freshness_at len point'
-    → cut_at len now fresh point' ≡ arrived (grouped_from k r.recorded) [] (kept_point k r.saved)
-grouped-view k n len l now before fresh point point' r view =
-    subst (λ (r : Record). r.pending ≡ [] → now ≡ grouped_from k l → len ≡ length now → point' ≡ kept_point k point → fresh ≡ freshness_at len point'
-    → cut_at len now fresh point' ≡ arrived (grouped_from k r.recorded) [] (kept_point k r.saved)) view
-    (λ none g long p f.
+pub grouped-view : (k n len count : ℕ) (l now : List Entry) (before fresh : Freshness) (point : Option ℕ) (r : Record) → cut_at n l before point ≡ r → r.pending ≡ []
+    → now ≡ grouped_from k l → len ≡ length now → count ≡ change_count r.recorded → fresh ≡ freshness_at count point
+    → cut_at len now fresh point ≡ arrived (grouped_from k r.recorded) [] r.saved
+grouped-view k n len count l now before fresh point r view =
+    subst (λ (r : Record). r.pending ≡ [] → now ≡ grouped_from k l → len ≡ length now → count ≡ change_count r.recorded → fresh ≡ freshness_at count point
+    → cut_at len now fresh point ≡ arrived (grouped_from k r.recorded) [] r.saved) view
+    (λ none g long c f.
     let all : l ≡ take n l = sym (take-append-drop n l) ∙ ap (λ ps. take n l ++ ps) none ∙ append-nil (take n l) in
-    view-of len now fresh point' long ∙ ap (λ (x : Freshness). record (arrived now [] point') { fresh = x }) (f ∙ ap (λ m. freshness_at m point') long)
-    ∙ ap (λ es. arrived es [] point') (g ∙ ap (grouped_from k) all) ∙ ap (arrived (grouped_from k (take n l)) []) p)
+    let is : now ≡ grouped_from k (take n l) = g ∙ ap (grouped_from k) all in
+    let same : count ≡ change_count now = c ∙ sym (ap length (changes-grouped k (take n l))) ∙ ap change_count (sym is) in
+    view-of len now fresh point long ∙ ap (λ (x : Freshness). record (arrived now [] point) { fresh = x }) (f ∙ ap (λ m. freshness_at m point) same)
+    ∙ ap (λ es. arrived es [] point) is)
 
 -- ---- where the entries lead
 pub replay-grouped : (k : ℕ) (es : List Entry) (text : List ℕ) → replay_entries (grouped_from k es) text ≡ replay_entries es text
@@ -186,24 +190,20 @@ MakesGroup-of start r h =
     empty (e ∷ es) h = cc
 
 -- a record as before, but for its freshness, one with a group, or the same record
-pub united-cases : (start : UnitStart) (r : Record) (P : Record → Type 0) → (length r.recorded ≡ start.len → P (record r { fresh = start.was }))
-    → (MakesGroup start r → P (arrived (grouped_from start.from r.recorded) [] (kept_point start.from r.saved))) → P r → P (united start r)
+pub united-cases : (start : UnitStart) (r : Record) (P : Record → Type 0) → (length r.recorded ≡ start.len → P (gone_on start.was r))
+    → (MakesGroup start r → P (arrived (grouped_from start.from r.recorded) [] r.saved)) → P r → P (united start r)
 united-cases start r P fresh group same =
     cond_both (length r.recorded == start.len) _ _ P (λ h. fresh (eqb-true (length r.recorded) start.len h))
     (λ _. cond_both (makes_group start r) _ _ P (λ h. group (MakesGroup-of start r h)) (λ _. same))
 
--- nothing was recorded
-pub united-none : (put_in : ℕ) (r : Record) → united (unit_start put_in r) (parted r) ≡ r
-united-none put_in r = cond-true (length r.recorded == length r.recorded) _ _ (eq-eqb (length r.recorded) (length r.recorded) refl)
-
-pub united-group : (start : UnitStart) (r : Record) → makes_group start r ≡ true → united start r ≡ arrived (grouped_from start.from r.recorded) [] (kept_point start.from r.saved)
+pub united-group : (start : UnitStart) (r : Record) → makes_group start r ≡ true → united start r ≡ arrived (grouped_from start.from r.recorded) [] r.saved
 united-group start r h =
     let m = MakesGroup-of start r h in
     cond-false (length r.recorded == start.len) _ _ (ne_eqb (length r.recorded) start.len m.more) ∙ cond-true (makes_group start r) _ _ h
 
 pub united-made : (start : UnitStart) (r now : Record) → ¬ (length r.recorded ≡ start.len) → r.pending ≡ []
     → (nat_le 2 (length (drop start.from r.recorded)) && is_whole (drop start.from r.recorded)) ≡ true
-    → now ≡ arrived (grouped_from start.from r.recorded) [] (kept_point start.from r.saved) → now ≡ united start r
+    → now ≡ arrived (grouped_from start.from r.recorded) [] r.saved → now ≡ united start r
 united-made start r now more none unit e =
     e
     ∙ sym (united-group start r
@@ -239,9 +239,13 @@ unwind-united start r text =
 pub Walks-parted : (r : Record) (text : List ℕ) → Walks r text → Walks (parted r) text
 Walks-parted r text w = record { start = w.start; is_text = w.is_text; back = w.back; end = w.end; ahead = w.ahead; stale = refl }
 
-pub Walks-united : (start : UnitStart) (r : Record) (text : List ℕ) → freshness_told start.was ≡ start.was → Walks r text → Walks (united start r) text
-Walks-united start r text told w =
-    united-cases start r (λ k. Walks k text) (λ _. record { start = w.start; is_text = w.is_text; back = w.back; end = w.end; ahead = w.ahead; stale = told })
+-- it may go on, and can't be told cursors
+gone_on-told : (fresh : Freshness) (r : Record) → freshness_told (gone_on fresh r).fresh ≡ (gone_on fresh r).fresh
+gone_on-told fresh r = cond_both (is_saved r) Parted (freshness_told fresh) (λ f. freshness_told f ≡ f) (λ _. refl) (λ _. told-twice fresh)
+
+pub Walks-united : (start : UnitStart) (r : Record) (text : List ℕ) → Walks r text → Walks (united start r) text
+Walks-united start r text w =
+    united-cases start r (λ k. Walks k text) (λ _. record { start = w.start; is_text = w.is_text; back = w.back; end = w.end; ahead = w.ahead; stale = gone_on-told start.was r })
     (λ _.
     record {
       start = w.start;
@@ -249,24 +253,26 @@ Walks-united start r text told w =
       back = Walk-grouped start.from r.recorded w.start text w.back;
       end = text;
       ahead = refl;
-      stale = told-at (length (grouped_from start.from r.recorded)) (kept_point start.from r.saved);
+      stale = told-at (change_count (grouped_from start.from r.recorded)) r.saved;
     }) w
 
 pub Kept-united : (start : UnitStart) (r : Record) (line : Line) → IsUtf8 line.text → Kept r (united start r) line line
 Kept-united start r line u = record { origin_is = λ text e. unwind-united start r line.text ∙ e; utf8 = u }
 
--- a save point before the group stays
-pub saved-united : (es : List Entry) (start : UnitStart) (r : Record) → (start.len ≡ length es → start.was ≡ Parted) → freshness_told start.was ≡ start.was
-    → StaysSaved es r → StaysSaved es (united start r)
-saved-united es start r apart told s =
-    united-cases start r (StaysSaved es)
-    (λ same. elim s [ inl none ↦ inl none | inr x ↦ inr (record { point = x.point; begins = x.begins; apart = λ long. apart (sym same ∙ long); told = λ _. told }) ]) (λ m.
-    let front = take start.from r.recorded in
-    let rest = drop start.from r.recorded in
-    let long : length front ≡ start.from = length-take-le start.from r.recorded (omega (arith, m.several, length-drop start.from r.recorded)) in
-    let all = ap (λ l. l ++ r.pending) (sym (take-append-drop start.from r.recorded)) ∙ append_assoc front rest r.pending in
-    let first = subst (λ n. StaysIn es front (kept_point n r.saved)) long (shorter es front (rest ++ r.pending) (r.recorded ++ r.pending) r.saved all (stays-in es r s)) in
-    arrived-stays es (grouped_from start.from r.recorded) [] _ (longer es (grouped_from start.from r.recorded) [] _ (longer es front (Begin ∷ (rest ++ End ∷ [])) _ first))) s
+-- the save point stays
+pub saved-united : (cs : List Entry) (start : UnitStart) (r : Record) → StaysSaved cs r → StaysSaved cs (united start r)
+saved-united cs start r s =
+    united-cases start r (StaysSaved cs)
+    (λ _. elim s [
+      | inl none ↦ inl none
+      | inr x ↦ inr (record {
+        point = x.point;
+        begins = x.begins;
+        apart = λ long. ap (λ (b : Bool). cond b Parted (freshness_told start.was)) (ap (is_at (change_count r.recorded)) x.point ∙ eq-eqb (length cs) (change_count r.recorded) (sym long));
+        told = λ _. gone_on-told start.was r;
+      })
+    ])
+    (λ m. saved-dropped_all cs (grouped_from start.from r.recorded) r (changes-grouped start.from r.recorded) m.none s) s
 
 -- an open group stays open around the unit
 grouped-past : (xs ys : List Entry) (j : ℕ) → grouped_from (length xs + j) (xs ++ ys) ≡ xs ++ grouped_from j ys

@@ -1,6 +1,6 @@
 -- Empty groups that are opened and closed before what waits to be redone.
-use Rattle.rl_line.proofs.Common.{◌⊎◌, max, ◌≡◌, ◌≤◌, ◌<◌, ◌^◌, ◌+◌, ◌-◌, ◌||◌, ◌∙◌, ℕ, common_steps, cond, ends_in_begin, zero, suc, arith, Bool, true, false, not, List, [], end_one, ◌∷◌, ◌++◌, length, map, take, drop, insert, remove_range, Option, None, Some, option_map_or, refl, sym, ap, subst, cond_both, append_assoc, drop-append-add, length-append, length-map, length-take-le, drop-map, take-map, map-append, take-append-le, take_all, le-leb, leb-true, leb-false, nat_le, inl, inr, AtLevel, Begin, Change, Entry, Freshness, Record, Walks, adds_end, begun, cut_at, end_times, entry_of, freshness_at, kept_point, level, with_closed}
-use Rattle.rl_line.specs.Units.{point_moved, still_waiting}
+use Rattle.rl_line.proofs.Common.{change_count, changes_of, ◌⊎◌, max, ◌≡◌, ◌≤◌, ◌<◌, ◌^◌, ◌+◌, ◌-◌, ◌||◌, ◌∙◌, ℕ, common_steps, cond, ends_in_begin, zero, suc, arith, Bool, true, false, not, List, [], end_one, ◌∷◌, ◌++◌, length, map, take, drop, insert, remove_range, Option, None, Some, option_map_or, refl, sym, ap, subst, cond_both, append_assoc, drop-append-add, length-append, length-map, length-take-le, drop-map, take-map, map-append, take-append-le, take_all, le-leb, leb-true, leb-false, nat_le, inl, inr, AtLevel, Begin, Change, Entry, Freshness, Record, Walks, adds_end, begun, cut_at, end_times, entry_of, freshness_at, kept_point, level, with_closed}
+use Rattle.rl_line.specs.Units.{still_waiting}
 use Rattle.rl_line.specs.declared.change.Change.TheVariants as made
 use Rattle.rl_base.specs.Event.{apply}
 use Rattle.rl_base.proofs.Texts.TextLemmas.{is_boundary-true}
@@ -11,6 +11,7 @@ use Rattle.std.specs.Str.{IsCharBoundary}
 use Rattle.rl_line.proofs.Records.AbandonLemmas.{GroupOpen, open_after}
 use Rattle.rl_line.proofs.Records.LastLemmas.{end_one-cases, ends-past}
 use Rattle.rl_line.proofs.Records.LevelLemmas.{AtLevel-begun, AtLevel-closed}
+use Rattle.rl_line.proofs.Records.PointLemmas.{changes-begin, changes-end_times}
 use Rattle.rl_line.proofs.Records.SavedLemmas.{told-at}
 use Rattle.rl_line.proofs.Records.WalkLemmas.{Walks-begun, Walks-closed}
 
@@ -33,62 +34,44 @@ ended-empty (suc n) es h =
 abbrev pub MarksMoved : List Entry → List Entry → Type 0
 MarksMoved es now = (now ≡ es ++ Begin ∷ []) ⊎ ((n : ℕ) × (adds_end n es ≡ false) × (now ≡ end_times n es))
 
--- ---- the save point
-pub moved-within : (k m len len' : ℕ) (point : Option ℕ) → kept_point len point ≡ point → k ≤ len → m ≤ len' → len + m ≡ len' + k → kept_point len' (point_moved k m point) ≡ point_moved k m point
-moved-within k m len len' None kept a b e = refl
-moved-within k m len len' (Some n) kept a b e =
-    cond_both (nat_le n k) (kept_point m (Some n)) (Some ((n - k) + m)) (λ p. kept_point len' p ≡ p)
-    (λ _. cond_both (nat_le n m) (Some n) None (λ p. kept_point len' p ≡ p) (λ h. some n (omega (arith, leb-true n m h))) (λ _. refl))
-    (λ h. some ((n - k) + m) (omega (arith, leb-false n k h, stands n kept)))
-  where
-    some : (n : ℕ) → n ≤ len' → kept_point len' (Some n) ≡ Some n
-    some n le = ap (λ (x : Bool). cond x (Some n) None) (le-leb n len' le)
-
-    stands : (n : ℕ) → kept_point len (Some n) ≡ Some n → n ≤ len
-    stands n h = cond_both (nat_le n len) (Some n) None (λ p. p ≡ Some n → n ≤ len) (λ h _. leb-true n len h) (λ _ e. cc) h
-
-pub moved-fits : (k m len : ℕ) (point : Option ℕ) → kept_point len point ≡ point → len < 2 ^ 63 → m ≤ 2 ^ 63 → m + option_map_or (λ n. n - k) point 0 < 2 ^ 64
-moved-fits k m len None kept a b = omega (arith, b)
-moved-fits k m len (Some n) kept a b = omega (arith, a, b, stands n kept)
-  where
-    stands : (n : ℕ) → kept_point len (Some n) ≡ Some n → n ≤ len
-    stands n h = cond_both (nat_le n len) (Some n) None (λ p. p ≡ Some n → n ≤ len) (λ h _. leb-true n len h) (λ _ e. cc) h
+-- the changes stay
+pub changes-moved : (es now : List Entry) → MarksMoved es now → changes_of now ≡ changes_of es
+changes-moved es now (inl is) = ap changes_of is ∙ changes-begin es
+changes-moved es now (inr (n, empty, is)) = ap changes_of is ∙ changes-end_times n es
 
 -- ---- in the list of the code
-waiting-view : (k m : ℕ) (l now es : List Entry) (before fresh : Freshness) (point point' : Option ℕ) (r : Record) → cut_at k l before point ≡ r → k ≤ length l → now ≡ es ++ drop k l → m ≡ length es
-    → point' ≡ point_moved k m point → fresh ≡ freshness_at m point' → cut_at m now fresh point' ≡ still_waiting es r
-waiting-view k m l now es before fresh point point' r view within is long p f =
-    let k_is : k ≡ length r.recorded = sym (length-take-le k l within) ∙ ap (λ (r : Record). length r.recorded) view in
+waiting-view : (k m count : ℕ) (l now es : List Entry) (before fresh : Freshness) (point : Option ℕ) (r : Record) → cut_at k l before point ≡ r → now ≡ es ++ drop k l → m ≡ length es
+    → count ≡ change_count es → fresh ≡ freshness_at count point → cut_at m now fresh point ≡ still_waiting es r
+waiting-view k m count l now es before fresh point r view is long c f =
     let first : take m now ≡ es = ap (take m) is ∙ ap (λ n. take n (es ++ drop k l)) long ∙ take-append-le (length es) es (drop k l) (omega arith) ∙ take_all (length es) es (omega arith) in
     let rest : drop m now ≡ r.pending = ap (drop m) is ∙ ap (λ n. drop n (es ++ drop k l)) (long ∙ plus (length es)) ∙ drop-append-add es (drop k l) 0 ∙ ap (λ (r : Record). r.pending) view in
-    let point_is : point' ≡ point_moved (length r.recorded) (length es) r.saved = p ∙ ap (λ n. point_moved n m point) k_is ∙ ap (λ n. point_moved (length r.recorded) n point) long ∙ ap (λ (q : Record). point_moved (length r.recorded) (length es) q.saved) view in
-    let fresh_is : fresh ≡ freshness_at (length es) (point_moved (length r.recorded) (length es) r.saved) = f ∙ ap (λ n. freshness_at n point') long ∙ ap (freshness_at (length es)) point_is in
-    ap (λ xs. record { recorded = xs; pending = drop m now; fresh = fresh; saved = point' }) first
-    ∙ ap (λ xs. record { recorded = es; pending = xs; fresh = fresh; saved = point' }) rest
-    ∙ ap (λ x. record { recorded = es; pending = r.pending; fresh = x; saved = point' }) fresh_is
-    ∙ ap (λ x. record { recorded = es; pending = r.pending; fresh = freshness_at (length es) (point_moved (length r.recorded) (length es) r.saved); saved = x }) point_is
+    ap (λ xs. record { recorded = xs; pending = drop m now; fresh = fresh; saved = point }) first
+    ∙ ap (λ xs. record { recorded = es; pending = xs; fresh = fresh; saved = point }) rest
+    ∙ ap (λ x. record { recorded = es; pending = r.pending; fresh = x; saved = point }) (f ∙ ap (λ n. freshness_at n point) c)
+    ∙ ap (λ (q : Record). still_waiting es (record { recorded = es; pending = r.pending; fresh = q.fresh; saved = q.saved })) view
   where
     plus : (n : ℕ) → n ≡ n + 0
     plus n = omega arith
 
-pub opened-view : (k : ℕ) (xs ys : List Change) (before fresh : Freshness) (point point' : Option ℕ) (r : Record) → cut_at k (map entry_of xs) before point ≡ r → k ≤ length xs → ys ≡ insert xs k made.Begin
-    → point' ≡ point_moved k (k + 1) point → fresh ≡ freshness_at (k + 1) point' → cut_at (k + 1) (map entry_of ys) fresh point' ≡ still_waiting (r.recorded ++ Begin ∷ []) r
-opened-view k xs ys before fresh point point' r view within put p f =
+pub opened-view : (k count : ℕ) (xs ys : List Change) (before fresh : Freshness) (point : Option ℕ) (r : Record) → cut_at k (map entry_of xs) before point ≡ r → k ≤ length xs → ys ≡ insert xs k made.Begin
+    → count ≡ change_count r.recorded → fresh ≡ freshness_at count point → cut_at (k + 1) (map entry_of ys) fresh point ≡ still_waiting (r.recorded ++ Begin ∷ []) r
+opened-view k count xs ys before fresh point r view within put c f =
     let l = map entry_of xs in
     let now : map entry_of ys ≡ (take k l ++ Begin ∷ []) ++ drop k l =
     ap (map entry_of) put ∙ map-append entry_of (take k xs) (made.Begin ∷ drop k xs) ∙ ap (λ a. a ++ Begin ∷ map entry_of (drop k xs)) (sym (take-map entry_of k xs)) ∙ ap (λ b. take k l ++ Begin ∷ b) (sym (drop-map entry_of k xs)) ∙ sym (append_assoc (take k l) (Begin ∷ []) (drop k l)) in
     let inside : k ≤ length l = omega (arith, within, length-map xs entry_of) in
     let long : k + 1 ≡ length (take k l ++ Begin ∷ []) = omega (arith, length-append (take k l) (Begin ∷ []), length-take-le k l inside) in
-    waiting-view k (k + 1) l (map entry_of ys) (take k l ++ Begin ∷ []) before fresh point point' r view inside now long p f
+    let same : count ≡ change_count (take k l ++ Begin ∷ []) = c ∙ ap (λ (q : Record). change_count q.recorded) (sym view) ∙ sym (ap length (changes-begin (take k l))) in
+    waiting-view k (k + 1) count l (map entry_of ys) (take k l ++ Begin ∷ []) before fresh point r view now long same f
     ∙ ap (λ (q : Record). still_waiting (q.recorded ++ Begin ∷ []) r) view
 
 pub few-empty : (k n : ℕ) (l : List Entry) (before : Freshness) (point : Option ℕ) (r : Record) → cut_at k l before point ≡ r → k ≤ length l → adds_end n r.recorded ≡ false → n ≤ k
 few-empty k n l before point r view within empty =
     omega (arith, (ended-empty n r.recorded empty).0, length-take-le k l within, ap (λ (q : Record). length q.recorded) view)
 
-pub dropped-view : (k n : ℕ) (xs ys : List Change) (before fresh : Freshness) (point point' : Option ℕ) (r : Record) → cut_at k (map entry_of xs) before point ≡ r → k ≤ length xs → adds_end n r.recorded ≡ false
-    → ys ≡ remove_range xs (k - n) k → point' ≡ point_moved k (k - n) point → fresh ≡ freshness_at (k - n) point' → cut_at (k - n) (map entry_of ys) fresh point' ≡ still_waiting (end_times n r.recorded) r
-dropped-view k n xs ys before fresh point point' r view within empty gone p f =
+pub dropped-view : (k n count : ℕ) (xs ys : List Change) (before fresh : Freshness) (point : Option ℕ) (r : Record) → cut_at k (map entry_of xs) before point ≡ r → k ≤ length xs → adds_end n r.recorded ≡ false
+    → ys ≡ remove_range xs (k - n) k → count ≡ change_count r.recorded → fresh ≡ freshness_at count point → cut_at (k - n) (map entry_of ys) fresh point ≡ still_waiting (end_times n r.recorded) r
+dropped-view k n count xs ys before fresh point r view within empty gone c f =
     let l = map entry_of xs in
     let inside : k ≤ length l = omega (arith, within, length-map xs entry_of) in
     let first : take k l ≡ r.recorded = ap (λ (q : Record). q.recorded) view in
@@ -98,12 +81,11 @@ dropped-view k n xs ys before fresh point point' r view within empty gone p f =
     let es : take (k - n) l ≡ end_times n r.recorded = sym (take-take_le (k - n) k l (omega arith)) ∙ ap (take (k - n)) first ∙ ap (λ j. take (j - n) r.recorded) (sym long) ∙ sym is in
     let now : map entry_of ys ≡ end_times n r.recorded ++ drop k l =
     ap (map entry_of) gone ∙ map-append entry_of (take (k - n) xs) (drop k xs) ∙ ap (λ a. a ++ map entry_of (drop k xs)) (sym (take-map entry_of (k - n) xs)) ∙ ap (λ b. take (k - n) l ++ b) (sym (drop-map entry_of k xs)) ∙ ap (λ a. a ++ drop k l) es in
-    waiting-view k (k - n) l (map entry_of ys) (end_times n r.recorded) before fresh point point' r view inside now (sym (length-take-le (k - n) l (omega (arith, inside))) ∙ ap length es) p f
+    waiting-view k (k - n) count l (map entry_of ys) (end_times n r.recorded) before fresh point r view now (sym (length-take-le (k - n) l (omega (arith, inside))) ∙ ap length es)
+    (c ∙ sym (ap length (changes-end_times n r.recorded))) f
   where
     take-take_le : (a b : ℕ) (l : List Entry) → a ≤ b → take a (take b l) ≡ take a l
     take-take_le a b l le = grind (arith, common_steps)
-
-pub ruleset waiting = (moved-within, moved-fits)
 
 -- ---- the groups
 pub AtLevel-opened : (n : ℕ) (r : Record) → AtLevel n r → AtLevel (n + 1) (still_waiting (r.recorded ++ Begin ∷ []) r)
@@ -145,7 +127,7 @@ back-begin line at within =
 -- ---- the texts to which the record leads
 still-walks : (r left : Record) (text : List ℕ) → Walks left text → Walks r text → Walks (still_waiting left.recorded r) text
 still-walks r left text v w =
-    record { start = v.start; is_text = v.is_text; back = v.back; end = w.end; ahead = w.ahead; stale = told-at (length left.recorded) (point_moved (length r.recorded) (length left.recorded) r.saved) }
+    record { start = v.start; is_text = v.is_text; back = v.back; end = w.end; ahead = w.ahead; stale = told-at (change_count left.recorded) r.saved }
 
 pub Walks-opened : (r : Record) (text : List ℕ) → Walks r text → Walks (still_waiting (r.recorded ++ Begin ∷ []) r) text
 Walks-opened r text w = still-walks r (begun r) text (Walks-begun r text w) w

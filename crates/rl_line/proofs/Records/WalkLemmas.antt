@@ -1,5 +1,5 @@
 -- Entries that lead from a text to another, with their cursors: what keeps that, and where a line goes over them.
-use Rattle.rl_line.proofs.Common.{◌≡◌, ℕ, ◌⊎◌, inl, inr, Bool, true, List, [], ◌∷◌, ◌++◌, length, take, drop, take-append-drop, Option, Some, None, refl, sym, ap, subst, ◌∙◌, same_Some, option_map_or, cond, cond_both, IsSome, option_and_then, IsCharBoundary, IsUtf8, Refusal, Event, Cursors, is_boundary, text_after, text_back, Line, stepped, Step, Plan, after, listener_after, listener_after_step, Taken, Done, Halted, Freshness, Kind, Swap, Entry, Begin, End, Changed, Record, cursors_of, entries_after, entries_of, entries_told, event_of, freshness_added, freshness_joined, freshness_of, inverse, joined, replay_entries, replays_to, unwind, with_cursors, cursor_after, cursor_told, line_ahead, line_back, Redone, Undone, cursor_stands, begun, end_one, end_times, ends_in_end, kept_point, point_closed, point_kept, ◌-◌, reopened, kept_of, last_of, redo_of, truncated, with_closed, LeadsTo, Walk, Walks}
+use Rattle.rl_line.proofs.Common.{change_count, ◌≡◌, ℕ, ◌⊎◌, inl, inr, Bool, true, List, [], ◌∷◌, ◌++◌, length, take, drop, take-append-drop, Option, Some, None, refl, sym, ap, subst, ◌∙◌, same_Some, option_map_or, cond, cond_both, IsSome, option_and_then, IsCharBoundary, IsUtf8, Refusal, Event, Cursors, is_boundary, text_after, text_back, Line, stepped, Step, Plan, after, listener_after, listener_after_step, Taken, Done, Halted, Freshness, Kind, Swap, Entry, Begin, End, Changed, Record, cursors_of, entries_after, entries_of, entries_told, event_of, freshness_added, freshness_joined, freshness_of, inverse, joined, replay_entries, replays_to, unwind, with_cursors, cursor_after, cursor_told, line_ahead, line_back, Redone, Undone, cursor_stands, begun, end_one, end_times, ends_in_end, kept_point, point_kept, ◌-◌, reopened, kept_of, last_of, redo_of, truncated, with_closed, LeadsTo, Walk, Walks}
 use Rattle.rl_base.specs.Event.{apply}
 use Rattle.rl_base.proofs.Texts.SwapLemmas.{apply-IsUtf8}
 use Rattle.rl_base.proofs.Texts.TextLemmas.{is_boundary-means, is_boundary-true}
@@ -173,7 +173,7 @@ Walks-Undone n r now old new a d w =
       back = subst (Walk kept w.start) there first;
       end = w.end;
       ahead = Walk-append last r.pending new.text old.text w.end (subst (λ t. Walk last t old.text) there after) w.ahead;
-      stale = told-at (length kept) r.saved;
+      stale = told-at (change_count kept) r.saved;
     })
 
 pub Walks-Redone : (r now : Record) (old new : Line) (a : Bool) → Redone r now old new a → Walks r old.text → Walks now new.text
@@ -188,7 +188,7 @@ Walks-Redone r now old new a d w =
       back = Walk-append r.recorded unit w.start old.text new.text w.back (subst (Walk unit old.text) there first);
       end = w.end;
       ahead = subst (λ t. Walk rest t w.end) there after;
-      stale = told-at (length (r.recorded ++ unit)) r.saved;
+      stale = told-at (change_count (r.recorded ++ unit)) r.saved;
     })
 
 -- ---- marks
@@ -203,7 +203,7 @@ Walks-begun r text w = record {
   back = Walk-append r.recorded (Begin ∷ []) w.start text text w.back (text, (mark-leads text).0, refl);
   end = text;
   ahead = refl;
-  stale = refl;
+  stale = told-at (change_count (r.recorded ++ Begin ∷ [])) (point_kept r);
 }
 
 pub Walk-end_one : (es : List Entry) (x y : List ℕ) → Walk es x y → Walk (end_one es) x y
@@ -216,7 +216,7 @@ Walk-end_one (e ∷ (d ∷ ds)) x y w = (w.0, w.1, Walk-end_one (d ∷ ds) w.0 y
 pub Walks-closed : (n : ℕ) (r : Record) (text : List ℕ) → Walks r text → Walks (with_closed n r) text
 Walks-closed n r text w =
     let back = end_times-keeps (λ es. Walk es w.start text) (λ es v. Walk-end_one es w.start text v) n r.recorded w.back in
-    record { start = w.start; is_text = w.is_text; back = back; end = text; ahead = refl; stale = told-at (length (end_times n r.recorded)) (point_closed n r.recorded (point_kept r)) }
+    record { start = w.start; is_text = w.is_text; back = back; end = text; ahead = refl; stale = told-at (change_count (end_times n r.recorded)) (point_kept r) }
 
 pub Walks-reopened : (r : Record) (text : List ℕ) → Walks r text → Walks (reopened r) text
 unfolding apply
@@ -226,7 +226,7 @@ Walks-reopened r text w =
     let e = end-last r.recorded h in
     let (mid, first, last) = Walk-split e.front (End ∷ []) w.start text (subst (λ es. Walk es w.start text) e.is w.back) in
     let same : mid ≡ text = same_Some _ _ last.1.makes ∙ last.2 in
-    record { start = w.start; is_text = w.is_text; back = subst (λ es. Walk es w.start text) (sym e.cut) (subst (Walk e.front w.start) same first); end = text; ahead = refl; stale = told-at (length (take (length r.recorded - 1) r.recorded)) (kept_point (length (take (length r.recorded - 1) r.recorded)) r.saved) })
+    record { start = w.start; is_text = w.is_text; back = subst (λ es. Walk es w.start text) (sym e.cut) (subst (Walk e.front w.start) same first); end = text; ahead = refl; stale = told-at (change_count (take (length r.recorded - 1) r.recorded)) (kept_point (change_count (take (length r.recorded - 1) r.recorded)) r.saved) })
     (λ _. w)
 
 -- entries that lead to the text by themselves pass through the same texts
@@ -238,7 +238,7 @@ Walks-truncated len r text h w =
     let all : unwind r.recorded text ≡ Some w.start = unwind-replay r.recorded w.start text w.is_text (Walk-replay r.recorded w.start text w.back) in
     let there : mid ≡ text =
     same_Some _ _ (sym (Walk-replay front w.start mid first) ∙ replay-unwind front text w.start u (unwind-truncated len r text h ∙ all)) in
-    record { start = w.start; is_text = w.is_text; back = subst (Walk front w.start) there first; end = text; ahead = refl; stale = told-at (length front) (kept_point (length front) r.saved) }
+    record { start = w.start; is_text = w.is_text; back = subst (Walk front w.start) there first; end = text; ahead = refl; stale = told-at (change_count front) (kept_point (change_count front) r.saved) }
 
 -- so the line can go back over all that was recorded, and ahead over all that was undone
 pub Walks-back : (r : Record) (line : Line) → Walks r line.text → IsCharBoundary line.text line.cursor → IsSome (line_back r.recorded line)

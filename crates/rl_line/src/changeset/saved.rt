@@ -5,7 +5,7 @@ ghost use Rattle.rl_base.specs.declared.listeners.Refusal.TheVariants as refused
 ghost use Rattle.rl_base.specs.declared.saving.LoadFault.TheVariants.{NoMemory};
 ghost use Rattle.rl_base.specs.declared.saving.SaveFault.TheVariants.{TooLong};
 ghost use Rattle.rl_base.specs.declared.saving.Width.TheVariants.{Eight};
-ghost use Rattle.rl_line.specs.Record.{Entry, Record, entry_of, kept_point, new_text, old_text};
+ghost use Rattle.rl_line.specs.Record.{Entry, IsApart, Record, change_count, entry_of, kept_point, new_text, old_text};
 ghost use Rattle.rl_line.specs.SavedRecord.{FitsEntry, IsSavedEntry, IsSavedRecord, entry_number, entry_numbers, fresh_number, kept_number, number_or_0, point_number, record_numbers, saved_entries, saved_entry, saved_record};
 ghost use Rattle.rl_line.specs.Units.{BothMatched};
 ghost use Rattle.rl_line.specs.declared.change.Freshness.{Freshness};
@@ -46,7 +46,8 @@ impl Changeset {
     fn numbers(&self) -> [u64; 6]
         ensures numbers { result ≡ record_numbers self.now }
         ensures matched { BothMatched self.now }
-        ensures point { kept_point (length (self.now.recorded ++ self.now.pending)) self.now.saved ≡ self.now.saved }
+        ensures point { kept_point (change_count (self.now.recorded ++ self.now.pending)) self.now.saved ≡ self.now.saved }
+        ensures apart { IsApart self.now }
     {
         let (fresh, saved) = (self.entries.fresh(), self.entries.saved());
         [

@@ -80,7 +80,9 @@ impl Changeset {
                 return Ok(None);
             }
             let len = self.entries.len();
-            self.entries.cut(count_over(way, len, 1));
+            let recorded = count_over(way, len, 1);
+            let changes = count_over(way, self.entries.changes(), 1);
+            self.entries.cut(recorded, changes);
             return Ok(Some(true));
         }
         self.try_over_units(line, way, n)

@@ -107,7 +107,9 @@ impl Changeset {
             }
             line.go_over_one(change, way, listener)?;
             let len = self.entries.len();
-            self.entries.cut(count_over(way, len, 1));
+            let recorded = count_over(way, len, 1);
+            let changes = count_over(way, self.entries.changes(), 1);
+            self.entries.cut(recorded, changes);
             return Ok(Some(true));
         }
         if !self.units_fit(line, way, n) {

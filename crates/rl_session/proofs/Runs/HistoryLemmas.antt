@@ -7,8 +7,8 @@ use Rattle.rl_line.proofs.Records.RecordLemmas.{replay-IsUtf8}
 use Rattle.rl_line.proofs.Records.RedoLemmas.{redos-give-back}
 use Rattle.rl_line.proofs.Records.UndoLemmas.{line_ahead-replay, line_back-unwind}
 use Rattle.rl_line.proofs.Records.UnitLemmas.{kept-last}
-use Rattle.rl_line.specs.Record.{StaysSaved, is_saved}
-use Rattle.rl_line.proofs.Records.SavedLemmas.{saved-back, saved-marked, saved-redone, saved-step, saved-undone}
+use Rattle.rl_line.specs.Record.{StaysSaved, changes_of, is_saved}
+use Rattle.rl_line.proofs.Records.SavedLemmas.{saved-marked, saved-redone, saved-replays, saved-step, saved-undone}
 use Rattle.rl_session.specs.State.{Begins, saved_now}
 use Rattle.rl_session.specs.declared.session.Reply.TheVariants as says
 use Rattle.rl_session.proofs.Sessions.CourseLemmas.{Heard, Heard-Came}
@@ -146,7 +146,7 @@ redo-in_run start held old new commands replies earlier redos row n h run e is_u
     let back = redos-give-back n r row.after.pair.changes new.pair.changes row.before.line row.after.line new.line d.0 text_of at.holds.matched whole d.1 again in
     (back.2, back.0, back.1)
 
--- ---- a save point, which nothing that is done leaves with other entries before it
+-- ---- a save point, which nothing that is done leaves with other changes before it
 Saved-steps : (es : List Entry) (steps : List PlanStep) (cursor : ℕ) (r : Record) → StaysSaved es r → StaysSaved es (listener_after record_step cursor steps r)
 Saved-steps es [] cursor r s = s
 Saved-steps es (step ∷ steps) cursor r s =
@@ -176,5 +176,5 @@ saved-text start held old new commands replies h run at =
     let r = old.pair.changes in
     let marked : Holds start held (saved_now old) = record { is_text = h.is_text; leads = h.leads; placed = h.placed; matched = record { recorded = h.matched.recorded; pending = h.matched.pending } } in
     let now = Holds-Leads start run.rows held (saved_now old) new marked run.leads in
-    let same = saved-back r.recorded new.pair.changes (Saved-Leads r.recorded run.rows (saved_now old) new (inr (saved-marked r)) run.leads) at in
-    same_Some _ _ (sym now.leads ∙ ap (λ es. replay_entries es start) same ∙ h.leads)
+    let same = saved-replays r.recorded new.pair.changes start (Saved-Leads (changes_of r.recorded) run.rows (saved_now old) new (inr (saved-marked r)) run.leads) at in
+    same_Some _ _ (sym now.leads ∙ same ∙ h.leads)

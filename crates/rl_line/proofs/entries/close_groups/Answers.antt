@@ -1,6 +1,5 @@
-use Rattle.rl_line.proofs.Common.{arith, ◌≡◌, length, length-map, map, entry_of, sym, ◌∙◌}
+use Rattle.rl_line.proofs.Common.{arith, map, entry_of}
 use Rattle.rl_line.proofs.Records.EntryLemmas.{adds-here, adds-more, closes-next}
-use Rattle.rl_line.proofs.Records.SavedLemmas.{kept-here, point-next}
 use Rattle.rl_line.proofs.entries.close_groups.Goals as goal
 
 pub close_last-requires : goal.close_last-requires
@@ -10,15 +9,11 @@ close_last-requires c = λ none.
 pub loop-preserved : goal.loop-preserved
 loop-preserved c =
     let closed = c.close_last.ensures in
-    let long : c.len.result ≡ length c.close_last.new.entries.items = omega (arith, c.len.ensures, c.close_last.new.entries.ok.0) in
     record {
       entries = closes-next c.args.count c.loop.counter (map entry_of c.loop.entries.items) _ _ c.loop-test.true closed.entries c.loop.invariant.entries;
       room = λ adds.
           let more = adds-more c.args.count c.loop.counter (map entry_of c.loop.entries.items) _ c.loop-test.true closed.entries adds in
           omega (arith, c.loop.invariant.room more, closed.len, closed.capacity, c.loop-test.true);
-      saved = point-next c.args.count c.loop.counter c.len.result (map entry_of c.loop.entries.items) _ c.loop.saved _ _ c.loop-test.true closed.entries
-          (long ∙ sym (length-map c.close_last.new.entries.items entry_of)) c.kept_point.ensures c.loop.invariant.saved;
       len = omega (arith, c.loop.invariant.len, closed.len);
       capacity = omega (arith, c.loop.invariant.capacity, closed.capacity);
-      within = kept-here (length c.close_last.new.entries.items) c.len.result c.loop.saved _ long c.kept_point.ensures;
     }

@@ -1,15 +1,16 @@
-use Rattle.rl_line.proofs.Common.{AtLevel, ap, ap₂, length, subst, sym, err_from_is_err_and, refl, leb, has_change, moved, unit_of, ◌||◌, false, entry_to_undo, greatest_back_over, [], ◌∷◌, ◌≡◌, ◌∙◌}
+use Rattle.rl_line.proofs.Common.{entry_of, AtLevel, ap, ap₂, length, subst, sym, err_from_is_err_and, refl, leb, has_change, moved, unit_of, ◌||◌, false, entry_to_undo, greatest_back_over, [], ◌∷◌, ◌≡◌, ◌∙◌}
 use Rattle.rl_line.specs.Change.{longest_over}
 use Rattle.rl_line.proofs.Records.LevelLemmas.{AtLevel-one}
-use Rattle.rl_line.proofs.Records.MoveLemmas.{GoesAs-one, GoesOver-of, moved-at}
+use Rattle.rl_line.proofs.Records.MoveLemmas.{GoesAs-one, GoesOver-of, changes-over, changes-reach, moved-at}
+use Rattle.rl_line.proofs.Records.PointLemmas.{one-change}
 use Rattle.rl_line.proofs.changeset.Changeset.go_within_any.Goals as goal
 use Rattle.rl_line.proofs.changeset.Changeset.go_within_any.Goals.{After-cut, After-keeps_to}
 use Rattle.rl_line.proofs.changeset.Changeset.go_within_any.Given.{Over}
 
 now : (g : Over) (c : After-cut g) → c.cut.new.self ≡ moved c.args.way c.args.n c.args.self.now
 now g c =
-    moved-at c.args.way c.args.n c.len-len.result 1 c.count_over.result c.self.inside.entries c.args.self.now c.cut.new.self c.self.view_is c.self.invariant.matched c.len-len.ensures.len
-    (sym (ap length c.in-Some.ensures.1)) c.count_over.ensures c.cut.ensures
+    moved-at c.args.way c.args.n c.len-len.result 1 c.count_over-recorded.result c.self.inside.entries c.args.self.now c.cut.new.self c.self.view_is c.self.invariant.matched c.len-len.ensures.len
+    (sym (ap length c.in-Some.ensures.1)) c.count_over-recorded.ensures c.cut.ensures
 
 asked : (g : Over) (c : After-keeps_to g) → c.keeps_to.result ≡ leb (longest_over c.args.way (unit_of c.args.way c.args.n c.args.self.now) (length c.args.line.now.text)) c.args.line.now.limit
 asked g c =
@@ -39,3 +40,13 @@ returns-in-Some-clause-done g c =
           (sym ((GoesAs-one c.args.way c.in-Some.change.now _ c.in-Some.ensures.1).line c.args.line.now) ∙ c.in_ok-go_over_one.ensures.ok) (now g d.After-cut)
           (sym (ap has_change c.in-Some.ensures.1 ∙ ap (λ b. b || false) c.in-Some.ensures.0)),
     )
+
+pub count_over-changes-requires : goal.count_over-changes-requires
+count_over-changes-requires g c =
+    changes-reach c.args.way c.args.n _ 1 c.self.inside.entries c.args.self.now c.self.view_is c.self.invariant.matched c.len-len.ensures.small c.changes.ensures
+    (one-change (entry_of c.in-Some.change.now) _ c.in-Some.ensures.0 c.in-Some.ensures.1)
+
+pub cut-requires-clause-counted : goal.cut-requires-clause-counted
+cut-requires-clause-counted g c =
+    changes-over c.args.way c.args.n c.len-len.result 1 c.count_over-recorded.result _ 1 _ c.self.inside.entries c.args.self.now c.self.view_is c.self.invariant.matched c.len-len.ensures.len
+    (sym (ap length c.in-Some.ensures.1)) c.count_over-recorded.ensures c.changes.ensures (one-change (entry_of c.in-Some.change.now) _ c.in-Some.ensures.0 c.in-Some.ensures.1) c.count_over-changes.ensures

@@ -1,13 +1,14 @@
-use Rattle.rl_line.proofs.Common.{AtLevel, ap, length, subst, sym, err_from_is_err_and, refl, Any, NeedsRoom, has_change, moved, ◌||◌, false, inr, ◌≡◌, ◌∙◌}
+use Rattle.rl_line.proofs.Common.{entry_of, AtLevel, ap, length, subst, sym, err_from_is_err_and, refl, Any, NeedsRoom, has_change, moved, ◌||◌, false, inr, ◌≡◌, ◌∙◌}
 use Rattle.rl_line.proofs.Records.LevelLemmas.{AtLevel-one}
-use Rattle.rl_line.proofs.Records.MoveLemmas.{GoesAs-one, GoesOver-of, moved-at}
+use Rattle.rl_line.proofs.Records.MoveLemmas.{GoesAs-one, GoesOver-of, changes-over, changes-reach, moved-at}
+use Rattle.rl_line.proofs.Records.PointLemmas.{one-change}
 use Rattle.rl_line.proofs.changeset.Changeset.try_over_any.Goals as goal
 use Rattle.rl_line.proofs.changeset.Changeset.try_over_any.Goals.{After-cut}
 
 now : (c : After-cut) → c.cut.new.self ≡ moved c.args.way c.args.n c.args.self.now
 now c =
-    moved-at c.args.way c.args.n c.len-len.result 1 c.count_over.result c.self.inside.entries c.args.self.now c.cut.new.self c.self.view_is c.self.invariant.matched c.len-len.ensures.len
-    (sym (ap length c.in-Some.ensures.1)) c.count_over.ensures c.cut.ensures
+    moved-at c.args.way c.args.n c.len-len.result 1 c.count_over-recorded.result c.self.inside.entries c.args.self.now c.cut.new.self c.self.view_is c.self.invariant.matched c.len-len.ensures.len
+    (sym (ap length c.in-Some.ensures.1)) c.count_over-recorded.ensures c.cut.ensures
 
 pub invariant_of-self : goal.invariant_of-self
 invariant_of-self c =
@@ -31,3 +32,13 @@ returns-in_err-fits-clause-err c =
     let e = c.in_err-fits.ensures.err in
     let text = c.args.line.now.text in
     rw (p.1, p.2) (e.0, refl, e.1, inr (subst (Any (NeedsRoom text)) ((GoesAs-one c.args.way c.in-Some.change.now _ c.in-Some.ensures.1).texts text) e.2))
+
+pub count_over-changes-requires : goal.count_over-changes-requires
+count_over-changes-requires c =
+    changes-reach c.args.way c.args.n _ 1 c.self.inside.entries c.args.self.now c.self.view_is c.self.invariant.matched c.len-len.ensures.small c.changes.ensures
+    (one-change (entry_of c.in-Some.change.now) _ c.in-Some.ensures.0 c.in-Some.ensures.1)
+
+pub cut-requires-clause-counted : goal.cut-requires-clause-counted
+cut-requires-clause-counted c =
+    changes-over c.args.way c.args.n c.len-len.result 1 c.count_over-recorded.result _ 1 _ c.self.inside.entries c.args.self.now c.self.view_is c.self.invariant.matched c.len-len.ensures.len
+    (sym (ap length c.in-Some.ensures.1)) c.count_over-recorded.ensures c.changes.ensures (one-change (entry_of c.in-Some.change.now) _ c.in-Some.ensures.0 c.in-Some.ensures.1) c.count_over-changes.ensures

@@ -1,4 +1,5 @@
-use Rattle.rl_line.proofs.Common.{arith, entry_of, length-map, map, rules}
+use Rattle.rl_line.proofs.Common.{common_steps, StandsAt, arith, subst, entry_of, length-map, map, rules, end_times, sym}
+use Rattle.rl_line.proofs.Records.PointLemmas.{changes-end_times, stands-waiting}
 use Rattle.rl_line.proofs.Records.WaitingLemmas.{dropped-view, few-empty}
 use Rattle.rl_line.proofs.entries.Entries.drop_begins.Goals as goal
 
@@ -9,5 +10,15 @@ overflow_sub-left c =
 
 pub returns : goal.returns
 returns c =
-    dropped-view c.self.inside.recorded c.args.count c.self.inside.list.items c.drop-drain.new.self.0.items c.self.inside.fresh _ c.self.inside.saved _ c.args.self.now c.self.view_is c.self.invariant.0 c.requires
-    (search rules) c.point_moved-self-inside.ensures c.freshness_at-self-inside.ensures
+    dropped-view c.self.inside.recorded c.args.count c.self.inside.changes c.self.inside.list.items c.drop-drain.new.self.0.items c.self.inside.fresh _ c.self.inside.saved c.args.self.now c.self.view_is
+    c.self.invariant.0 c.requires (search rules) (subst (StandsAt c.self.inside.changes) c.self.view_is c.self.invariant.1).counted c.freshness_at-self-inside.ensures
+
+pub invariant_of-self : goal.invariant_of-self
+invariant_of-self c =
+    let s = subst (StandsAt c.self.inside.changes) c.self.view_is c.self.invariant.1 in (
+      grind (arith, common_steps),
+      subst (StandsAt c.self.inside.changes)
+          (sym (dropped-view c.self.inside.recorded c.args.count c.self.inside.changes c.self.inside.list.items c.drop-drain.new.self.0.items c.self.inside.fresh _ c.self.inside.saved c.args.self.now c.self.view_is
+          c.self.invariant.0 c.requires (search rules) s.counted c.freshness_at-self-inside.ensures))
+          (stands-waiting c.self.inside.changes (end_times c.args.count c.args.self.now.recorded) c.args.self.now (changes-end_times c.args.count c.args.self.now.recorded) s),
+    )

@@ -1,4 +1,5 @@
-use Rattle.rl_line.proofs.Common.{arith, err_from_is_err_and, InsertChar, TakesIn, entry_of, subst, sym, ◌∙◌}
+use Rattle.rl_line.proofs.Common.{arith, err_from_is_err_and, InsertChar, TakesIn, entry_of, subst, sym, ◌∙◌, ap, cut_at, is_change, map, set, ◌-◌}
+use Rattle.rl_line.proofs.Records.PointLemmas.{apart-settled, joined-kind, loose, stands-put}
 use Rattle.rl_line.proofs.Records.JoinLemmas.{joins, joins-not, joins-none, joins-nothing, stays-err, step-InsertChar}
 use Rattle.rl_line.proofs.entries.Entries.join_char.Goals as goal
 
@@ -30,3 +31,22 @@ returns-clause-ok c =
     ∙ joins (InsertChar c.args.idx c.args.c) c.args.self.now c.self.inside.list.items c.self.inside.recorded c.self.inside.fresh c.self.inside.saved c.in-Some.fresh c.index_mut.result.now c.join_char.new.self
     (step-InsertChar c.args.self.now c.args.idx c.args.c) c.self.invariant.0 c.self.view_is (sym c.is_parted.ensures ∙ c.if-is_parted.false) (omega (arith, c.if-self-eq0.false)) c.index_mut.ensures.value
     (subst (TakesIn (InsertChar c.args.idx c.args.c) (entry_of c.index_mut.result.now) (entry_of c.join_char.new.self)) c.in-Some.is c.in_ok-fresh.ensures.ok)
+
+pub invariant_of-self : goal.invariant_of-self
+invariant_of-self c = stands-put c.self.inside.changes c.self.inside.recorded c.self.inside.list.items c.self.inside.fresh c.self.inside.fresh c.self.inside.saved c.index_mut.result.now c.join_char.new.self c.self.invariant.0
+    (omega (arith, c.if-self-eq0.false)) c.index_mut.ensures.value (sym (ap is_change c.in_err-fresh.ensures.err.1)) (λ p. p) c.self.invariant.1
+
+pub invariant_of-self-in_default : goal.invariant_of-self-in_default
+invariant_of-self-in_default c = stands-put c.self.inside.changes c.self.inside.recorded c.self.inside.list.items c.self.inside.fresh c.self.inside.fresh c.self.inside.saved c.index_mut.result.now c.join_char.new.self c.self.invariant.0
+    (omega (arith, c.if-self-eq0.false)) c.index_mut.ensures.value (sym (ap is_change (subst (TakesIn (InsertChar c.args.idx c.args.c) (entry_of c.index_mut.result.now) (entry_of c.join_char.new.self)) c.in_default.is c.in_ok-fresh.ensures.ok).1)) (λ p. p) c.self.invariant.1
+
+pub invariant_of-self-2 : goal.invariant_of-self-2
+invariant_of-self-2 c = stands-put c.self.inside.changes c.self.inside.recorded c.self.inside.list.items c.self.inside.fresh c.self.inside.fresh c.self.inside.saved c.index_mut.result.now c.join_char.new.self c.self.invariant.0
+    (omega (arith, c.if-self-eq0.false)) c.index_mut.ensures.value (joined-kind (InsertChar c.args.idx c.args.c) _ _ (subst (TakesIn (InsertChar c.args.idx c.args.c) (entry_of c.index_mut.result.now) (entry_of c.join_char.new.self)) c.in-Some.is c.in_ok-fresh.ensures.ok).0) (λ p. p) c.self.invariant.1
+
+pub settle-requires : goal.settle-requires
+settle-requires c =
+    let s = stands-put c.self.inside.changes c.self.inside.recorded c.self.inside.list.items c.self.inside.fresh c.self.inside.fresh c.self.inside.saved c.index_mut.result.now c.join_char.new.self c.self.invariant.0
+    (omega (arith, c.if-self-eq0.false)) c.index_mut.ensures.value (joined-kind (InsertChar c.args.idx c.args.c) _ _ (subst (TakesIn (InsertChar c.args.idx c.args.c) (entry_of c.index_mut.result.now) (entry_of c.join_char.new.self)) c.in-Some.is c.in_ok-fresh.ensures.ok).0) (λ p. p) c.self.invariant.1 in
+    apart-settled (cut_at c.self.inside.recorded (map entry_of (set c.self.inside.list.items (c.self.inside.recorded - 1) c.join_char.new.self)) c.self.inside.fresh c.self.inside.saved) c.in-Some.fresh s.1.apart
+    (loose c.self.inside.fresh c.in-Some.fresh (sym c.is_parted.ensures ∙ c.if-is_parted.false))

@@ -1,5 +1,6 @@
-use Rattle.rl_line.proofs.Common.{Record, Stale, arith, ap, subst, sym, ◌∙◌, ◌≡◌, inl, inr, List, Entry, entries_told, freshness_told, last_told}
+use Rattle.rl_line.proofs.Common.{entry_of, is_change, Record, Stale, arith, ap, subst, sym, ◌∙◌, ◌≡◌, inl, inr, List, Entry, entries_told, freshness_told, last_told}
 use Rattle.rl_line.proofs.Records.JoinLemmas.{told-last, told-nothing, told-stale}
+use Rattle.rl_line.proofs.Records.PointLemmas.{kind-told, not-parted, stands-put}
 use Rattle.rl_line.proofs.entries.Entries.tell.Goals as goal
 use Rattle.rl_line.proofs.entries.Entries.tell.Goals.{in-Added, in-Joined}
 
@@ -31,3 +32,12 @@ returns-else-self-gt0 c =
       | in-Joined w ↦ ap freshness_told w.in-Joined.is
     ] in
     told-nothing c.args.self.now _ c.self.inside.recorded c.args.before c.args.after c.self.inside.fresh c.self.inside.saved c.self.view_is (omega (arith, c.if-self-gt0.false)) stale
+
+pub invariant_of-self : goal.invariant_of-self
+invariant_of-self c =
+    let stale : freshness_told c.self.inside.fresh ≡ Stale = elim c.match-self.branch [
+      | in-Added w ↦ ap freshness_told w.in-Added.is
+      | in-Joined w ↦ ap freshness_told w.in-Joined.is
+    ] in
+    stands-put c.self.inside.changes c.self.inside.recorded c.self.inside.list.items c.self.inside.fresh Stale c.self.inside.saved c.index_mut.result.now c.tell.new.self c.self.invariant.0 c.if-self-gt0.true
+    c.index_mut.ensures.value (sym (ap is_change c.tell.ensures ∙ kind-told _ (entry_of c.index_mut.result.now))) (not-parted c.self.inside.fresh Stale stale) c.self.invariant.1

@@ -12,4 +12,6 @@ invariant_of-self c =
     (ap (λ l. bytes_held (take c.self.inside.tally.counted (set l k End))) (sym c.recorded.ensures) ∙ c.without-self-inside.ensures.held))
 
 pub returns : goal.returns
-returns c = gone-view c.self.inside.gone c.self.inside.all _ c.args.self.now c.self.view_is c.blank.ensures
+returns c =
+    gone-view c.self.inside.gone c.self.inside.all _ c.args.self.now c.self.view_is
+    (omega (arith, c.requires, front-len c.self.inside.gone (length c.self.inside.all.recorded) c.self.inside.all c.args.self.now c.self.view_is refl)) c.blank.ensures
