@@ -1,5 +1,5 @@
 -- What was undone and is kept: the entries that take it back, and what a record that has both keeps.
-use Rattle.rl_line.proofs.Common.{common_steps, ◌≡◌, ℕ, ◌+◌, ◌-◌, ◌<◌, suc, zero, arith, Bool, true, false, List, [], ◌∷◌, ◌++◌, length, take, drop, get_or, map, reverse, refl, sym, ap, subst, ◌∙◌, inl, inr, append-nil, append_assoc, map-append, reverse-append, take_all, Change, Entry, Begin, End, Changed, entry_of, end_one, end_times, flipped, inverse, is_begin, level, turned_all, IsMatched, closed_all, ◌≤◌, Freshness, Option, Record, arrived, drop_all, length-drop, length-map, point_closed, take-append-drop, there_and_back}
+use Rattle.rl_line.proofs.Common.{◌≡◌, ℕ, ◌+◌, ◌-◌, suc, zero, arith, List, [], ◌∷◌, ◌++◌, length, take, drop, map, reverse, refl, sym, ap, subst, ◌∙◌, append_assoc, map-append, reverse-append, take_all, Change, Entry, Begin, End, Changed, entry_of, end_one, end_times, flipped, inverse, level, turned_all, IsMatched, ◌≤◌, Freshness, Option, Record, arrived, drop_all, length-drop, length-map, point_closed, take-append-drop, there_and_back}
 use Rattle.rl_line.specs.Record.{parted}
 use Rattle.rl_line.specs.Entries.{cut_at}
 use Rattle.rl_line.proofs.Records.LevelLemmas.{level-within}
