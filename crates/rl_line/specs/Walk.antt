@@ -1,12 +1,11 @@
 -- Entries that lead from a text to another, with the cursors that they were told.
-use Rattle.std.specs.Prelude.{◌≡◌, ◌<◌, true, List, [], ◌∷◌, filter, length, ℕ, Some}
+use Rattle.std.specs.Prelude.{◌≡◌, ◌<◌, true, List, [], ◌∷◌, ℕ, Some}
 use Rattle.std.specs.Str.{IsUtf8}
 use Rattle.rl_base.specs.Event.{apply}
 use Rattle.rl_line.specs.declared.change.Way.{Way}
 use Rattle.rl_line.specs.declared.change.Way.TheVariants.{Back, Ahead}
 use Rattle.rl_line.specs.Undo.{cursor_stands}
-use Rattle.rl_line.specs.Record.{Entry, Record, event_of, freshness_told, inverse}
-use Rattle.rl_line.specs.Units.{is_change}
+use Rattle.rl_line.specs.Record.{Entry, Record, change_count, event_of, freshness_told, inverse}
 
 -- an entry leads from a text to another, and its cursors before and after it, if told, stand between two characters there
 pub record LeadsTo (e : Entry) (text now : List ℕ) : Type 0 where
@@ -24,12 +23,9 @@ abbrev pub WalksOver : Way → List Entry → List ℕ → Type 0
 WalksOver Back es text = (start : List ℕ) × IsUtf8 start × Walk es start text
 WalksOver Ahead es text = (end : List ℕ) × Walk es text end
 
--- the changes among entries, and whether they are several
-abbrev pub changes_of : List Entry → List Entry
-changes_of es = filter is_change es
-
+-- several changes are among entries
 abbrev pub HasSeveral : List Entry → Type 0
-HasSeveral es = 1 < length (changes_of es)
+HasSeveral es = 1 < change_count es
 
 -- what is recorded leads to a text, and what was undone leads on from there; the last change can't be told its cursors any more
 pub record Walks (r : Record) (text : List ℕ) : Type 0 where

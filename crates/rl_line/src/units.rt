@@ -1,9 +1,8 @@
 //! The units of a list of entries, which an undo or a redo goes over, and how many groups are open after it.
 ghost use Rattle.std.specs.Prelude.{◌≡◌, ◌+◌, ◌^◌, ◌≤◌, ◌<◌, ◌&&◌, [], ◌∷◌, drop, length, min, nat_le, map, take, true, None, IfSome};
-ghost use Rattle.rl_line.specs.Record.{entry_of, is_change};
+ghost use Rattle.rl_line.specs.Record.{changes_of, entry_of, is_change};
 ghost use Rattle.rl_line.specs.Units.{IsMatched, has_change, is_whole, last_of, level, oldest_is_open, open_size, redo_of, units};
 ghost use Rattle.rl_line.specs.Entries.{deep};
-ghost use Rattle.rl_line.specs.Walk.{changes_of};
 
 use crate::change::Change;
 

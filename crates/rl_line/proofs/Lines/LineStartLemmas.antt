@@ -1,6 +1,6 @@
 -- The places right after the newlines of a text: of two joined, how many there are, and where they lie; and the table of them with a border: where it lies between two parts of the text, where it moves, and where a range gives way to a part.
 use borrow.Rule.Slice.PartMut.{put_mid}
-use Rattle.rl_line.proofs.Common.{common_steps, ◌≡◌, ℕ, zero, suc, ◌+◌, ◌-◌, ◌<◌, ◌≤◌, ◌&&◌, ◌==◌, nat_le, Bool, true, false, cond, List, [], ◌∷◌, ◌++◌, map, filter, length, get_or, set, take, drop, take-add, append_assoc, append-nil, length-append, length-drop, slice_range, All, count_by, refl, sym, ap, ap₂, subst, ◌∙◌, arith, ne_eqb, and_parts, cond_both, eqb-true, leb-true, nil_from_length, take-append-drop, length-take, length-take-le, length-map, map-append, map_push, get_or-take, get_or-drop, get_or-map, get_or_append_left, get_or_at, get_or-append_right, take-take, take-append-le, take-map, take_at, drop-drop, drop-map, drop-append-le, drop_at, drop_all, drop_more, set_at, sum_by-cons, sum_by-append, length-between, All-nil, All-cons, All-head, All-tail, All-get_or, All-weaker, All-append, All-map, All-take, All-drop, take-put_mid, encode_ascii, inside_one, enumerate_from, replace_range, copy_within, insert, remove, encode_utf8, is_byte, places, is_newline, line_number, after_newlines, line_starts, from_end, starts_from_end, kept_starts, IsTable, take_all, length-replicate, eqb-false}
+use Rattle.rl_line.proofs.Common.{common_steps, ◌≡◌, ℕ, zero, suc, ◌+◌, ◌-◌, ◌<◌, ◌≤◌, ◌&&◌, ◌==◌, nat_le, Bool, true, false, cond, List, [], ◌∷◌, ◌++◌, map, filter, length, get_or, set, take, drop, take-add, append_assoc, append-nil, length-append, length-drop, slice_range, All, count_by, refl, sym, ap, ap₂, subst, ◌∙◌, arith, ne_eqb, and_parts, cond_both, eqb-true, leb-true, nil_from_length, take-append-drop, length-take, length-take-le, length-map, map_push, get_or-map, get_or_at, take-map, take_at, drop-drop, drop-map, drop_at, drop_all, drop_more, set_at, sum_by-cons, sum_by-append, length-between, All-nil, All-cons, All-head, All-tail, All-get_or, All-weaker, All-append, All-map, All-take, All-drop, encode_ascii, inside_one, enumerate_from, replace_range, copy_within, insert, remove, encode_utf8, is_byte, places, is_newline, line_number, after_newlines, line_starts, from_end, starts_from_end, kept_starts, IsTable, take_all, length-replicate, eqb-false}
 use Rattle.memchr.specs.Find.{places_from}
 
 map-cond : {A B : Type 0} (f : A → B) (is : Bool) (x : A) (l : List A) → map f (cond is (x ∷ l) l) ≡ cond is (f x ∷ map f l) (map f l)

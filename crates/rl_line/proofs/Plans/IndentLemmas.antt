@@ -1,6 +1,6 @@
 -- The steps of an indent: the parts that spaces go in by, the places after a change at the start of a line, and the
 -- lines that are left.
-use Rattle.rl_line.proofs.Common.{common_steps, Range, NoMemory, or_no_memory, inl, Some, ◌≡◌, ℕ, zero, suc, ◌+◌, ◌-◌, ◌*◌, sum, length-append, ◌/◌, ◌%◌, ◌<◌, ◌≤◌, Bool, true, false, List, [], ◌∷◌, ◌++◌, length, take, drop, slice_range, min, refl, sym, ap, ap₂, subst, ◌∙◌, arith, append_assoc, ltb-true, ltb-false, eqb, eqb-true, drop-cons, if◌then◌else◌, repeat, insert_slice, remove_range, replace_range, is_some, IsAscii, IsCharBoundary, IsUtf8, trim_start, nat_tests, drop-drop, append-nil, get_or-drop, get_or-take, take-append-drop, take-take, length-drop, sum_by-append, sum_by-cons, length-between, IsCharBoundary-end, IsCharBoundary-from_drop, IsAscii-nil, IsAscii-cons, same_Some, Event, InsertStr, Delete, apply, Direction, lines, last_line, line_number, text_of_line, start_of_line, end_of_line, greatest_boundary, Forward, Refusal, blanks, line_plan, lines_plan, spaces, parts, put_spaces, pushed, pulled, Plan, Step, after, Taken, Completed, Done, Halted, after_steps, single, Line, stepped, length-take-le, length-take, Movement, lt-ltb, nat_lt, max}
+use Rattle.rl_line.proofs.Common.{common_steps, Range, NoMemory, or_no_memory, inl, Some, ◌≡◌, ℕ, zero, suc, ◌+◌, ◌-◌, ◌*◌, sum, length-append, ◌/◌, ◌%◌, ◌<◌, ◌≤◌, Bool, true, false, List, [], ◌∷◌, ◌++◌, length, take, drop, slice_range, min, refl, sym, ap, ap₂, subst, ◌∙◌, arith, append_assoc, ltb-true, ltb-false, eqb, eqb-true, drop-cons, if◌then◌else◌, repeat, insert_slice, remove_range, replace_range, is_some, IsAscii, IsCharBoundary, IsUtf8, trim_start, nat_tests, drop-drop, get_or-drop, get_or-take, take-append-drop, take-take, length-drop, sum_by-append, sum_by-cons, length-between, IsCharBoundary-end, IsCharBoundary-from_drop, IsAscii-nil, IsAscii-cons, same_Some, Event, InsertStr, Delete, apply, Direction, lines, last_line, line_number, text_of_line, start_of_line, end_of_line, greatest_boundary, Forward, Refusal, blanks, line_plan, lines_plan, spaces, parts, put_spaces, pushed, pulled, Plan, Step, after, Taken, Completed, Halted, after_steps, single, Line, stepped, length-take-le, length-take, Movement, lt-ltb, nat_lt, max}
 use Rattle.rl_base.proofs.Texts.LineLemmas.{count_of_lines, count-parts, end-from, lies, lines-after, lines_some, newlines-line, start-next, text-between}
 use Rattle.rl_base.proofs.Texts.TextLemmas.{drop-after, removed-is_replaced, greatest_boundary-is}
 use Rattle.rl_base.proofs.Texts.EventLemmas.{Deletes-from_IsSome, Inserts-from_IsSome}

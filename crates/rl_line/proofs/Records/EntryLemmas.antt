@@ -1,5 +1,5 @@
 -- Entries in the list of the code: counting them, and closing groups.
-use Rattle.rl_line.proofs.Common.{common_steps, ◌≡◌, ℕ, ◌+◌, ◌-◌, ◌<◌, ◌≤◌, arith, suc, List, [], ◌∷◌, ◌++◌, length, take, drop, get_or, map, reverse, refl, sym, ap, ◌∙◌, ◌⊎◌, inl, inr, or-true, append-nil, map-append, reverse-append, drop_all, zero, max, min, slice_get, cond, IsSome, Bool, true, false, not, ◌||◌, Option, Some, None, option_to_list, Change, Entry, Begin, End, Changed, entry_of, last_of, open_size, redo_of, adds_end, end_one, end_times, ends_in_begin, ends_in_end, is_begin, is_end, is_change, IsMatched, deep, same_Some, take-map, level, ne_eqb, option_map}
+use Rattle.rl_line.proofs.Common.{common_steps, ◌≡◌, ℕ, ◌+◌, ◌-◌, ◌<◌, ◌≤◌, arith, suc, List, [], ◌∷◌, ◌++◌, length, take, drop, get_or, map, reverse, refl, sym, ap, ◌∙◌, ◌⊎◌, inl, inr, append-nil, map-append, drop_all, zero, max, min, slice_get, cond, IsSome, Bool, true, false, not, ◌||◌, Option, Some, None, option_to_list, Change, Entry, Begin, End, Changed, entry_of, last_of, open_size, redo_of, adds_end, end_one, end_times, ends_in_begin, ends_in_end, is_begin, is_end, is_change, IsMatched, deep, same_Some, take-map, level, ne_eqb, option_map}
 use Rattle.std.proofs.lemmas.Bool.{eq-eqb}
 use Rattle.rl_line.specs.Units.{units_in_group}
 use Rattle.rl_line.proofs.Records.Counts.{ahead_len, back_len, size_back}

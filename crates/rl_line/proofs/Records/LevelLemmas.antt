@@ -1,5 +1,5 @@
 -- The level: how many groups are open after each call, counted over the entries that it moves or drops alone.
-use Rattle.rl_line.proofs.Common.{common_steps, Ahead, AtLevel, Back, Begin, Bool, BothMatched, Change, Changed, End, Entry, Event, Freshness, IsMatched, List, Reaches, Record, Some, Way, [], ap, arith, begun, count_over, deep, drop, entries_after, entries_of, entry_of, false, get_or, inl, inr, is_change, joined, kept_of, last_of, length, length-map, length-take, level, map, map-append, mark, marks, max, moved, opens, recorded_after, redo_of, refl, subst, suc, sym, take, take-append-drop, touched, true, truncated, unit_of, units, with_closed, ℕ, ◌++◌, ◌+◌, ◌-◌, ◌<◌, ◌^◌, ◌∙◌, ◌∷◌, ◌≡◌, ◌≤◌, take_all}
+use Rattle.rl_line.proofs.Common.{common_steps, Ahead, AtLevel, Back, Begin, Bool, BothMatched, Change, Changed, End, Entry, Event, Freshness, IsMatched, List, Reaches, Record, Some, Way, [], ap, arith, begun, count_over, deep, drop, entries_after, entries_of, entry_of, false, get_or, inl, inr, is_change, joined, kept_of, last_of, length, length-map, length-take, level, map, map-append, mark, marks, max, moved, opens, redo_of, refl, subst, suc, sym, take, take-append-drop, touched, true, truncated, unit_of, units, with_closed, ℕ, ◌++◌, ◌+◌, ◌-◌, ◌<◌, ◌^◌, ◌∙◌, ◌∷◌, ◌≡◌, ◌≤◌, take_all}
 use Rattle.rl_line.specs.Record.{record_step}
 use Rattle.rl_line.proofs.Records.CountLemmas.{level-counted}
 use Rattle.rl_line.proofs.Records.EntryLemmas.{deep-append, deep-next}

@@ -4,7 +4,8 @@ use Rattle.std.proofs.lemmas.List.{take_more}
 use Rattle.rl_base.proofs.Texts.SwapLemmas.{apply-IsUtf8}
 use Rattle.rl_line.specs.Change.{way_back}
 use Rattle.rl_line.specs.Retrace.{walk_after, walk_back}
-use Rattle.rl_line.specs.Walk.{HasSeveral, WalksOver, changes_of}
+use Rattle.rl_line.specs.Record.{changes_of}
+use Rattle.rl_line.specs.Walk.{HasSeveral, WalksOver}
 use Rattle.rl_line.proofs.Records.ChangeLemmas.{ahead-inverse, length-order, mark-leaves}
 use Rattle.rl_line.proofs.Records.RecordLemmas.{inverse-inverse, inverse-undoes, then_both, then_some, through, undoes-inverse, value_of}
 use Rattle.rl_line.proofs.Records.TurnLemmas.{turned-cons, turned-turned}

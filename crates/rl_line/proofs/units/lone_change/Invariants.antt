@@ -1,5 +1,5 @@
 use Rattle.rl_line.proofs.Common.{◌≡◌, ◌++◌, drop, map, option_copied, option_map, option_to_list, entry_of}
-use Rattle.rl_line.specs.Walk.{changes_of}
+use Rattle.rl_line.specs.Record.{changes_of}
 use Rattle.rl_line.proofs.units.lone_change.Given as goal
 
 -- the one that was found, and the changes that are left, are all

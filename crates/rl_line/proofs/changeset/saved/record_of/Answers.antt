@@ -6,8 +6,8 @@ use Rattle.rl_line.proofs.changeset.saved.record_of.Goals as goal
 
 pub returns-in_err-entries-clause-loaded : goal.returns-in_err-entries-clause-loaded
 returns-in_err-entries-clause-loaded c = λ r s head list.
-    let fresh : c.fresh_of.result ≡ r.fresh = search rules in
-    let saved : c.point_of.result ≡ r.saved = search rules in
+    let fresh : c.fresh_of-fresh.result ≡ r.fresh = search rules in
+    let saved : c.point_of-saved.result ≡ r.saved = search rules in
     let long : get_or c.args.head 1 0 ≡ length r.recorded = ap (λ l. get_or l 1 0) head in
     let few : get_or c.args.head 1 0 ≤ length c.args.list.items = omega (arith, long, ap length list, length-map c.args.list.items entry_of, length-append r.recorded r.pending) in
     absurd (c.in_err-entries.ensures.none refl few (cut-stands r _ (map entry_of c.args.list.items) _ _ s list (search rules) fresh saved))

@@ -1,4 +1,4 @@
-use Rattle.rl_line.proofs.Common.{◌∙◌, ap, sym, false}
+use Rattle.rl_line.proofs.Common.{◌∙◌, ap, sym}
 use Rattle.rl_line.specs.Indents.{indent_changes}
 use Rattle.rl_line.proofs.Plans.IndentLemmas.{indents-change}
 use Rattle.rl_line.proofs.line_buffer.LineBuffer.indent_changes.Goals as goal
