@@ -499,8 +499,7 @@ impl Changeset {
     {
         let unit = self.unit(way, n);
         go_over_all(line, unit, way, listener)?;
-        let changed = entries::count_changes(unit);
-        let opened = units::level(unit);
+        let (opened, changed) = units::level_and_changes(unit);
         let recorded = count_over(way, self.entries.len(), unit.len());
         let changes = count_over(way, self.entries.changes(), changed);
         self.entries.cut(recorded, changes);

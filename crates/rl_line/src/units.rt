@@ -1,6 +1,6 @@
 //! The units of a list of entries, which an undo or a redo goes over, and how many groups are open after it.
 ghost use Rattle.std.specs.Prelude.{◌≡◌, ◌+◌, ◌^◌, ◌≤◌, ◌<◌, ◌&&◌, [], ◌∷◌, drop, length, min, nat_le, map, take, true, None, IfSome};
-ghost use Rattle.rl_line.specs.Record.{changes_of, entry_of, is_change};
+ghost use Rattle.rl_line.specs.Record.{change_count, changes_of, entry_of, is_change};
 ghost use Rattle.rl_line.specs.Units.{IsMatched, has_change, is_whole, last_of, level, oldest_is_open, open_size, redo_of, units};
 ghost use Rattle.rl_line.specs.Entries.{deep};
 
@@ -17,6 +17,24 @@ pub(crate) fn level(entries: &[Change]) -> usize
         level = level_after(entry, level);
     }
     level
+}
+
+/// How many groups are open after the entries, if none is open before them, and how many of them are changes.
+#[tactic(auto, using(crate::proofs::Records::LevelLemmas::levels_counted, crate::proofs::Records::PointLemmas::counts))]
+pub(crate) fn level_and_changes(entries: &[Change]) -> (usize, usize)
+    requires { IsMatched (map entry_of entries.now) }
+    ensures level { result.0 ≡ level (map entry_of entries.now) }
+    ensures changes { result.1 ≡ change_count (map entry_of entries.now) }
+{
+    let mut level = 0;
+    let mut changes = 0;
+    for entry in entries {
+        level = level_after(entry, level);
+        if entry.is_change() {
+            changes += 1;
+        }
+    }
+    (level, changes)
 }
 
 /// How many groups are open after the entries, if each End among them closes a group that holds a change.

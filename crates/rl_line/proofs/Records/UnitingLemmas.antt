@@ -243,8 +243,8 @@ Walks-parted r text w = record { start = w.start; is_text = w.is_text; back = w.
 gone_on-told : (fresh : Freshness) (r : Record) → freshness_told (gone_on fresh r).fresh ≡ (gone_on fresh r).fresh
 gone_on-told fresh r = cond_both (is_saved r) Parted (freshness_told fresh) (λ f. freshness_told f ≡ f) (λ _. refl) (λ _. told-twice fresh)
 
-pub Walks-united : (start : UnitStart) (r : Record) (text : List ℕ) → Walks r text → Walks (united start r) text
-Walks-united start r text w =
+pub Walks-united : (start : UnitStart) (r : Record) (text : List ℕ) → freshness_told start.was ≡ start.was → Walks r text → Walks (united start r) text
+Walks-united start r text _ w =
     united-cases start r (λ k. Walks k text) (λ _. record { start = w.start; is_text = w.is_text; back = w.back; end = w.end; ahead = w.ahead; stale = gone_on-told start.was r })
     (λ _.
     record {
