@@ -377,12 +377,7 @@ impl Entries {
         if self.recorded == self.list.len() {
             self.list.reserve(1)?;
         }
-        keep(
-            &mut self.list,
-            &mut self.saved,
-            self.recorded,
-            self.changes,
-        );
+        keep(&mut self.list, &mut self.saved, self.recorded, self.changes);
         match self.list.push(Change::Begin) {
             Ok(()) => {}
             Err(_) => unreachable!(),
@@ -426,12 +421,7 @@ impl Entries {
         requires { IsApart (settled fresh self.old) }
         ensures { self.new ≡ settled fresh self.old }
     {
-        keep(
-            &mut self.list,
-            &mut self.saved,
-            self.recorded,
-            self.changes,
-        );
+        keep(&mut self.list, &mut self.saved, self.recorded, self.changes);
         self.fresh = fresh;
     }
 
@@ -449,12 +439,7 @@ impl Entries {
     {
         let adds = adds_end(self.recorded(), count);
         find_ends(&mut self.list, adds, count)?;
-        keep(
-            &mut self.list,
-            &mut self.saved,
-            self.recorded,
-            self.changes,
-        );
+        keep(&mut self.list, &mut self.saved, self.recorded, self.changes);
         close_groups(&mut self.list, count);
         self.recorded = self.list.len();
         self.fresh = freshness_at(self.changes, self.saved);

@@ -150,9 +150,10 @@ before-told cs front cursors End b = b
 before-told cs front cursors (Changed kind swap) b = before-change cs front kind kind swap _ b
 
 before-more : (cs l more : List Entry) → StaysBefore cs l → StaysBefore cs (l ++ more)
-before-more cs l more b =
-    (ap (take (length cs)) (changes-append l more) ∙ take-append-le (length cs) (changes_of l) (changes_of more) (omega (arith, b.1)) ∙ b.0,
-    omega (arith, b.1, ap length (changes-append l more), length-append (changes_of l) (changes_of more)))
+before-more cs l more b = (
+  ap (take (length cs)) (changes-append l more) ∙ take-append-le (length cs) (changes_of l) (changes_of more) (omega (arith, b.1)) ∙ b.0,
+  omega (arith, b.1, ap length (changes-append l more), length-append (changes_of l) (changes_of more)),
+)
 
 -- a record in which more is recorded than stood before the point
 past-point : (cs : List Entry) (r : Record) → r.saved ≡ Some (length cs) → StaysBefore cs r.recorded → StaysSaved cs r

@@ -13,9 +13,11 @@ pub invariant_of-self : goal.invariant_of-self
 invariant_of-self c =
     let s = subst (StandsAt c.self.inside.changes) c.self.view_is c.self.invariant.1 in
     let e = added-entry c.self.inside.list.items _ c.self.inside.recorded _ c.args.entry c.self.inside.fresh c.self.inside.saved c.args.fresh c.args.self.now c.self.invariant.0 c.self.view_is
-    ((c.in-Ok.ensures).items ∙ ap (λ xs. xs ++ c.args.entry ∷ []) c.truncate.ensures.items) refl in
-    (e.0, subst (StandsAt (c.self.inside.changes + 1)) (sym (ap (λ point. cut_at (c.self.inside.recorded + 1) (map entry_of c.push.new.self.items) c.args.fresh point) (c.kept_point-self-inside.ensures ∙ ap (λ n. kept_point n c.self.inside.saved) s.counted) ∙ e.1))
-    (stands-added c.self.inside.changes (entry_of c.args.entry) c.args.fresh c.args.self.now c.requires s))
+    ((c.in-Ok.ensures).items ∙ ap (λ xs. xs ++ c.args.entry ∷ []) c.truncate.ensures.items) refl in (
+      e.0,
+      subst (StandsAt (c.self.inside.changes + 1)) (sym (ap (λ point. cut_at (c.self.inside.recorded + 1) (map entry_of c.push.new.self.items) c.args.fresh point) (c.kept_point-self-inside.ensures ∙ ap (λ n. kept_point n c.self.inside.saved) s.counted) ∙ e.1))
+          (stands-added c.self.inside.changes (entry_of c.args.entry) c.args.fresh c.args.self.now c.requires s),
+    )
 
 pub returns-then-self-len-clause-done : goal.returns-then-self-len-clause-done
 returns-then-self-len-clause-done c =

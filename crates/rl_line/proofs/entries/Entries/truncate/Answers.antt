@@ -5,18 +5,27 @@ use Rattle.rl_line.proofs.entries.Entries.truncate.Goals as goal
 
 pub overflow_sub-left : goal.overflow_sub-left
 overflow_sub-left c =
-    omega (arith, left-counted c.self.inside.recorded c.min-len.result c.self.inside.changes c.count_changes.result c.self.inside.list.items (omega (arith, c.min-len.ensures)) c.self.invariant.1.counted
-    (c.count_changes.ensures.count ∙ ap (λ xs. change_count (map entry_of (take (c.self.inside.recorded - c.min-len.result) (drop c.min-len.result xs)))) c.deref.ensures.value))
+    omega (
+      arith,
+      left-counted c.self.inside.recorded c.min-len.result c.self.inside.changes c.count_changes.result c.self.inside.list.items (omega (arith, c.min-len.ensures)) c.self.invariant.1.counted
+          (c.count_changes.ensures.count ∙ ap (λ xs. change_count (map entry_of (take (c.self.inside.recorded - c.min-len.result) (drop c.min-len.result xs)))) c.deref.ensures.value),
+    )
 
 pub keep-requires-clause-counted : goal.keep-requires-clause-counted
 keep-requires-clause-counted c =
-    omega (arith, left-counted c.self.inside.recorded c.min-len.result c.self.inside.changes c.count_changes.result c.self.inside.list.items (omega (arith, c.min-len.ensures)) c.self.invariant.1.counted
-    (c.count_changes.ensures.count ∙ ap (λ xs. change_count (map entry_of (take (c.self.inside.recorded - c.min-len.result) (drop c.min-len.result xs)))) c.deref.ensures.value))
+    omega (
+      arith,
+      left-counted c.self.inside.recorded c.min-len.result c.self.inside.changes c.count_changes.result c.self.inside.list.items (omega (arith, c.min-len.ensures)) c.self.invariant.1.counted
+          (c.count_changes.ensures.count ∙ ap (λ xs. change_count (map entry_of (take (c.self.inside.recorded - c.min-len.result) (drop c.min-len.result xs)))) c.deref.ensures.value),
+    )
 
 pub invariant_of-self : goal.invariant_of-self
 invariant_of-self c =
-    let left : c.self.inside.changes - c.count_changes.result ≡ change_count (take c.min-len.result (map entry_of c.self.inside.list.items)) = omega (arith, left-counted c.self.inside.recorded c.min-len.result c.self.inside.changes c.count_changes.result c.self.inside.list.items (omega (arith, c.min-len.ensures)) c.self.invariant.1.counted
-    (c.count_changes.ensures.count ∙ ap (λ xs. change_count (map entry_of (take (c.self.inside.recorded - c.min-len.result) (drop c.min-len.result xs)))) c.deref.ensures.value)) in
+    let left : c.self.inside.changes - c.count_changes.result ≡ change_count (take c.min-len.result (map entry_of c.self.inside.list.items)) = omega (
+      arith,
+      left-counted c.self.inside.recorded c.min-len.result c.self.inside.changes c.count_changes.result c.self.inside.list.items (omega (arith, c.min-len.ensures)) c.self.invariant.1.counted
+          (c.count_changes.ensures.count ∙ ap (λ xs. change_count (map entry_of (take (c.self.inside.recorded - c.min-len.result) (drop c.min-len.result xs)))) c.deref.ensures.value),
+    ) in
     let v = truncated-view c.self.inside.recorded c.min-len.result c.args.len (c.self.inside.changes - c.count_changes.result) (map entry_of c.self.inside.list.items) (map entry_of c.keep.new.entries.items) c.self.inside.fresh _
     c.self.inside.saved _ c.args.self.now c.self.view_is (omega (arith, c.self.invariant.0, length-map c.self.inside.list.items entry_of)) c.min-len.ensures c.keep.ensures.items left c.keep.ensures.saved c.freshness_at-self-inside.ensures in
     let few = length-take-le c.min-len.result (map entry_of c.self.inside.list.items) (omega (arith, c.min-len.ensures, c.self.invariant.0, length-map c.self.inside.list.items entry_of)) in (
@@ -27,7 +36,10 @@ invariant_of-self c =
 
 pub returns : goal.returns
 returns c =
-    let left : c.self.inside.changes - c.count_changes.result ≡ change_count (take c.min-len.result (map entry_of c.self.inside.list.items)) = omega (arith, left-counted c.self.inside.recorded c.min-len.result c.self.inside.changes c.count_changes.result c.self.inside.list.items (omega (arith, c.min-len.ensures)) c.self.invariant.1.counted
-    (c.count_changes.ensures.count ∙ ap (λ xs. change_count (map entry_of (take (c.self.inside.recorded - c.min-len.result) (drop c.min-len.result xs)))) c.deref.ensures.value)) in
+    let left : c.self.inside.changes - c.count_changes.result ≡ change_count (take c.min-len.result (map entry_of c.self.inside.list.items)) = omega (
+      arith,
+      left-counted c.self.inside.recorded c.min-len.result c.self.inside.changes c.count_changes.result c.self.inside.list.items (omega (arith, c.min-len.ensures)) c.self.invariant.1.counted
+          (c.count_changes.ensures.count ∙ ap (λ xs. change_count (map entry_of (take (c.self.inside.recorded - c.min-len.result) (drop c.min-len.result xs)))) c.deref.ensures.value),
+    ) in
     truncated-view c.self.inside.recorded c.min-len.result c.args.len (c.self.inside.changes - c.count_changes.result) (map entry_of c.self.inside.list.items) (map entry_of c.keep.new.entries.items) c.self.inside.fresh _
     c.self.inside.saved _ c.args.self.now c.self.view_is (omega (arith, c.self.invariant.0, length-map c.self.inside.list.items entry_of)) c.min-len.ensures c.keep.ensures.items left c.keep.ensures.saved c.freshness_at-self-inside.ensures
