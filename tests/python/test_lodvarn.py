@@ -614,6 +614,27 @@ class Saved(Scripts):
                 self.assertIs(type(raised.exception), lodvarn.UnknownFormatError if at < 8 else lodvarn.DamagedError)
                 self.assertRaises(ValueError, list, read(damaged))
 
+    def test_a_ring_that_no_session_has_raises(self):
+        size, last, length = 0, 4, 5
+        for is_yanked, is_loaded, numbers in [
+            (False, False, {length: 5}), (False, False, {last: 0}), (False, True, {last: 0, size: 0}),
+            (True, False, {length: 2}), (True, False, {last: 2}), (True, True, {last: 2, length: 0}),
+            (True, True, {last: 0, length: 0}), (True, False, {last: 9, length: 0}),
+        ]:
+            session = opened("one two", 7)
+            if is_yanked:
+                session.kill(BACK)
+                session.yank()
+            other = bytearray(session.save()[:-8])
+            for number, value in numbers.items():
+                other[87 + 8 * number : 95 + 8 * number] = value.to_bytes(8, "little")
+            other += xxh64(other)
+            with self.subTest(is_yanked=is_yanked, numbers=numbers):
+                if is_loaded:
+                    self.assertEqual(Session.load(other).save(), other)
+                else:
+                    self.assertRaises(lodvarn.DamagedError, Session.load, other)
+
     def test_pickle_and_copy_make_another(self):
         by_pickle = [partial(pickle.dumps, protocol=it) for it in range(pickle.HIGHEST_PROTOCOL + 1)]
         for take in [copy.copy, copy.deepcopy, *by_pickle]:

@@ -4,7 +4,7 @@ pub use Rattle.std.proofs.Math.Bool.{and-true, or-false}
 pub use Rattle.std.proofs.Math.ListN.{get_or-append}
 pub use Rattle.std.proofs.Math.Nat.{eq-or-lt_of_le}
 pub use Rattle.std.proofs.Math.Seq.{drop-append-add, drop-append_seam, set-append_seam, take-append-add, take-append_seam, take-nil}
-pub use Rattle.std.proofs.lemmas.Bool.{OnTrue_at, OnTrue_from, and_parts, cases_lt, cond-false, cond-true, cond_both, eqb-false, eqb-true, false_from_ne_true, leb-true, ltb-false}
+pub use Rattle.std.proofs.lemmas.Bool.{OnTrue_at, OnTrue_from, and_parts, cases_lt, cond-false, cond-true, cond_both, eqb-false, eqb-true, false_from_ne_true, leb-true, leb-false, ltb-false}
 pub use Rattle.std.proofs.lemmas.Bool.Decides.{nat_tests}
 pub use Rattle.std.proofs.lemmas.Cmp.{nat_list_eq_equiv}
 pub use Rattle.std.proofs.lemmas.List.{drop-append-le, drop-drop, drop-take, drop_all, get_or-append-add, get_or-drop, get_or-reverse, get_or-take, get_or_at, length-drop, length-map, length-replicate, length-reverse, length-set, length-take, length-take-le, length_push, map-append, map-set, nil_from_length, replicate-append-replicate, reverse-append, reverse-reverse, take-append-drop, take-append-le, take-take, take_all, set-get_or, take-set, drop-set-lt, take_more, drop_more, get_or-set_same, get_or_append_left, get_or-map, set_past, take-replicate, get_or-replicate}
@@ -37,7 +37,7 @@ pub use Rattle.rl_base.specs.Clusters.{bytes_in, clusters, next_pos, prev_pos}
 pub use Rattle.rl_base.specs.Event.{Cursors, Delete, Event, InsertChar, InsertStr, Replace, Stop}
 pub use Rattle.rl_base.specs.Gathered.{BeginsBlank, Gathering, IsPackedAt, texts}
 pub use Rattle.rl_base.specs.KillGroups.{AllKills, Clears, Doing, Groups, Hears, Kills, NoPops, Pops, Resets, Yanks, all_joined, group_do, group_done, group_step, groups_of, grown, no_groups, ring_do, ring_done, with_deletion, with_kill}
-pub use Rattle.rl_base.specs.KillRing.{IsRing, Ring, after_deletion, back_from, behind, cleared, cut_to, fitting, goes_after, in_new_slot, index_before, join_at, killed, killed_as, left_with, lent, new_index, new_ring, newest_first, next_index, popped_ring, put_at, raised, resized, ring_step, ruled, side_mode, size_of, text_back, turned, with_newest, within_bytes, yank, yank_popped, yank_size, yanked}
+pub use Rattle.rl_base.specs.KillRing.{FitsLast, IsRing, Ring, after_deletion, back_from, behind, cleared, cut_to, fitting, goes_after, in_new_slot, index_before, join_at, killed, killed_as, left_with, lent, new_index, new_ring, newest_first, next_index, popped_ring, put_at, raised, resized, ring_step, ruled, side_mode, size_of, text_back, turned, with_newest, within_bytes, yank, yank_popped, yank_size, yanked}
 pub use Rattle.rl_base.specs.Lines.{bytes_of, end_of_line, is_newline, last_line, line_number, lines, start_of_line, text_of_line}
 pub use Rattle.rl_base.specs.Notes.{Cuts, KeepsRoom, Notes, bytes_kept, notes}
 pub use Rattle.rl_base.specs.Reports.{AsOne, HasTexts, IsChange, IsLineText, IsQueue, LacksTexts, Leads, LeadsBy, Noted, Queue, ReadsTexts, ReadsWhole, Stand, Tells, WaitLeads, Waiting, Whole, after_texts, apart, as_one, has_room_in, is_change, joined_cursors, kept, new_queue, noted, nothing_joined, noting, oldest, on_last, past_oldest, queue_step, reports_of, splice_of, taken_in, text_bytes, texts_of, told_cursors, told_note, told_whole, waiting_of, with_cursors, with_note}

@@ -1,5 +1,5 @@
 -- A ring of killed texts, and what each of its steps makes of it.
-use Rattle.std.specs.Prelude.{◌≡◌, ℕ, ◌+◌, ◌-◌, ◌^◌, ◌==◌, nat_le, nat_lt, zero, suc, Bool, true, false, List, [], ◌∷◌, ◌++◌, max, ◌<◌, ◌≤◌, ◌⊎◌, length, slice_set, slice_get, Option, Some, None, option_map, if◌then◌else◌, take, drop, reverse}
+use Rattle.std.specs.Prelude.{◌≡◌, ℕ, ◌+◌, ◌-◌, ◌^◌, ◌==◌, nat_le, nat_lt, zero, suc, Bool, true, false, List, [], ◌∷◌, ◌++◌, max, ◌<◌, ◌≤◌, ◌⊎◌, length, slice_set, slice_get, Option, Some, None, option_map, if◌then◌else◌, take, drop, reverse, ⊤}
 use Rattle.rl_base.specs.declared.kill_ring.Action.{Action}
 use Rattle.rl_base.specs.declared.kill_ring.Action.TheVariants.{Kill, Yank, Other}
 use Rattle.rl_base.specs.declared.kill_ring.Mode.{Mode}
@@ -23,11 +23,19 @@ pub record Ring : Type 0 where
   pub last : Action
   pub killing : Bool
 
+-- the current slot, by its index, is that of what was done last: after a kill it is there, if any may be, and after a yank it has
+-- as many bytes as were yanked
+abbrev pub FitsLast : Action → ℕ → ℕ → List (List ℕ) → Type 0
+FitsLast Kill size index slots = 0 < size → index < length slots
+FitsLast (Yank bytes) size index slots = option_map length (slice_get slots index) ≡ Some bytes
+FitsLast Other size index slots = ⊤
+
 -- no more slots than the size, and both indices are those of slots, or 0 if there is none
 pub record IsRing (r : Ring) : Type 0 where
   pub within : length r.slots ≤ r.size
   pub at_slot : r.index < max 1 (length r.slots)
   pub newest_at_slot : r.newest < max 1 (length r.slots)
+  pub last_fits : FitsLast r.last r.size r.index r.slots
 
 -- a ring without slots, whose new kills go after the current text
 abbrev pub new_ring : ℕ → Ring

@@ -159,10 +159,10 @@ impl KillRing {
     pub fn clear(&mut self)
         ensures { self.new ≡ cleared self.old }
     {
+        self.reset();
         self.slots.clear();
         self.index = 0;
         self.newest = 0;
-        self.reset();
     }
 
     /// Drops its oldest texts as long as all together have more than `bytes` bytes; `usize::MAX` is no bound. It costs a
@@ -202,8 +202,7 @@ impl KillRing {
             self.index = self.newest - back;
             return;
         }
-        self.index = self.newest;
-        self.reset();
+        (self.index, self.last) = (self.newest, Action::Other);
     }
 
     /// The current text, `None` if there is none (GNU readline: yank): the one that was killed last, or that
@@ -228,6 +227,7 @@ impl KillRing {
         let Action::Yank(size) = self.last else {
             return None;
         };
+        self.reset();
         self.index = index_before(self.index, self.slots.all());
         let slot = self.yank()?;
         Some((size, slot))

@@ -1,5 +1,5 @@
 -- Which texts of a ring fit a bound, and the ring of its newest texts alone.
-use Rattle.rl_base.proofs.Common.{◌≡◌, ℕ, ◌+◌, ◌-◌, ◌<◌, ◌≤◌, Bool, true, false, cond, min, List, [], ◌∷◌, ◌++◌, length, take, drop, get_or, reverse, None, refl, sym, ap, ◌∙◌, inl, inr, arith, slice_get, drop_more, drop_all, take_at, take-append-drop, reverse-append, reverse-reverse, length-reverse, length-append, length-take, length-drop, length-map, map-append, ap₂, ◌^◌, ◌==◌, cond-true, cond-false, nat_le, nat_lt, Gathering, texts, Ring, IsRing, Other, back_from, newest_first, fitting, left_with, with_newest, cut_to, resized, within_bytes, Action, NewKill, cases_lt, eq-eqb, unwrap_or, zero, suc, sum_by-append, sum_by-cons, take_all, take_more, length-take-le, eqb-true, eqb-false, sum_by, put_at, join_at, Mode, slice_set}
+use Rattle.rl_base.proofs.Common.{◌≡◌, ℕ, ◌+◌, ◌-◌, ◌<◌, ◌≤◌, Bool, true, false, cond, min, List, [], ◌∷◌, ◌++◌, length, take, drop, get_or, reverse, None, refl, sym, ap, ◌∙◌, inl, inr, arith, slice_get, drop_more, drop_all, take_at, take-append-drop, reverse-append, reverse-reverse, length-reverse, length-append, length-take, length-drop, length-map, map-append, ap₂, ◌^◌, ◌==◌, cond-true, cond-false, nat_le, nat_lt, Gathering, texts, Ring, IsRing, Other, back_from, newest_first, fitting, left_with, with_newest, cut_to, resized, within_bytes, Action, NewKill, cases_lt, eq-eqb, unwrap_or, zero, suc, sum_by-append, sum_by-cons, take_all, take_more, length-take-le, Some, option_map, FitsLast, Kill, Yank, behind, slice_get-get_or, get_or_append_left, get_or-append-add, get_or-reverse, get_or-take, get_or-drop, leb-true, leb-false, ltb-true, eqb-true, eqb-false, sum_by, put_at, join_at, Mode, slice_set}
 use Rattle.std.proofs.lemmas.List.{drop-map, get_or_past, take-map, take_min}
 use Rattle.std.proofs.lemmas.List.Sums.{sum_by-set}
 use Rattle.std.proofs.lemmas.Option.{unwrap_or-slice_get}
@@ -186,16 +186,18 @@ kept_newest xs rotated ys n kept turn gone by turned count rest =
     ∙ ap₂ (λ (a b : List Gathering). a ++ b) (drop_min (n + 1) xs) (take_min (n + 1) xs))) ∙ turned-newest xs n kept
 
 -- ---- what a ring keeps by it
--- what holds of the texts that are left, whichever is current and whatever was done last
+-- what holds of the texts that are left, if the current one is among them and if not
 left-keeps : (P : Ring → Type 0) (ts : List (List ℕ)) (back : ℕ) (r : Ring)
-    → ((index : ℕ) (last : Action) → index ≤ length ts - 1 → P (record r { slots = reverse ts; index = index; newest = length ts - 1; last = last }))
+    → (back < length ts → P (record r { slots = reverse ts; index = length ts - 1 - back; newest = length ts - 1 }))
+    → P (record r { slots = reverse ts; index = length ts - 1; newest = length ts - 1; last = Other })
     → P (left_with ts back r)
-left-keeps P ts back r each = by (nat_lt back (length ts))
+left-keeps P ts back r stays goes = by (nat_lt back (length ts)) refl
   where
-    by : (b : Bool) → P (cond b (record r { slots = reverse ts; index = length ts - 1 - back; newest = length ts - 1 })
+    by : (b : Bool) → nat_lt back (length ts) ≡ b
+        → P (cond b (record r { slots = reverse ts; index = length ts - 1 - back; newest = length ts - 1 })
         (record r { slots = reverse ts; index = length ts - 1; newest = length ts - 1; last = Other }))
-    by true = each (length ts - 1 - back) r.last (omega arith)
-    by false = each (length ts - 1) Other (omega arith)
+    by true at = stays (ltb-true back (length ts) at)
+    by false at = goes
 
 module _ (P : Ring → Type 0) (r : Ring) (left : (kept : ℕ) → P (with_newest kept r)) (stays : P r) where
   cut_to-keeps : (bytes : ℕ) → P (cut_to bytes r)
@@ -236,29 +238,99 @@ within-whole bytes r le =
 
 -- texts that fit the size are a ring, the newest last
 IsRing-texts : (size : ℕ) (rule : NewKill) (ts : List (List ℕ)) (index : ℕ) (last : Action) (killing : Bool) → length ts ≤ size → index ≤ length ts - 1
+    → FitsLast last size index (reverse ts)
     → IsRing (record { size = size; rule = rule; slots = reverse ts; index = index; newest = length ts - 1; last = last; killing = killing })
-IsRing-texts size rule ts index last killing fit at =
+IsRing-texts size rule ts index last killing fit at fits =
     let len = length-reverse ts in
-    record { within = omega (arith, len, fit); at_slot = omega (arith, len, at); newest_at_slot = omega (arith, len) }
+    record { within = omega (arith, len, fit); at_slot = omega (arith, len, at); newest_at_slot = omega (arith, len); last_fits = fits }
+
+-- the current text stands as many before the newest as `behind` says
+behind-is : (newest index : ℕ) (slots : List (List ℕ)) → index < length slots → newest < length slots
+    → get_or (back_from newest slots) (behind newest index (length slots)) [] ≡ get_or slots index []
+behind-is newest index slots at new = by (nat_le index newest) refl
+  where
+    front : List (List ℕ)
+    front = take (newest + 1) slots
+
+    back : List (List ℕ)
+    back = drop (newest + 1) slots
+
+    long : length (reverse front) ≡ newest + 1
+    long = omega (arith, length-reverse front, length-take (newest + 1) slots)
+
+    by : (b : Bool) → nat_le index newest ≡ b
+        → get_or (reverse front ++ reverse back) (cond b (newest - index) (newest + (length slots - index))) [] ≡ get_or slots index []
+    by true e =
+        let le = leb-true index newest e in
+        let place : length front - 1 - (newest - index) ≡ index = omega (arith, long, length-reverse front) in
+        get_or_append_left (reverse front) (reverse back) [] (newest - index) (omega (arith, long))
+        ∙ get_or-reverse front (newest - index) [] (omega (arith, long, length-reverse front))
+        ∙ ap (λ i. get_or front i []) place ∙ get_or-take (newest + 1) slots index [] (omega arith)
+    by false e =
+        let gt = leb-false index newest e in
+        let k = length slots - index - 1 in
+        let size = length-drop (newest + 1) slots in
+        let place : newest + (length slots - index) ≡ length (reverse front) + k = omega (arith, long) in
+        let last : newest + 1 + (length back - 1 - k) ≡ index = omega (arith, size) in
+        ap (λ i. get_or (reverse front ++ reverse back) i []) place ∙ get_or-append-add (reverse front) (reverse back) k []
+        ∙ get_or-reverse back k [] (omega (arith, size)) ∙ get_or-drop (newest + 1) slots (length back - 1 - k) [] ∙ ap (λ i. get_or slots i []) last
+
+-- so it stays the current one, if that many are left
+current-stays : (kept : ℕ) (r : Ring) (ts : List (List ℕ)) (back : ℕ) → ts ≡ take kept (newest_first r) → back ≡ behind r.newest r.index (length r.slots) → IsRing r
+    → back < length ts → slice_get (reverse ts) (length ts - 1 - back) ≡ slice_get r.slots r.index
+current-stays kept r ts back is by h at =
+    let whole = length-back r.slots r.newest in
+    let some : 0 < length r.slots = omega (arith, at, ap length is, length-take kept (newest_first r), whole) in
+    let there = h.at_slot in
+    let new = h.newest_at_slot in
+    let place : length ts - 1 - (length ts - 1 - back) ≡ back = omega (arith, at) in
+    slice_get-get_or (reverse ts) (length ts - 1 - back) [] (omega (arith, length-reverse ts, at))
+    ∙ ap (λ (t : List ℕ). Some t) (get_or-reverse ts (length ts - 1 - back) [] (omega (arith, at)) ∙ ap (λ i. get_or ts i []) place
+    ∙ ap (λ l. get_or l back []) is ∙ get_or-take kept (newest_first r) back [] (omega (arith, at, ap length is, length-take kept (newest_first r)))
+    ∙ ap (λ i. get_or (newest_first r) i []) by ∙ behind-is r.newest r.index r.slots (omega arith) (omega arith))
+    ∙ sym (slice_get-get_or r.slots r.index [] (omega arith))
+
+-- and is that of what was done last
+stays-FitsLast : (last : Action) (size left index at : ℕ) (slots ts : List (List ℕ)) → at < length ts → slice_get ts at ≡ slice_get slots index
+    → FitsLast last size index slots → FitsLast last left at ts
+stays-FitsLast Kill size left index at slots ts there same fits = λ _. there
+stays-FitsLast (Yank bytes) size left index at slots ts there same fits = ap (option_map length) same ∙ fits
+stays-FitsLast Other size left index at slots ts there same fits = tt
+
+module _ (kept size : ℕ) (r : Ring) (fit : length (take kept (newest_first r)) ≤ size) (h : IsRing r) where
+  abbrev left_back : ℕ
+  left_back = behind r.newest r.index (length r.slots)
+
+  -- the texts that are left, in a ring of another size
+  ring-stays : (ts : List (List ℕ)) → ts ≡ take kept (newest_first r) → left_back < length ts
+      → IsRing (record { size = size; rule = r.rule; slots = reverse ts; index = length ts - 1 - left_back; newest = length ts - 1; last = r.last; killing = r.killing })
+  ring-stays ts is at =
+      let there : length ts - 1 - left_back < length (reverse ts) = omega (arith, length-reverse ts, at) in
+      IsRing-texts size r.rule ts (length ts - 1 - left_back) r.last r.killing (rw is fit) (omega arith)
+      (stays-FitsLast r.last r.size size r.index (length ts - 1 - left_back) r.slots (reverse ts) there (current-stays kept r ts left_back is refl h at) h.last_fits)
+
+  ring-goes : (ts : List (List ℕ)) → ts ≡ take kept (newest_first r)
+      → IsRing (record { size = size; rule = r.rule; slots = reverse ts; index = length ts - 1; newest = length ts - 1; last = Other; killing = r.killing })
+  ring-goes ts is = IsRing-texts size r.rule ts (length ts - 1) Other r.killing (rw is fit) (omega arith) tt
 
 pub IsRing-newest : (kept : ℕ) (r : Ring) → IsRing r → IsRing (with_newest kept r)
 IsRing-newest kept r h =
     let ts = take kept (newest_first r) in
     let fit : length ts ≤ r.size = omega (arith, length-take kept (newest_first r), length-back r.slots r.newest, h.within) in
-    left-keeps IsRing ts _ r (λ index last at. IsRing-texts r.size r.rule ts index last r.killing fit at)
+    left-keeps IsRing ts (left_back kept r.size r fit h) r (ring-stays kept r.size r fit h ts refl) (ring-goes kept r.size r fit h ts refl)
 
 pub IsRing-resized : (size : ℕ) (r : Ring) → IsRing r → IsRing (resized size r)
 IsRing-resized size r h =
     let ts = take size (newest_first r) in
     let fit : length ts ≤ size = omega (arith, length-take size (newest_first r)) in
     resized-keeps IsRing size r
-    (left-keeps (λ k. IsRing (record k { size = size })) ts _ r (λ index last at. IsRing-texts size r.rule ts index last r.killing fit at)) h
+    (left-keeps (λ k. IsRing (record k { size = size })) ts (left_back size size r fit h) r (ring-stays size size r fit h ts refl) (ring-goes size size r fit h ts refl)) h
 
 pub IsRing-within : (bytes : ℕ) (r : Ring) → IsRing r → IsRing (within_bytes bytes r)
 IsRing-within bytes r h = within_bytes-keeps IsRing r (λ kept. IsRing-newest kept r h) h bytes
 
 killing-newest : (kept : ℕ) (r : Ring) → (with_newest kept r).killing ≡ r.killing
-killing-newest kept r = left-keeps (λ k. k.killing ≡ r.killing) (take kept (newest_first r)) _ r (λ index last at. refl)
+killing-newest kept r = left-keeps (λ k. k.killing ≡ r.killing) (take kept (newest_first r)) _ r (λ _. refl) refl
 
 pub killing-within : (bytes : ℕ) (r : Ring) → (within_bytes bytes r).killing ≡ r.killing
 killing-within bytes r = within_bytes-keeps (λ k. k.killing ≡ r.killing) r (λ kept. killing-newest kept r) refl bytes

@@ -1,9 +1,9 @@
 -- The ring's slots are the latest groups of kills.
-use Rattle.rl_base.proofs.Common.{◌≡◌, ℕ, ◌+◌, ◌<◌, zero, suc, Bool, true, false, List, [], ◌∷◌, ◌++◌, length, take, Option, Some, None, inl, inr, refl, sym, ap, subst, ◌∙◌, arith, false_from_ne_true, slice_get_cases, max, slice_get, Event, InsertChar, InsertStr, Delete, Replace, Stop, Cursors, Action, Kill, Yank, Other, Mode, Ring, in_new_slot, new_ring, side_mode, next_index, killed_as, killed, yank, lent, after_deletion, newest_first, ring_step, IsRing, Doing, Kills, Resets, Yanks, Hears, ring_done, Groups, no_groups, grown, with_kill, with_deletion, group_step, group_do, group_done, groups_of, AllKills, all_joined, take-nil, slice_get_past, goes_after, new_index, AfterCurrent, AfterNewest, NewKill, Pops, Clears, NoPops, cleared, ruled, yank_popped, popped_ring, turned, index_before, size_of, back_from, join_at}
+use Rattle.rl_base.proofs.Common.{◌≡◌, ℕ, ◌+◌, ◌<◌, zero, suc, Bool, true, false, List, [], ◌∷◌, ◌++◌, length, take, Option, Some, None, inl, inr, refl, sym, ap, subst, ◌∙◌, arith, false_from_ne_true, slice_get_cases, max, slice_get, Event, InsertChar, InsertStr, Delete, Replace, Stop, Cursors, Action, Kill, Yank, Other, Mode, Ring, in_new_slot, new_ring, side_mode, next_index, killed_as, killed, yank, lent, after_deletion, newest_first, ring_step, FitsLast, IsRing, option_map, Doing, Kills, Resets, Yanks, Hears, ring_done, Groups, no_groups, grown, with_kill, with_deletion, group_step, group_do, group_done, groups_of, AllKills, all_joined, take-nil, slice_get_past, goes_after, new_index, AfterCurrent, AfterNewest, NewKill, Pops, Clears, NoPops, cleared, ruled, yank_popped, popped_ring, turned, index_before, size_of, back_from, join_at}
 use Rattle.rl_base.specs.Event.{Start}
 use Rattle.rl_base.specs.KillRing.{joined}
 use Rattle.rl_base.proofs.Ring.RingLemmas.{IsRing-in_new_slot, length-join}
-use Rattle.rl_base.proofs.Ring.SlotLemmas.{Puts, puts, take-grown, back-join, yank-back}
+use Rattle.rl_base.proofs.Ring.SlotLemmas.{Puts, before-below, puts, take-grown, back-join, turned-lends, yank-back}
 
 abbrev is_kill : Action → Bool
 is_kill Kill = true
@@ -60,7 +60,7 @@ module _ (Calm : Type 0) (rule : NewKill) where
   killed-holds zero last text mode r g l h = record {
     size_is = h.size_is;
     rule_is = h.rule_is;
-    ring = record { within = h.ring.within; at_slot = h.ring.at_slot; newest_at_slot = h.ring.newest_at_slot };
+    ring = record { within = h.ring.within; at_slot = h.ring.at_slot; newest_at_slot = h.ring.newest_at_slot; last_fits = λ some. absurd (omega (arith, h.size_is, some)) };
     lists = h.lists;
     growing_is = λ _. refl;
     killing_is = h.killing_is;
@@ -78,7 +78,12 @@ module _ (Calm : Type 0) (rule : NewKill) where
       record {
         size_is = h.size_is;
         rule_is = h.rule_is;
-        ring = record { within = rw len h.ring.within; at_slot = rw len h.ring.at_slot; newest_at_slot = rw len h.ring.newest_at_slot };
+        ring = record {
+          within = rw len h.ring.within;
+          at_slot = rw len h.ring.at_slot;
+          newest_at_slot = rw len h.ring.newest_at_slot;
+          last_fits = λ _. (let at = h.ring.at_slot in let some = any.0 in omega (arith, len));
+        };
         lists = ap (λ i. back_from r.newest (join_at i mode text r.slots)) any.1
             ∙ back-join r.slots g.groups r.newest (suc n) text mode (let at = h.ring.newest_at_slot in let some = any.0 in omega arith) (omega arith) h.lists
             ∙ ap (λ b. take (suc n) (grown b text mode g.groups)) grows;
@@ -95,13 +100,13 @@ module _ (Calm : Type 0) (rule : NewKill) where
       subst (λ k. Has n (killed_as k r.last text mode r) (with_kill text mode g)) (sym h.size_is) (killed-holds n r.last text mode r g refl h)
 
   -- with another last action or flag the ring has the same slots
-  same_slots-holds : (n : ℕ) (last : Action) (kills grows : Bool) (r : Ring) (g : Groups) → Has n r g → (0 < n → is_kill last ≡ grows)
-      → (grows ≡ true → 0 < n → (0 < length r.slots) × (r.index ≡ r.newest))
+  same_slots-holds : (n : ℕ) (last : Action) (kills grows : Bool) (r : Ring) (g : Groups) → FitsLast last r.size r.index r.slots → Has n r g
+      → (0 < n → is_kill last ≡ grows) → (grows ≡ true → 0 < n → (0 < length r.slots) × (r.index ≡ r.newest))
       → Has n (record r { last = last; killing = kills }) (record { groups = g.groups; growing = grows; killing = kills })
-  same_slots-holds n last kills grows r g h e begun = record {
+  same_slots-holds n last kills grows r g fits h e begun = record {
     size_is = h.size_is;
     rule_is = h.rule_is;
-    ring = record { within = h.ring.within; at_slot = h.ring.at_slot; newest_at_slot = h.ring.newest_at_slot };
+    ring = record { within = h.ring.within; at_slot = h.ring.at_slot; newest_at_slot = h.ring.newest_at_slot; last_fits = fits };
     lists = h.lists;
     growing_is = e;
     killing_is = refl;
@@ -111,30 +116,30 @@ module _ (Calm : Type 0) (rule : NewKill) where
     calm = h.calm;
   }
 
-  closed-holds : (n : ℕ) (last : Action) (r : Ring) (g : Groups) → (0 < n → is_kill last ≡ false) → Has n r g
-      → Has n (record r { last = last }) (record g { growing = false })
-  closed-holds n last r g e h =
+  closed-holds : (n : ℕ) (last : Action) (r : Ring) (g : Groups) → FitsLast last r.size r.index r.slots
+      → (0 < n → is_kill last ≡ false) → Has n r g → Has n (record r { last = last }) (record g { growing = false })
+  closed-holds n last r g fits e h =
       subst (λ b. Has n (record r { last = last }) (record { groups = g.groups; growing = false; killing = b })) h.killing_is
-      (same_slots-holds n last r.killing false r g h e (λ k. cc))
+      (same_slots-holds n last r.killing false r g fits h e (λ k. cc))
 
   flag-holds : (n : ℕ) (b : Bool) (r : Ring) (g : Groups) → Has n r g → Has n (record r { killing = b }) (record g { killing = b })
-  flag-holds n b r g h = same_slots-holds n r.last b g.growing r g h h.growing_is h.begun
+  flag-holds n b r g h = same_slots-holds n r.last b g.growing r g h.ring.last_fits h h.growing_is h.begun
 
   -- a yank that answers nothing finds no slot, and then no group grows
   lent-holds : (n : ℕ) (o : Option (List ℕ)) (r : Ring) (g : Groups) → yank r ≡ o → Has n r g → Has n (lent o r) (record g { growing = false })
-  lent-holds n (Some text) r g e h = closed-holds n (Yank (length text)) r g (λ _. refl) h
+  lent-holds n (Some text) r g e h = closed-holds n (Yank (length text)) r g (ap (option_map length) e) (λ _. refl) h
   lent-holds n None r g e h =
       let none : length r.slots ≡ 0 =
       elim (slice_get_cases r.slots r.index).1 [ inl some ↦ absurd (cc (e, some.2)) | inr past ↦ omega (arith, past.0, h.ring.at_slot) ] in
-      closed-holds n r.last r g (λ some. h.growing_is some ∙ false_from_ne_true g.growing (λ k. let any = (h.begun k some).0 in omega arith)) h
+      closed-holds n r.last r g h.ring.last_fits (λ some. h.growing_is some ∙ false_from_ne_true g.growing (λ k. let any = (h.begun k some).0 in omega arith)) h
 
   -- where Calm does not hold, another text may be the current one
-  moved-holds : (n : ℕ) (last : Action) (index : ℕ) (r : Ring) (g : Groups) → ¬ Calm → index < max 1 (length r.slots) → is_kill r.last ≡ false
+  moved-holds : (n : ℕ) (last : Action) (index : ℕ) (r : Ring) (g : Groups) → ¬ Calm → index < max 1 (length r.slots) → FitsLast last r.size index r.slots → is_kill r.last ≡ false
       → is_kill last ≡ false → Has n r g → Has n (record r { index = index; last = last }) g
-  moved-holds n last index r g pops at was is h = record {
+  moved-holds n last index r g pops at fits was is h = record {
     size_is = h.size_is;
     rule_is = h.rule_is;
-    ring = record { within = h.ring.within; at_slot = at; newest_at_slot = h.ring.newest_at_slot };
+    ring = record { within = h.ring.within; at_slot = at; newest_at_slot = h.ring.newest_at_slot; last_fits = fits };
     lists = h.lists;
     growing_is = λ some. is ∙ sym was ∙ h.growing_is some;
     killing_is = h.killing_is;
@@ -147,24 +152,21 @@ module _ (Calm : Type 0) (rule : NewKill) where
   popped-holds : (n : ℕ) (r : Ring) (g : Groups) → ¬ Calm → Has n r g → Has n (yank_popped r) g
   popped-holds n r g pops h = by r.last refl
     where
-      below : (i : ℕ) → i < max 1 (length r.slots) → index_before i r.slots < max 1 (length r.slots)
-      below zero at = omega arith
-      below (suc i) at = omega arith
-
-      lends : (o : Option (List ℕ)) → is_kill r.last ≡ false → Has n (lent o (turned r)) g
-      lends None was = moved-holds n r.last (index_before r.index r.slots) r g pops (below r.index h.ring.at_slot) was was h
-      lends (Some text) was = moved-holds n (Yank (length text)) (index_before r.index r.slots) r g pops (below r.index h.ring.at_slot) was refl h
+      lends : (m : ℕ) (o : Option (List ℕ)) → Yank m ≡ r.last → yank (turned r) ≡ o → Has n (lent o (turned r)) g
+      lends m None l none = let some = turned-lends m r h.ring (sym l) in absurd (cc (some, none))
+      lends m (Some text) l some =
+          moved-holds n (Yank (length text)) (index_before r.index r.slots) r g pops (before-below r.slots r.index h.ring.at_slot) (ap (option_map length) some) (ap is_kill (sym l)) refl h
 
       by : (last : Action) → last ≡ r.last → Has n (popped_ring (size_of last) r) g
       by Kill e = h
       by Other e = h
-      by (Yank m) e = lends (yank (turned r)) (ap is_kill (sym e))
+      by (Yank m) e = lends m (yank (turned r)) e refl
 
   cleared-holds : (n : ℕ) (r : Ring) (g : Groups) → Has n r g → Has n (cleared r) (record g { groups = []; growing = false })
   cleared-holds n r g h = record {
     size_is = h.size_is;
     rule_is = h.rule_is;
-    ring = record { within = omega arith; at_slot = omega arith; newest_at_slot = omega arith };
+    ring = record { within = omega arith; at_slot = omega arith; newest_at_slot = omega arith; last_fits = tt };
     lists = sym (take-nil n);
     growing_is = λ _. refl;
     killing_is = h.killing_is;
@@ -191,7 +193,7 @@ module _ (Calm : Type 0) (rule : NewKill) where
   done-holds : (n : ℕ) (ds : List Doing) (r : Ring) (g : Groups) → (Calm → NoPops ds) → Has n r g → Has n (ring_done ds r) (group_done ds g)
   done-holds n [] r g pops h = h
   done-holds n (Kills text mode ∷ ds) r g pops h = done-holds n ds _ _ pops (kill-holds n text mode r g h)
-  done-holds n (Resets ∷ ds) r g pops h = done-holds n ds _ _ pops (closed-holds n Other r g (λ _. refl) h)
+  done-holds n (Resets ∷ ds) r g pops h = done-holds n ds _ _ pops (closed-holds n Other r g tt (λ _. refl) h)
   done-holds n (Yanks ∷ ds) r g pops h = done-holds n ds _ _ pops (lent-holds n (yank r) r g refl h)
   done-holds n (Pops ∷ ds) r g pops h = done-holds n ds _ _ (λ c. absurd (pops c)) (popped-holds n r g pops h)
   done-holds n (Clears ∷ ds) r g pops h = done-holds n ds _ _ pops (cleared-holds n r g h)
@@ -201,7 +203,7 @@ module _ (Calm : Type 0) (rule : NewKill) where
   holds n ds calm pops = done-holds n ds (ruled rule (new_ring n)) no_groups pops (record {
     size_is = refl;
     rule_is = refl;
-    ring = record { within = omega arith; at_slot = omega arith; newest_at_slot = omega arith };
+    ring = record { within = omega arith; at_slot = omega arith; newest_at_slot = omega arith; last_fits = tt };
     lists = sym (take-nil n);
     growing_is = λ _. refl;
     killing_is = refl;

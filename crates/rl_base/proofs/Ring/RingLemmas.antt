@@ -68,7 +68,7 @@ pub IsRing-in_new_slot : (text : List ℕ) (r : Ring) → 0 < r.size → IsRing 
 IsRing-in_new_slot text r some h =
     let n = new_index-is r some h in
     let l = length-put r.slots (new_index r) r.size text n.after n.below h.within in
-    record { within = l.0; at_slot = omega arith; newest_at_slot = omega arith }
+    record { within = l.0; at_slot = omega arith; newest_at_slot = omega arith; last_fits = λ _. l.1 }
 
 -- ---- in the code's list
 -- another slot is written over one

@@ -1,5 +1,5 @@
 -- The slots from the current one back, round the ring.
-use Rattle.rl_base.proofs.Common.{◌≡◌, ℕ, ◌+◌, ◌-◌, ◌<◌, ◌≤◌, zero, suc, true, List, [], ◌∷◌, ◌++◌, length, take, drop, get_or, reverse, Option, None, Some, refl, ap, sym, ◌∙◌, ◌⊎◌, inl, inr, arith, cases_lt, append-nil, append_assoc, reverse-append, length-reverse, length-append, length-take, length-drop, length-set, take_at, take-take, take-set, take_all, drop_all, drop-set-lt, take_more, drop_more, get_or-set_same, get_or_append_left, slice_get-get_or, slice_get_past, cond-true, eq-eqb, max, ◌==◌, slice_get, slice_set, Mode, Ring, IsRing, Gathering, length-map, texts, subst, get_or-map, raised, next_index, put_at, back_from, join_at, grown, lent, yank, yank_size, yank_popped, popped_ring, turned, index_before, text_back}
+use Rattle.rl_base.proofs.Common.{◌≡◌, ℕ, ◌+◌, ◌-◌, ◌<◌, ◌≤◌, zero, suc, true, List, [], ◌∷◌, ◌++◌, length, take, drop, get_or, reverse, Option, None, Some, refl, ap, sym, ◌∙◌, ◌⊎◌, inl, inr, arith, cases_lt, append-nil, append_assoc, reverse-append, length-reverse, length-append, length-take, length-drop, length-set, take_at, take-take, take-set, take_all, drop_all, drop-set-lt, take_more, drop_more, get_or-set_same, get_or_append_left, slice_get-get_or, slice_get_past, cond-true, eq-eqb, max, ◌==◌, slice_get, slice_set, Mode, Ring, IsRing, Gathering, length-map, texts, subst, get_or-map, raised, next_index, put_at, back_from, join_at, grown, lent, yank, yank_size, FitsLast, Yank, option_map, slice_get_cases, yank_popped, popped_ring, turned, index_before, text_back}
 use Rattle.rl_base.specs.KillRing.{joined}
 use Rattle.rl_base.proofs.Ring.RingLemmas.{Next, join-is, next_index-is, put-over}
 
@@ -57,6 +57,24 @@ turned-back slots i back at below =
     ∙ ap (λ (t : List ℕ). Some t) (get_or_append_left (around i slots) (get_or slots i [] ∷ []) [] back within)
     ∙ sym (ap (λ l. slice_get l (back + 1)) (back-at slots i at) ∙ ap (slice_get (get_or slots i [] ∷ around i slots)) next
     ∙ slice_get-get_or (around i slots) back [] within)
+
+-- the slot before is one
+pub before-below : (slots : List (List ℕ)) (i : ℕ) → i < max 1 (length slots) → index_before i slots < max 1 (length slots)
+before-below slots zero at = omega arith
+before-below slots (suc i) at = omega arith
+
+-- after a yank there is one
+yanked-within : (bytes index : ℕ) (slots : List (List ℕ)) → option_map length (slice_get slots index) ≡ Some bytes → index < length slots
+yanked-within bytes index slots fits = elim (slice_get_cases slots index).1 [
+  | inl some ↦ some.1
+  | inr past ↦ absurd (cc (past.1, fits))
+]
+
+pub turned-lends : (bytes : ℕ) (r : Ring) → IsRing r → r.last ≡ Yank bytes → yank (turned r) ≡ Some (get_or r.slots (index_before r.index r.slots) [])
+turned-lends bytes r h is =
+    let at = yanked-within bytes r.index r.slots (subst (λ last. FitsLast last r.size r.index r.slots) is h.last_fits) in
+    let below = before-below r.slots r.index h.at_slot in
+    slice_get-get_or r.slots (index_before r.index r.slots) [] (omega arith)
 
 lent-back : (o : Option (List ℕ)) (r : Ring) (back : ℕ) → text_back back (lent o r) ≡ text_back back r
 lent-back None r back = refl

@@ -1,7 +1,8 @@
 //! A kill ring as bytes, and back.
-ghost use Rattle.std.specs.Prelude.{◌≡◌, ◌-◌, ◌^◌, ◌++◌, List, ℕ, All, IfErr, IfOk, IfSome, OnOk, Some, false, length, min};
+ghost use Rattle.std.specs.Bool.{OnTrue};
+ghost use Rattle.std.specs.Prelude.{◌≡◌, ◌-◌, ◌^◌, ◌++◌, List, ℕ, All, IfErr, IfOk, IfSome, OnOk, Some, false, true, length, min, slice_index};
 ghost use Rattle.rl_base.specs.Gathered.{texts};
-ghost use Rattle.rl_base.specs.KillRing.{IsRing, Ring};
+ghost use Rattle.rl_base.specs.KillRing.{FitsLast, IsRing, Ring};
 ghost use Rattle.rl_base.specs.SavedRing.{IsSavedRing, last_number, ring_numbers, rule_number, saved_ring, yanked_number};
 ghost use Rattle.rl_base.specs.Saving.{IsOfPart, IsSized, Loads, sized_all};
 ghost use Rattle.rl_base.specs.declared.kill_ring.Action.{Action};
@@ -54,12 +55,12 @@ impl KillRing {
         ]
     }
 
-    /// Makes the ring of what `save` put into bytes, and reads them. No kill is on in it. Other bytes make another ring, or
+    /// Makes the ring of what `save` put into bytes, and reads them. No kill is on in it. Bytes that no ring is saved as
     /// are `Damaged`.
     pub fn load(alloc: Global, bytes: &mut Unread) -> Result<KillRing, LoadFault>
         ensures loaded { (ring : Ring) (rest : List ℕ) → IsSavedRing ring → bytes.old ≡ saved_ring ring ++ rest
             → Loads ring result × OnOk result (bytes.new ≡ rest) }
-        ensures idle { IfOk result (λ ring. ring.killing ≡ false) }
+        ensures read { IfOk result (λ ring. (bytes.old ≡ saved_ring ring ++ bytes.new) × IsSavedRing ring) }
         ensures part { IfErr result IsOfPart }
     {
         let mut head = [0; 7];
@@ -73,13 +74,17 @@ impl KillRing {
 
 // The ring of these numbers and slots, if there is one.
 fn ring_of(head: [u64; 7], slots: Slots) -> Option<KillRing>
+    requires { length slots.list.items ≡ slice_index head 6 }
     ensures loaded { (ring : Ring) → IsSavedRing ring → head ≡ ring_numbers ring → texts slots.list.items ≡ ring.slots → result ≡ Some ring }
-    ensures idle { IfSome result (λ ring. ring.killing ≡ false) }
+    ensures read { IfSome result (λ ring. (head ≡ ring_numbers ring) × (texts slots.list.items ≡ ring.slots) × IsRing ring × (ring.killing ≡ false)) }
 {
     let rule = rule_of(head[1])?;
     let last = last_of(head[4], head[5] as usize)?;
     let (size, index, newest) = (head[0] as usize, head[2] as usize, head[3] as usize);
     if slots.len() > size || index.max(newest) >= slots.len().max(1) {
+        return None;
+    }
+    if !fits_last(last, size, index, slots.all()) {
         return None;
     }
     Some(KillRing {
@@ -93,6 +98,21 @@ fn ring_of(head: [u64; 7], slots: Slots) -> Option<KillRing>
     })
 }
 
+// Whether the current slot is that of what was done last.
+fn fits_last(last: Action, size: usize, index: usize, slots: &[Gathered]) -> bool
+    ensures yes { OnTrue result (FitsLast last size index (texts slots.now)) }
+    ensures no { FitsLast last size index (texts slots.now) → result ≡ true }
+{
+    match last {
+        Action::Kill => size == 0 || index < slots.len(),
+        Action::Yank(bytes) => match slots.get(index) {
+            Some(slot) => slot.len() == bytes,
+            None => false,
+        },
+        Action::Other => true,
+    }
+}
+
 fn rule_number(rule: NewKill) -> u64
     ensures { result ≡ rule_number rule }
 {
@@ -103,7 +123,8 @@ fn rule_number(rule: NewKill) -> u64
 }
 
 fn rule_of(number: u64) -> Option<NewKill>
-    ensures { (rule : NewKill) → number ≡ rule_number rule → result ≡ Some rule }
+    ensures loaded { (rule : NewKill) → number ≡ rule_number rule → result ≡ Some rule }
+    ensures read { IfSome result (λ rule. number ≡ rule_number rule) }
 {
     match number {
         0 => Some(NewKill::AfterCurrent),
@@ -132,12 +153,13 @@ fn yanked_number(last: Action) -> u64
 }
 
 fn last_of(number: u64, yanked: usize) -> Option<Action>
-    ensures { (last : Action) → number ≡ last_number last → yanked ≡ yanked_number last → result ≡ Some last }
+    ensures loaded { (last : Action) → number ≡ last_number last → yanked ≡ yanked_number last → result ≡ Some last }
+    ensures read { IfSome result (λ last. (number ≡ last_number last) × (yanked ≡ yanked_number last)) }
 {
-    match number {
-        0 => Some(Action::Kill),
-        1 => Some(Action::Yank(yanked)),
-        2 => Some(Action::Other),
+    match (number, yanked) {
+        (0, 0) => Some(Action::Kill),
+        (1, _) => Some(Action::Yank(yanked)),
+        (2, 0) => Some(Action::Other),
         _ => None,
     }
 }
@@ -157,6 +179,7 @@ fn put_slots(out: &mut Vec<u8>, slots: &[Gathered]) -> Result<(), SaveFault>
 #[tactic(auto, unfolding(crate::specs::Saving::sized_all))]
 fn load_slots(alloc: Global, bytes: &mut Unread, count: u64) -> Result<Slots, LoadFault>
     ensures ok { IfOk result (λ made. (slots : List (List ℕ)) (rest : List ℕ) → length slots ≡ count → All IsSized slots → bytes.old ≡ sized_all slots ++ rest → (texts made.list.items ≡ slots) × (bytes.new ≡ rest)) }
+    ensures read { IfOk result (λ made. (bytes.old ≡ sized_all (texts made.list.items) ++ bytes.new) × (length made.list.items ≡ count) × All IsSized (texts made.list.items)) }
     ensures err { IfErr result (λ f. (slots : List (List ℕ)) (rest : List ℕ) → length slots ≡ count → All IsSized slots → bytes.old ≡ sized_all slots ++ rest → f ≡ NoMemory) }
     ensures part { IfErr result IsOfPart }
 {

@@ -81,7 +81,7 @@ flag-newest r b text n = record { slot_is = n.slot_is; last_is = n.last_is }
 -- the first kill after another action, and one after a kill
 newest-first : (taken : List ℕ) (side : Direction) (r : Ring) → 0 < r.size → IsRing r → IsNoKill r.last → Newest (after_kill taken side r) taken
 newest-first taken side r some h k =
-    flag-newest _ false taken (first_as r.size r.last taken (side_mode side) (record r { killing = true }) refl some (record { within = h.within; at_slot = h.at_slot; newest_at_slot = h.newest_at_slot }) k)
+    flag-newest _ false taken (first_as r.size r.last taken (side_mode side) (record r { killing = true }) refl some (record { within = h.within; at_slot = h.at_slot; newest_at_slot = h.newest_at_slot; last_fits = h.last_fits }) k)
 
 newest-more : (old taken : List ℕ) (side : Direction) (r : Ring) → 0 < r.size → Newest r old → Newest (after_kill taken side r) (joined (side_mode side) old taken)
 newest-more old taken side r some n = grind (arith, flag-newest, more_as)
