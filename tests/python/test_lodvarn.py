@@ -6,6 +6,7 @@ import inspect
 import pickle
 import random
 import re
+import struct
 import subprocess
 import sys
 import tempfile
@@ -541,6 +542,14 @@ def edited(kind=Session):
     return session
 
 
+def recorded(numbers, *entry):
+    """A saved session on the text "one", with a record of these numbers, of one entry: its kind, offsets and texts."""
+    *offsets, old, new = entry
+    heads = struct.pack("<6Q", *numbers) + struct.pack("<6I", *offsets, len(old), len(new))
+    saved = Session("one").save()[:-56] + heads + old + new
+    return saved + xxh64(saved)
+
+
 # What a saved session has, as read_saved.py prints it.
 PRINTED = """text 'né 日本é'
 cursor 12
@@ -634,6 +643,35 @@ class Saved(Scripts):
                     self.assertEqual(Session.load(other).save(), other)
                 else:
                     self.assertRaises(lodvarn.DamagedError, Session.load, other)
+
+    def test_numbers_and_texts_without_a_meaning_raise(self):
+        one, put_in = (1, 1, 0, 0, 0, 0), (2, 0, 0, 0, b"", b"one")
+        for saved in [
+            recorded(one, 0, 0, 0, 0, b"", b""), recorded(one, *put_in), recorded(one, 3, 0, 0, 3, b"", b"one"),
+            recorded(one, 4, 3, 0, 0, b"x", b""), recorded(one, 6, 0, 0, 0, b"x", b"one"),
+            recorded((1, 1, 1, 0, 1, 1), *put_in),
+        ]:
+            self.assertEqual(Session.load(saved).save(), saved)
+        for what, numbers, entry in [
+            ("a begin with a place", one, (0, 3, 0, 0, b"", b"")),
+            ("a begin with a cursor", one, (0, 0, 0, 3, b"", b"")),
+            ("a begin with an old text", one, (0, 0, 0, 0, b"x", b"")),
+            ("a begin with a new text", one, (0, 0, 0, 0, b"", b"x")),
+            ("an insertion with an old text", one, (2, 0, 0, 0, b"x", b"one")),
+            ("a deletion with a new text", one, (4, 3, 0, 0, b"x", b"y")),
+            ("a cursor before of none", one, (4, 3, 3, 0, b"x", b"")),
+            ("a cursor after of none", one, (2, 0, 0, 3, b"", b"one")),
+            ("a kind that is none", one, (8, 0, 0, 0, b"", b"one")),
+            ("a kind as a replacement's", one, (14, 0, 0, 0, b"x", b"one")),
+            ("a cursor kept of none", (1, 1, 0, 3, 0, 0), put_in),
+            ("a boundary that is none", (1, 1, 9, 0, 0, 0), put_in),
+            ("a point that is none", (1, 1, 0, 0, 0, 2), put_in),
+            ("a save that is none", (1, 1, 1, 0, 2, 1), put_in),
+            ("a point past the entries", (1, 1, 0, 0, 1, 2), put_in),
+            ("more recorded than there are", (1, 2, 0, 0, 0, 0), put_in),
+        ]:
+            with self.subTest(what=what):
+                self.assertRaises(lodvarn.DamagedError, Session.load, recorded(numbers, *entry))
 
     def test_pickle_and_copy_make_another(self):
         by_pickle = [partial(pickle.dumps, protocol=it) for it in range(pickle.HIGHEST_PROTOCOL + 1)]

@@ -1,5 +1,6 @@
 -- Entries and records as bytes.
-use Rattle.rl_line.proofs.Common.{◌≡◌, ◌<◌, ◌+◌, ◌-◌, ◌^◌, ◌∙◌, ◌++◌, [], ℕ, List, arith, length-append, min, take, ap, ap₂, get_or, get_or-map, length-map, map, subst, sym, drop_at, length, refl, take_at, IsUtf8, Change, Entry, Begin, End, Changed, Record, cut_at, entry_of, inverse}
+use Rattle.rl_line.proofs.Common.{◌≡◌, ◌<◌, ◌+◌, ◌-◌, ◌^◌, ◌∙◌, ◌++◌, [], ℕ, List, arith, length-append, min, take, ap, ap₂, get_or, get_or-map, length-map, map, subst, sym, drop_at, length, refl, take_at, IsUtf8, Change, Entry, Begin, End, Changed, Record, Option, None, Some, IfOk, IfSome, cut_at, entry_of, inverse}
+use Rattle.std.specs.Option.{ok_or}
 use Rattle.rl_base.specs.Saving.{numbers}
 use Rattle.rl_base.specs.declared.saving.Width.TheVariants.{Eight, Four}
 use Rattle.rl_base.proofs.Texts.SavingLemmas.{length-numbers, put-more}
@@ -57,3 +58,8 @@ cut-here r =
     ap₂ (λ xs ys. record { recorded = xs; pending = ys; fresh = r.fresh; saved = r.saved }) (take_at r.recorded r.pending (length r.recorded) refl) (drop_at r.recorded r.pending (length r.recorded) refl)
 
 pub ruleset records = (cut-here)
+
+-- what holds of what is there
+pub ok-some : {X E : Type 0} (o : Option X) (e : E) (P : X → Type 0) → IfSome o P → IfOk (ok_or o e) P
+ok-some None e P p = tt
+ok-some (Some x) e P p = p

@@ -1,8 +1,10 @@
 //! A record as bytes, and back.
-ghost use Rattle.std.specs.Prelude.{◌≡◌, ◌+◌, ◌-◌, ◌^◌, ◌++◌, List, ℕ, All, IfErr, IfOk, OnOk, Option, Some, length, map, min};
-ghost use Rattle.rl_base.specs.Saving.{IsOfPart, Loads};
+ghost use Rattle.std.specs.Prelude.{◌≡◌, ◌+◌, ◌-◌, ◌^◌, ◌++◌, List, ℕ, All, IfErr, IfOk, IfSome, OnOk, Option, Some, length, map, min};
+ghost use Rattle.rl_base.specs.Saving.{Fits, IsOfPart, Loads};
+ghost use Rattle.rl_base.specs.declared.listeners.Refusal.TheVariants as refused;
 ghost use Rattle.rl_base.specs.declared.saving.LoadFault.TheVariants.{NoMemory};
 ghost use Rattle.rl_base.specs.declared.saving.SaveFault.TheVariants.{TooLong};
+ghost use Rattle.rl_base.specs.declared.saving.Width.TheVariants.{Eight};
 ghost use Rattle.rl_line.specs.Record.{Entry, Record, entry_of, kept_point, new_text, old_text};
 ghost use Rattle.rl_line.specs.SavedRecord.{FitsEntry, IsSavedEntry, IsSavedRecord, entry_number, entry_numbers, fresh_number, kept_number, number_or_0, point_number, record_numbers, saved_entries, saved_entry, saved_record};
 ghost use Rattle.rl_line.specs.Units.{BothMatched};
@@ -14,7 +16,7 @@ use crate::inserted::Inserted;
 use crate::recent::Recent;
 use crate::units;
 use rl_base::saving::put_numbers;
-use rl_base::{Gathered, LoadFault, SaveFault, Unread, Width};
+use rl_base::{Gathered, LoadFault, Refusal, SaveFault, Unread, Width};
 use std::alloc::Global;
 
 // How many bytes an entry has at least.
@@ -57,12 +59,13 @@ impl Changeset {
         ]
     }
 
-    /// Makes the record of what `save` put into bytes, and reads them. Other bytes make another record, whose groups are
-    /// matched too, or are `Damaged`. Whether it is one of a text tells `walks`.
+    /// Makes the record of what `save` put into bytes, and reads them. Other bytes are `Damaged`: of whatever it makes,
+    /// `save` puts the very bytes that were read. Whether it is one of a text tells `walks`.
     #[tactic(auto, unfolding(crate::specs::SavedRecord::saved_record))]
     pub fn load(alloc: Global, bytes: &mut Unread) -> Result<Changeset, LoadFault>
         ensures loaded { (r : Record) (rest : List ℕ) → IsSavedRecord r → bytes.old ≡ saved_record r ++ rest
             → Loads r result × OnOk result (bytes.new ≡ rest) }
+        ensures read { IfOk result (λ r. (bytes.old ≡ saved_record r ++ bytes.new) × IsSavedRecord r) }
         ensures part { IfErr result IsOfPart }
     {
         let mut head = [0; 6];
@@ -77,14 +80,20 @@ impl Changeset {
 // The record of these numbers and entries, if there is one.
 #[tactic(auto, using(crate::proofs::Records::SavingLemmas::records))]
 fn record_of(head: [u64; 6], list: Vec<Change>) -> Option<Changeset>
-    ensures { (r : Record) → IsSavedRecord r → head ≡ record_numbers r → map entry_of list.items ≡ r.recorded ++ r.pending → result ≡ Some r }
+    ensures loaded { (r : Record) → IsSavedRecord r → head ≡ record_numbers r → map entry_of list.items ≡ r.recorded ++ r.pending → result ≡ Some r }
+    ensures read { IfSome result (λ r. (head ≡ record_numbers r) × (map entry_of list.items ≡ r.recorded ++ r.pending)
+        × (All (Fits Eight) (record_numbers r) → All IsSavedEntry (r.recorded ++ r.pending) → IsSavedRecord r)) }
 {
-    let fresh = fresh_of(head[2], head[3] as usize)?;
-    let saved = point_of(head[4], head[5] as usize)?;
+    let fresh = fresh_of(head[2], head[3] as usize);
+    let saved = point_of(head[4], head[5] as usize);
     let entries = Recent::of(list, head[1] as usize, fresh, saved)?;
     let level = units::matched_level(entries.recorded())?;
     units::matched_level(entries.pending())?;
-    Some(Changeset { entries, level })
+    let made = Changeset { entries, level };
+    if made.numbers() != head {
+        return None;
+    }
+    Some(made)
 }
 
 fn fresh_number(fresh: Freshness) -> u64
@@ -107,15 +116,15 @@ fn kept_number(fresh: Freshness) -> u64
     }
 }
 
-fn fresh_of(number: u64, kept: usize) -> Option<Freshness>
-    ensures { (fresh : Freshness) → number ≡ fresh_number fresh → kept ≡ kept_number fresh → result ≡ Some fresh }
+// Of a number that stands for no freshness it makes one that has another.
+fn fresh_of(number: u64, kept: usize) -> Freshness
+    ensures { (fresh : Freshness) → number ≡ fresh_number fresh → kept ≡ kept_number fresh → result ≡ fresh }
 {
     match number {
-        0 => Some(Freshness::Stale),
-        1 => Some(Freshness::Parted),
-        2 => Some(Freshness::Added),
-        3 => Some(Freshness::Joined(kept)),
-        _ => None,
+        0 => Freshness::Stale,
+        1 => Freshness::Parted,
+        2 => Freshness::Added,
+        _ => Freshness::Joined(kept),
     }
 }
 
@@ -134,13 +143,12 @@ fn number_or_0(number: Option<usize>) -> u64
     number.unwrap_or(0) as u64
 }
 
-fn point_of(number: u64, point: usize) -> Option<Option<usize>>
-    ensures { (saved : Option ℕ) → number ≡ point_number saved → point ≡ number_or_0 saved → result ≡ Some saved }
+fn point_of(number: u64, point: usize) -> Option<usize>
+    ensures { (saved : Option ℕ) → number ≡ point_number saved → point ≡ number_or_0 saved → result ≡ saved }
 {
     match number {
-        0 => Some(None),
-        1 => Some(Some(point)),
-        _ => None,
+        0 => None,
+        _ => Some(point),
     }
 }
 
@@ -220,11 +228,11 @@ fn put_entries(out: &mut Vec<u8>, changes: &[Change]) -> Result<(), SaveFault>
     Ok(())
 }
 
-// The change of these numbers and texts.
-fn change_of(alloc: Global, head: [u64; 6], old: &str, new: &str) -> Result<Change, LoadFault>
+// The change of these numbers and texts. If they are those of no change, it makes one that has others.
+fn change_of(alloc: Global, head: [u64; 6], old: &str, new: &str) -> Result<Change, Refusal>
     ensures ok { IfOk result (λ change. (e : Entry) → IsSavedEntry e → head ≡ entry_numbers e → old.now ≡ old_text e → new.now ≡ new_text e → entry_of change ≡ e) }
-    ensures err { IfErr result (λ f. (e : Entry) → head ≡ entry_numbers e → f ≡ NoMemory) }
-    ensures part { IfErr result IsOfPart }
+    ensures texts { IfOk result (λ change. length (old_text (entry_of change)) ≡ length old.now → length (new_text (entry_of change)) ≡ length new.now → (old_text (entry_of change) ≡ old.now) × (new_text (entry_of change) ≡ new.now)) }
+    ensures err { IfErr result (λ r. r ≡ refused.NoMemory) }
 {
     let at = head[1] as usize;
     let cursors = if head[0] % 2 == 0 {
@@ -237,19 +245,19 @@ fn change_of(alloc: Global, head: [u64; 6], old: &str, new: &str) -> Result<Chan
         1 => Ok(Change::End),
         2 | 3 => Ok(Change::Insert(cursors, at, Inserted::of_str(alloc, new)?)),
         4 | 5 => Ok(Change::Delete(cursors, at, Gathered::of(alloc, old)?)),
-        6 | 7 => {
+        _ => {
             let before = copied(alloc, old)?;
             let after = copied(alloc, new)?;
             let texts = Box::new(alloc, Texts { before, after })?;
             Ok(Change::Replace(cursors, at, texts))
         }
-        _ => Err(LoadFault::Damaged),
     }
 }
 
 #[tactic(auto, unfolding(crate::specs::SavedRecord::saved_entry))]
 fn load_entry(alloc: Global, bytes: &mut Unread) -> Result<Change, LoadFault>
     ensures ok { IfOk result (λ change. (e : Entry) (rest : List ℕ) → IsSavedEntry e → bytes.old ≡ saved_entry e ++ rest → (entry_of change ≡ e) × (bytes.new ≡ rest)) }
+    ensures read { IfOk result (λ change. (bytes.old ≡ saved_entry (entry_of change) ++ bytes.new) × IsSavedEntry (entry_of change)) }
     ensures err { IfErr result (λ f. (e : Entry) (rest : List ℕ) → IsSavedEntry e → bytes.old ≡ saved_entry e ++ rest → f ≡ NoMemory) }
     ensures part { IfErr result IsOfPart }
 {
@@ -263,12 +271,17 @@ fn load_entry(alloc: Global, bytes: &mut Unread) -> Result<Change, LoadFault>
     let Some(new) = bytes.text(head[5]) else {
         return Err(LoadFault::Damaged);
     };
-    change_of(alloc, head, old, new)
+    let change = change_of(alloc, head, old, new)?;
+    if numbers_of(&change) != head {
+        return Err(LoadFault::Damaged);
+    }
+    Ok(change)
 }
 
 #[tactic(auto, unfolding(crate::specs::SavedRecord::saved_entries))]
 fn load_entries(alloc: Global, bytes: &mut Unread, count: u64) -> Result<Vec<Change>, LoadFault>
     ensures ok { IfOk result (λ made. (es : List Entry) (rest : List ℕ) → length es ≡ count → All IsSavedEntry es → bytes.old ≡ saved_entries es ++ rest → (map entry_of made.items ≡ es) × (bytes.new ≡ rest)) }
+    ensures read { IfOk result (λ made. (bytes.old ≡ saved_entries (map entry_of made.items) ++ bytes.new) × All IsSavedEntry (map entry_of made.items)) }
     ensures err { IfErr result (λ f. (es : List Entry) (rest : List ℕ) → length es ≡ count → All IsSavedEntry es → bytes.old ≡ saved_entries es ++ rest → f ≡ NoMemory) }
     ensures part { IfErr result IsOfPart }
 {

@@ -2,7 +2,11 @@ use Rattle.rl_line.proofs.Common.{◌≡◌, ◌++◌, ℕ, List, length, map, t
 use Rattle.rl_line.specs.SavedRecord.{IsSavedEntry, saved_entries}
 use Rattle.rl_line.proofs.changeset.saved.load_entries.Given as goal
 
--- those so far were read, and the others stand next
+-- those so far were read, and the others stand next; saved again, those so far and what is left are the bytes
 abbrev pub invariant-loop-i : goal.invariant-loop-i
-invariant-loop-i l = (es : List Entry) (rest : List ℕ) → length es ≡ l.count → All IsSavedEntry es → l.fn.bytes ≡ saved_entries es ++ rest
-    → (map entry_of l.made.items ≡ take l.i es) × (l.bytes ≡ saved_entries (drop l.i es) ++ rest)
+invariant-loop-i l = record {
+  read : (es : List Entry) (rest : List ℕ) → length es ≡ l.count → All IsSavedEntry es → l.fn.bytes ≡ saved_entries es ++ rest
+      → (map entry_of l.made.items ≡ take l.i es) × (l.bytes ≡ saved_entries (drop l.i es) ++ rest);
+  again : l.fn.bytes ≡ saved_entries (map entry_of l.made.items) ++ l.bytes;
+  saved : All IsSavedEntry (map entry_of l.made.items);
+}
