@@ -397,15 +397,15 @@ static inline lodvarn_movement lodvarn_to_text_end(void) { return lodvarn_moveme
 LODVARN_CHECK_ int lodvarn_open(lodvarn **out, const lodvarn_options *options, const char *text, size_t len);
 
 /* Opens a session from the bytes that lodvarn_save returned, and sets *out to it. Text, cursor, record, ring and
- * options are as they were; nothing has changed yet, and no reports are kept. Safe for untrusted bytes: at no time does
- * it hold more than 6 * len bytes that it asked for. Errors: UNKNOWN_FORMAT if the bytes do not begin as this version
- * saves them, DAMAGED if their checksum is wrong or the record in them does not lead to their text, NO_MEMORY; they
- * leave *out. */
+ * options are as they were; nothing has changed yet, and no reports are kept. Safe for untrusted bytes: whoever made
+ * them, the session is one that lodvarn_save saves as these bytes; at no time does it hold more than 6 * len bytes that
+ * it asked for. Errors: UNKNOWN_FORMAT if the bytes do not begin as this version saves them, DAMAGED if their checksum
+ * is wrong or no session is saved as them, NO_MEMORY; they leave *out. */
 LODVARN_CHECK_ int lodvarn_load(lodvarn **out, const char *bytes, size_t len);
 
 /* Saves the session: lends it as bytes, which are valid until the next lodvarn_save or lodvarn_close of the session.
- * They are the same on every machine; docs/FORMAT.md describes them. Reports are not saved. A read. Errors: NO_ROOM if
- * the text of an entry has 4 GiB or more, NO_MEMORY. */
+ * They are the same on every machine; docs/FORMAT.md describes them. Reports are not saved. A read. Errors: NO_ROOM only
+ * if the text of an entry has 4 GiB or more, or an offset in one is as great; NO_MEMORY. */
 LODVARN_CHECK_ int lodvarn_save(lodvarn *s, lodvarn_view *bytes);
 
 /* Closes the session, frees its memory, and sets *s to NULL. Does nothing if s or *s is NULL. */

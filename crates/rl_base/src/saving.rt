@@ -102,7 +102,7 @@ impl Width {
     }
 }
 
-/// Puts numbers at the end of bytes, each with its lowest byte first. `TooLong` comes exactly if one does not fit its
+/// Puts numbers at the end of bytes, each with its lowest byte first. `TooLong` comes only if one does not fit its
 /// width.
 #[tactic(auto, unfolding(crate::specs::Saving::numbers))]
 pub fn put_numbers(out: &mut Vec<u8>, width: Width, given: &[u64]) -> Result<(), SaveFault>

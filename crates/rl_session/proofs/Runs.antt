@@ -1,6 +1,7 @@
 -- Runs of a session, and the laws that hold over them.
 pub mod RowLemmas
 pub mod PlaceLemmas
+pub mod HeldLemmas
 pub mod ReportLemmas
 pub mod HistoryLemmas
 pub mod InGroupLemmas

@@ -38,7 +38,7 @@ steps_done (puts_again answer) old new d = steps_ahead old.line.cursor (redo_of 
 steps_done _ old new d = []
 
 -- the texts that were held: those after each event of these steps; where what was undone is kept, those on the way there and
--- back, which were held before
+-- back, all of which were held before (`history::what_is_kept_was_held`)
 abbrev pub held_by : (effect : Effect) (old new : State) → Became effect old new → List (List ℕ)
 held_by (on_record answered call) old new d = texts_of_call call old.pair.changes old.line.text
 held_by effect old new d = texts_of_steps (steps_done effect old new d) old.line.text

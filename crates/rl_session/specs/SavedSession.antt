@@ -46,6 +46,10 @@ saved_state s = saved_line s ++ (saved_ring s.pair.ring ++ saved_record s.pair.c
 abbrev pub heading : List ℕ
 heading = 108 ∷ 111 ∷ 100 ∷ 118 ∷ 97 ∷ 114 ∷ 110 ∷ 1 ∷ []
 
+-- bytes begin as this version begins them
+abbrev pub HasHeading : List ℕ → Type 0
+HasHeading bytes = (inside : List ℕ) × (bytes ≡ heading ++ inside)
+
 -- the checksum of bytes, its lowest byte first
 unfoldable pub checksum : List ℕ → List ℕ
 checksum bytes = to_le_bytes w64 (xxh64 bytes)
@@ -62,7 +66,7 @@ saved_session s = sealed (saved_state s)
 abbrev pub unwatched : State → State
 unwatched s = with_watch new_watch s
 
--- a session that such bytes are read as: its line may not grow past its limit, as that of no session may
+-- a session that such bytes are read as
 pub record IsSavedState (s : State) : Type 0 where
   pub text : IsUtf8 s.line.text
   pub cursor : IsCharBoundary s.line.text s.line.cursor

@@ -26,17 +26,20 @@ pub record Follows (line : Line) (r : Record) : Type 0 where
   pub back : IsSome (line_back r.recorded line)
   pub ahead : IsSome (line_ahead r.pending line)
 
--- what holds between commands: the record leads to the text and on from it, and no kill is on
+-- what holds between commands: the record leads to the text and on from it, no kill is on, and the line has no leave to
+-- grow past its limit
 pub record AtRest (line : Line) (pair : Pair) : Type 0 where
   pub walks : Walks pair.changes line.text
   pub idle : pair.ring.killing ≡ false
+  pub grows_not : line.grow ≡ false
 
--- what holds of every session: a text with the cursor between two of its characters, within the limit, and a ring that
--- hears of no kill
+-- what holds of every session: a text with the cursor between two of its characters, within the limit, past which it may
+-- not grow, and a ring that hears of no kill
 pub record Stands (s : State) : Type 0 where
   pub utf8 : IsUtf8 s.line.text
   pub cursor : IsCharBoundary s.line.text s.line.cursor
   pub within : length s.line.text ≤ s.line.limit
+  pub grows_not : s.line.grow ≡ false
   pub ring : IsRing s.pair.ring
   pub idle : s.pair.ring.killing ≡ false
 
@@ -57,11 +60,6 @@ with_watch watch s = record s { pair = record s.pair { watch = watch } }
 -- the same with another ring
 abbrev pub with_ring : Ring → State → State
 with_ring ring s = record s { pair = record s.pair { ring = ring } }
-
--- a session whose line has no leave to grow past its limit, as that of no session has
-pub record KeepsLimit (s : State) : Type 0 where
-  pub stands : Stands s
-  pub grows_not : s.line.grow ≡ false
 
 -- the same, whose text is saved as it is
 abbrev pub saved_now : State → State

@@ -1,13 +1,14 @@
 //! The laws of a session's history: its record, undo groups, undo and redo, each over rows of a run. A run goes on from a
 //! history (`Holds`): the texts that were held by then, among which the record is placed. A new session and one that was
-//! restarted begin one (`record_is_placed`), and each run goes on with it. After `forget` it is that of the texts from the one
-//! on with which the record then begins (`what_is_left_replays`).
-ghost use Rattle.std.specs.Prelude.{◌≡◌, ◌++◌, ◌∷◌, [], ℕ, List, IsSome, drop, length, suc, true};
+//! restarted begin one (`record_is_placed`), any other has one (`a_session_has_a_history`), and each run goes on with it.
+//! After `forget` it is that of the texts from the one on with which the record then begins (`what_is_left_replays`).
+ghost use Rattle.std.specs.Prelude.{◌≡◌, ◌++◌, ◌∷◌, [], ℕ, All, List, IsSome, Some, drop, length, suc, true};
 ghost use Rattle.rl_line.specs.Record.{Entry, StaysSaved, is_saved, replay_entries};
-ghost use Rattle.rl_line.specs.Units.{BothMatched, has_change, last_of, last_units, level, opens, undone};
+ghost use Rattle.rl_line.specs.Undo.{texts_ahead};
+ghost use Rattle.rl_line.specs.Units.{BothMatched, has_change, last_of, last_units, level, opens, there_and_back, undone};
 ghost use Rattle.rl_session.specs.History.{AllRedone, AllStandInGroup, ClosesGroup, Holds, IsEdit, WasHeld, WasRefused};
 ghost use Rattle.rl_session.specs.Run.{Row, Run, held_of};
-ghost use Rattle.rl_session.specs.State.{Begins, Stands, State, saved_now};
+ghost use Rattle.rl_session.specs.State.{Begins, Ends, Stands, State, origin, saved_now};
 ghost use Rattle.rl_session.specs.declared.session.Command.{Command};
 ghost use Rattle.rl_session.specs.declared.session.Command.TheVariants.{Abandon, Begin, Redo, Undo};
 ghost use Rattle.rl_session.specs.declared.session.Reply.{Reply};
@@ -21,6 +22,21 @@ pub fn record_is_placed()
         → Holds start held old → (run : Run old commands replies new) → Holds start (held ++ held_of run.rows) new }
     ensures redone { (start : List ℕ) (held : List (List ℕ)) (s : State)
         → Holds start held s → IsSome (replay_entries s.pair.changes.pending s.line.text) }
+{}
+
+/// A session has a history even if none is known of it, as of one that was loaded: its recorded changes lead back to a
+/// text, and among those on the way from there to the present one, and on over what was undone, its record is placed. So
+/// each law here holds of it.
+pub fn a_session_has_a_history()
+    ensures { (s : State) → Ends s → BothMatched s.pair.changes
+        → (start : List ℕ) × (origin s ≡ Some start)
+        × Holds start (start ∷ texts_ahead (s.pair.changes.recorded ++ s.pair.changes.pending) start) s }
+{}
+
+/// Where undone changes are kept, the texts there and back, which count as held (`held_by`), were held before.
+pub fn what_is_kept_was_held()
+    ensures { (start : List ℕ) (held : List (List ℕ)) (s : State) → Holds start held s
+        → All (λ (text : List ℕ). WasHeld text held) (texts_ahead (there_and_back s.pair.changes.pending) s.line.text) }
 {}
 
 /// Among the recorded entries, and among the undone ones, every end of a group has its begin, and every closed group

@@ -14,7 +14,7 @@ ghost use Rattle.rl_session.specs.KillRuns.{AnyTook, GivenBack, IsNoKill, NoneRe
 ghost use Rattle.rl_session.specs.Options.{no_bound};
 ghost use Rattle.rl_session.specs.Performing.{AllCallsStandInGroup, AllKilled, Calls, HoldsFrom, MadeUnit, NoneUnites, Performed, PerformedWith, before_unit, put_in, replies_in, rows_of, EndsLast, is_empty_group};
 ghost use Rattle.rl_session.specs.Run.{Leads, held_of};
-ghost use Rattle.rl_session.specs.State.{ChangedFrom, KeepsLimit, ReportedFrom, Stands, State, saved_now, with_ring};
+ghost use Rattle.rl_session.specs.State.{ChangedFrom, ReportedFrom, Stands, State, saved_now, with_ring};
 ghost use Rattle.rl_session.specs.Typing.{TypesBytes};
 ghost use Rattle.rl_session.specs.declared.session.Command.{Command};
 ghost use Rattle.rl_session.specs.declared.session.Command.TheVariants.{Indent, Undo, Yank};
@@ -118,8 +118,8 @@ pub fn what_a_command_changed_is_told()
 
 /// No command changes the limit, or makes the text longer than it.
 pub fn the_limit_stays()
-    ensures { (old new : State) (command : Command) (reply : Reply) → Performed old command reply new → KeepsLimit old
-        → KeepsLimit new × (new.line.limit ≡ old.line.limit) }
+    ensures { (old new : State) (command : Command) (reply : Reply) → Performed old command reply new → Stands old
+        → Stands new × (new.line.limit ≡ old.line.limit) }
 {}
 
 /// An undo leaves as many groups open as were open before it: it takes back what was done in the group that was opened last,

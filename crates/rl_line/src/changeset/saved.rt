@@ -24,7 +24,7 @@ const ENTRY: usize = 24;
 
 impl Changeset {
     /// Puts the record at the end of bytes, from which `load` makes it again. Refused, it leaves any bytes. `TooLong` comes
-    /// exactly if a text of it has 4 GiB or more, or a place is as far.
+    /// only if a text of it has 4 GiB or more, or a place is as far.
     #[tactic(auto, unfolding(crate::specs::SavedRecord::saved_record))]
     pub fn save(&self, out: &mut Vec<u8>) -> Result<(), SaveFault>
         ensures ok { OnOk result (out.new.items ≡ out.old.items ++ saved_record self.now) }

@@ -8,7 +8,6 @@ use Rattle.rl_line.specs.Record.{parted}
 use Rattle.rl_line.specs.declared.changeset.UnitStart.{UnitStart}
 use Rattle.rl_line.specs.declared.change.Freshness.TheVariants.{Parted}
 use Rattle.rl_session.specs.History.{History}
-use Rattle.rl_session.specs.State.{KeepsLimit}
 use Rattle.rl_session.specs.declared.session.Command.TheVariants.{Abandon, Begin, Copy, EditWord, End, EndOne, Indent, Keep, KeepUndone, LinePlace, Move, Part, Reopen, SetPos, TransposeChars, TransposeWords, Truncate, Update, YankPop}
 use Rattle.rl_session.specs.declared.session.Fault.TheVariants.{NoMemory}
 use Rattle.rl_session.specs.declared.session.Reply.TheVariants as says
@@ -284,7 +283,7 @@ undo-Obeyed held old new n reply h (inr (inr done)) allowed =
 
 -- ---- what another record leaves, and forgetting
 pub Stands-changes : (changes : Record) (s : State) → Stands s → Stands (with_changes changes s)
-Stands-changes changes s h = record { utf8 = h.utf8; cursor = h.cursor; within = h.within; ring = h.ring; idle = h.idle }
+Stands-changes changes s h = record { utf8 = h.utf8; cursor = h.cursor; within = h.within; grows_not = h.grows_not; ring = h.ring; idle = h.idle }
 
 pub Stands-forgets : (s : State) → Stands s → Stands (within_bound s)
 Stands-forgets s h =
@@ -293,6 +292,7 @@ Stands-forgets s h =
       utf8 = h.utf8;
       cursor = h.cursor;
       within = h.within;
+      grows_not = h.grows_not;
       ring = IsRing-within bytes s.pair.ring h.ring;
       idle = killing-within bytes s.pair.ring ∙ h.idle;
     }
@@ -333,9 +333,9 @@ carried-edits (Undo n) s = refl
 carried-edits _ s = refl
 
 abbrev LimitStays : State → State → Type 0
-LimitStays old new = KeepsLimit new × (new.line.limit ≡ old.line.limit)
+LimitStays old new = Stands new × (new.line.limit ≡ old.line.limit)
 
-Keeps-limit : (command : Command) (edit keeps : Bool) (old kept : State) (reply : Reply) → edit ≡ is_edit_or_mark command → Keeps (edit && keeps) old reply kept → ¬ (IsBarred old command) → KeepsLimit old
+Keeps-limit : (command : Command) (edit keeps : Bool) (old kept : State) (reply : Reply) → edit ≡ is_edit_or_mark command → Keeps (edit && keeps) old reply kept → ¬ (IsBarred old command) → Stands old
     → LimitStays old kept × ¬ (IsBarred kept command)
 Keeps-limit command false keeps old kept reply e k free h = (subst (λ s. LimitStays old s) (sym k.1) (h, refl), λ b. free (subst (λ s. IsBarred s command) k.1 b))
 Keeps-limit command true false old kept reply e k free h = (subst (λ s. LimitStays old s) (sym k.1) (h, refl), λ b. free (subst (λ s. IsBarred s command) k.1 b))
@@ -344,7 +344,7 @@ Keeps-limit command true true old kept reply e k free h =
     (step_limit old kept KeepUndone reply (λ b. b) k h, λ b. free (barred_before command same.0 old (sym e) (subst (λ s. IsBarred s command) same.1 b)))
 
 limit-changes : (old s : State) (changes : Record) → LimitStays old s → LimitStays old (with_changes changes s)
-limit-changes old s changes l = (record { stands = Stands-changes changes s l.0.stands; grows_not = l.0.grows_not }, l.1)
+limit-changes old s changes l = (Stands-changes changes s l.0, l.1)
 
 one_unit-edits : (command : Command) → is_one_unit command ≡ true → is_edit_or_mark command ≡ true
 one_unit-edits (SetPos q) one = cc
@@ -366,7 +366,7 @@ barred_apart command old s free =
     cond_both (is_one_unit command) (with_changes (parted s.pair.changes) s) s (λ k. ¬ (IsBarred k (carried old command)))
     (λ one b. free (barred_before (carried old command) (parted s.pair.changes) s (carried-edits command old ∙ one_unit-edits command one) b)) (λ e. free)
 
-pub limit-Obeyed : (old new : State) (command : Command) (reply : Reply) → Obeyed old command reply new → KeepsLimit old → LimitStays old new
+pub limit-Obeyed : (old new : State) (command : Command) (reply : Reply) → Obeyed old command reply new → Stands old → LimitStays old new
 limit-Obeyed old new command reply (inl stopped) h = subst (λ s. LimitStays old s) (sym stopped.1) (h, refl)
 limit-Obeyed old new command reply (inr (inl unkept)) h =
     (Keeps-limit (carried old command) (is_edit_or_mark command) old.options.keeps old new reply (sym (carried-edits command old)) unkept.2 (not_barred command old unkept.0) h).0
@@ -378,4 +378,4 @@ limit-Obeyed old new command reply (inr (inr done)) h =
     let waiting = waiting-keeps (LimitStays old) marks old command done.left (left.0, left.1 ∙ apart.1) in
     let start = unit_start (put_in done.kept command) done.kept.pair.changes in
     let made = Unites-keeps (LimitStays old) marks (is_one_unit command) start (with_waiting old command done.left) done.made done.unites waiting in
-    subst (λ s. LimitStays old s) (sym done.forgets.is) (record { stands = Stands-forgets done.made made.0.stands; grows_not = made.0.grows_not }, made.1)
+    subst (λ s. LimitStays old s) (sym done.forgets.is) (Stands-forgets done.made made.0, made.1)

@@ -75,7 +75,7 @@ Placed-add : (start : List ℕ) (es : List Entry) (e : Entry) (held : List (List
 Placed-add start es e held text p h = grind (arith, reverse-append, with_last_first, extend)
 
 -- one entry more that leaves the text: at the place of the entries before
-Placed-mark : (start : List ℕ) (es : List Entry) (e : Entry) (held : List (List ℕ)) → Placed start es held
+pub Placed-mark : (start : List ℕ) (es : List Entry) (e : Entry) (held : List (List ℕ)) → Placed start es held
     → replay_entries (es ++ (e ∷ [])) start ≡ replay_entries es start → Placed start (es ++ (e ∷ [])) held
 Placed-mark start es e held p h = grind (arith, common_steps, lands, reverse-append, with_last_first, back_again)
 
@@ -307,7 +307,7 @@ History-united start held text r begin h =
     }
 
 -- entries that lead on from the text are placed among the texts on their way
-Placed-ahead : (start : List ℕ) (xs ys : List Entry) (held : List (List ℕ)) (text end : List ℕ) → Placed start xs held → replay_entries xs start ≡ Some text
+pub Placed-ahead : (start : List ℕ) (xs ys : List Entry) (held : List (List ℕ)) (text end : List ℕ) → Placed start xs held → replay_entries xs start ≡ Some text
     → replay_entries ys text ≡ Some end → Placed start (xs ++ ys) (held ++ texts_ahead ys text)
 Placed-ahead start xs [] held text end p h k = subst (λ l. Placed start l (held ++ [])) (sym (append-nil xs)) (Placed-more start xs held [] p)
 Placed-ahead start xs (y ∷ ys) held text end p h k =

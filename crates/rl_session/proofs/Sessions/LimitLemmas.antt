@@ -1,5 +1,5 @@
 -- A command that the limit does not bar leaves it as it is.
-use Rattle.rl_session.proofs.Common.{Ring, Does, with_ring, Asked, BackwardChar, BackwardWord, BeginningOfBuffer, BeginningOfLine, Bool, Came, Command, Course, Direction, EndOfBuffer, EndOfLine, ForwardChar, ForwardWord, InsertChar, InsertStr, IsUtf8, Line, List, None, Option, Plan, Range, Reply, Some, Start, State, Takes, Telling, ViCharSearch, answers, ap, arith, asked, course_of, drop, edit, edit_course, edits, encode_utf8, eqb-true, false, goes, hands_out, if◌then◌else◌, inl, inr, insert_plan, inserts, is_done, last_of, leb-true, lends, length, length-append, length-between, length-drop, length-take, lent_plan, max, nat_le, nat_lt, never, not, option_and_then, other, other_course, pair_step, popped, popped_plan, pops, pulled_back, readied, redo_of, refl, removal, remove_range, repeat, rules, side_of, slice_range, stays, stepped, string_bytes, subst, suc, take, tells, told_as, true, unless_empty, update_plan, when, yank_plan, yank_pop, zero, ℕ, ◌&&◌, ◌*◌, ◌+◌, ◌-◌, ◌==◌, ◌||◌, ◌∙◌, ◌∷◌, ◌≡◌, ◌≤◌}
+use Rattle.rl_session.proofs.Common.{Ring, Does, with_ring, Asked, BackwardChar, BackwardWord, BeginningOfBuffer, BeginningOfLine, Bool, Came, Command, Course, Direction, EndOfBuffer, EndOfLine, ForwardChar, ForwardWord, InsertChar, InsertStr, IsUtf8, Line, List, None, Option, Plan, Range, Reply, Some, Stands, Start, State, Takes, Telling, ViCharSearch, answers, ap, arith, asked, course_of, drop, edit, edit_course, edits, encode_utf8, eqb-true, false, goes, hands_out, if◌then◌else◌, inl, inr, insert_plan, inserts, is_done, last_of, leb-true, lends, length, length-append, length-between, length-drop, length-take, lent_plan, max, nat_le, nat_lt, never, not, option_and_then, other, other_course, pair_step, popped, popped_plan, pops, pulled_back, readied, redo_of, refl, removal, remove_range, repeat, rules, side_of, slice_range, stays, stepped, string_bytes, subst, suc, take, tells, told_as, true, unless_empty, update_plan, when, yank_plan, yank_pop, zero, ℕ, ◌&&◌, ◌*◌, ◌+◌, ◌-◌, ◌==◌, ◌||◌, ◌∙◌, ◌∷◌, ◌≡◌, ◌≤◌}
 use Rattle.rl_line.proofs.Common.{greatest_boundary, is_boundary, ltb-false}
 use Rattle.rl_base.specs.KillRing.{yank}
 use Rattle.rl_line.specs.Edits.{cut_to_limit, insert_step, too_long, yank_step}
@@ -9,7 +9,6 @@ use Rattle.rl_line.specs.Transpositions.{clusters_around, meeting_place}
 use Rattle.rl_line.proofs.Plans.LimitLemmas.{SameLimit, SameLimit-same, after-limit, ahead-limit, back-limit, longest-front}
 use Rattle.rl_session.specs.Commands.{Step, lent, stops}
 use Rattle.rl_session.specs.Performing.{IsBarred}
-use Rattle.rl_session.specs.State.{KeepsLimit}
 use Rattle.rl_session.specs.declared.session.Fault.TheVariants.{NoMemory, BadPlace}
 use Rattle.rl_session.specs.declared.session.Command.TheVariants as asks
 use Rattle.rl_session.specs.declared.session.Reply.TheVariants as says
@@ -211,10 +210,10 @@ module _ (s : State) (ring : Ring) (u : IsUtf8 s.line.text) (b : Bounds s.line) 
   does-same command reply free d = course-same (asked s.line command) command reply (asks-fits command free) d
 
 -- the ring's resets touch no line
-pub step_limit : (old new : State) (command : Command) (reply : Reply) → ¬ (IsBarred old command) → Step old command reply new → KeepsLimit old → KeepsLimit new × (new.line.limit ≡ old.line.limit)
+pub step_limit : (old new : State) (command : Command) (reply : Reply) → ¬ (IsBarred old command) → Step old command reply new → Stands old → Stands new × (new.line.limit ≡ old.line.limit)
 step_limit old new command reply free step h =
     let ring = (readied command old).pair.ring in
-    let bounds : Bounds old.line = record { within = h.stands.within; grows_not = h.grows_not } in
-    let same = does-same old ring h.stands.utf8 bounds h.stands.cursor.0 step.left command reply free step.does in
+    let bounds : Bounds old.line = record { within = h.within; grows_not = h.grows_not } in
+    let same = does-same old ring h.utf8 bounds h.cursor.0 step.left command reply free step.does in
     let line : new.line ≡ step.left.line = ap (λ (t : State). t.line) step.settles in
-    (record { stands = step.stands; grows_not = ap (λ (l : Line). l.grow) line ∙ same.grow ∙ h.grows_not }, ap (λ (l : Line). l.limit) line ∙ same.limit)
+    (step.stands, ap (λ (l : Line). l.limit) line ∙ same.limit)

@@ -218,15 +218,12 @@ idle old new m n dedent reply none p = from reply (subst (λ c. Obeyed old c rep
         let (said, left) = stays done.kept done.left reply done.step in
         (said, subst (λ s. Forgets s new) (done.unites ∙ left ∙ ap anew done.keeps.1.1) done.forgets)
 
--- an undo or a redo that the limit may bar: the record leads to the text again
-Walks-same : (r now : Record) (old new : Line) → now ≡ r → new ≡ old → Walks r old.text → Walks now new.text
-Walks-same r now old new e f w = subst (λ k. Walks k new.text) (sym e) (subst (λ (l : Line). Walks r l.text) (sym f) w)
-
-pub Walks-within : (Done : Bool → Type 0) (keeps : Bool) (texts : List (List ℕ)) (r now : Record) (old new : Line) (result : Result (Option Bool) Refusal)
-    → ((a : Bool) → Done a → Walks r old.text → Walks now new.text) → IfOk result (DoneWithin Done keeps r now old new) → IfErr result (OutOfRoom r now old new texts) → Walks r old.text → Walks now new.text
-Walks-within Done keeps texts r now old new (Ok (Some a)) leads d e w = leads a d.1 w
-Walks-within Done keeps texts r now old new (Ok None) leads d e w = Walks-same r now old new d.1 d.2 w
-Walks-within Done keeps texts r now old new (Err why) leads d e w = Walks-same r now old new e.1 e.2 w
+-- what an undo or a redo keeps, it keeps also if the limit may bar it
+pub within-keeps : (P : Record → Line → Type 0) (Done : Bool → Type 0) (keeps : Bool) (texts : List (List ℕ)) (r now : Record) (old new : Line) (result : Result (Option Bool) Refusal)
+    → ((a : Bool) → Done a → P r old → P now new) → IfOk result (DoneWithin Done keeps r now old new) → IfErr result (OutOfRoom r now old new texts) → P r old → P now new
+within-keeps P Done keeps texts r now old new (Ok (Some a)) does d e p = does a d.1 p
+within-keeps P Done keeps texts r now old new (Ok None) does d e p = subst (λ k. P k new) (sym d.1) (subst (P r) (sym d.2) p)
+within-keeps P Done keeps texts r now old new (Err why) does d e p = subst (λ k. P k new) (sym e.1) (subst (P r) (sym e.2) p)
 
 -- a deletion by a movement is the command of that movement
 pub deleted : (m : Movement) (old kept begun left new : State) (reply : Reply) → CanDeleteBy m → Forgets left new → Came (edit_course nothing_more (Unit {0}) (kill_plan begun.line m) answers reply) begun left

@@ -1,12 +1,12 @@
 -- Bytes with their checksum, and the parts of a session as bytes.
-use Rattle.rl_session.proofs.Common.{◌≡◌, ◌∙◌, ◌++◌, ◌+◌, ◌-◌, ◌^◌, ◌≤◌, min, [], ℕ, List, ap, append-nil, append_assoc, arith, drop, length, length-append, refl, sym, take}
+use Rattle.rl_session.proofs.Common.{◌≡◌, ◌∙◌, ◌∷◌, ◌==◌, ap₂, eqb-true, nil_from_length, true, ◌++◌, get_or, ◌+◌, ◌-◌, ◌^◌, ◌≤◌, min, [], ℕ, List, ap, append-nil, append_assoc, arith, drop, length, length-append, refl, sym, take}
 use Rattle.std.proofs.lemmas.List.{drop_at, take_at}
 use Rattle.rl_base.specs.SavedRing.{saved_ring}
 use Rattle.rl_base.specs.Saving.{numbers}
 use Rattle.rl_base.specs.declared.saving.Width.TheVariants.{Eight}
 use Rattle.rl_base.proofs.Texts.SavingLemmas.{length-numbers}
 use Rattle.rl_line.specs.SavedRecord.{saved_record}
-use Rattle.rl_session.specs.SavedSession.{checksum, heading, saved_line, saved_session, saved_state, sealed, state_numbers}
+use Rattle.rl_session.specs.SavedSession.{checksum, heading, line_numbers, option_numbers, saved_line, saved_session, saved_state, sealed, state_numbers}
 use Rattle.rl_session.specs.State.{State}
 
 length-checksum : (bytes : List ℕ) → length (checksum bytes) ≡ 8
@@ -66,3 +66,24 @@ session-length s ring changes parts more len r c p m is =
 pub parts : (s : State) (bytes : List ℕ) → bytes ≡ saved_state s → bytes ≡ saved_line s ++ (saved_ring s.pair.ring ++ (saved_record s.pair.changes ++ []))
 unfolding saved_state
 parts s bytes is = is ∙ ap (λ xs. saved_line s ++ (saved_ring s.pair.ring ++ xs)) (sym (append-nil (saved_record s.pair.changes)))
+
+-- the numbers of a state, of those of its line, of its options and of its text
+pub numbers-read : (head : List ℕ) (s : State) → length head ≡ 9 → line_numbers s.line ≡ take 2 head → option_numbers s.options ≡ take 6 (drop 2 head)
+    → length s.line.text ≡ get_or head 8 0 → state_numbers s ≡ head
+numbers-read (a ∷ (b ∷ (c ∷ (d ∷ (e ∷ (f ∷ (g ∷ (h ∷ (i ∷ []))))))))) s len l o t = ap (λ xs. xs ++ (option_numbers s.options ++ length s.line.text ∷ [])) l ∙ ap (λ xs. a ∷ b ∷ (xs ++ length s.line.text ∷ [])) o ∙ ap (λ n. a ∷ b ∷ c ∷ d ∷ e ∷ f ∷ g ∷ h ∷ n ∷ []) t
+numbers-read _ s len l o t = absurd (omega (arith, len))
+
+-- so what was read is what is saved
+pub line-saved : (s : State) (bytes next rest head text : List ℕ) → bytes ≡ numbers Eight head ++ next → next ≡ text ++ rest → state_numbers s ≡ head → s.line.text ≡ text
+    → bytes ≡ saved_line s ++ rest
+unfolding saved_line
+line-saved s bytes next rest head text first then_text numbers_are text_is =
+    first ∙ ap (λ xs. numbers Eight head ++ xs) then_text ∙ sym (append_assoc (numbers Eight head) text rest)
+    ∙ ap₂ (λ ns t. (numbers Eight ns ++ t) ++ rest) (sym numbers_are) (sym text_is)
+
+pub parts-saved : (s : State) (bytes ring changes rest : List ℕ) → bytes ≡ saved_line s ++ ring → ring ≡ saved_ring s.pair.ring ++ changes → changes ≡ saved_record s.pair.changes ++ rest
+    → (length rest == 0) ≡ true → bytes ≡ saved_state s
+unfolding saved_state
+parts-saved s bytes ring changes rest l r c none =
+    let end = nil_from_length rest (eqb-true (length rest) 0 none) in
+    l ∙ ap (λ xs. saved_line s ++ xs) (r ∙ ap (λ xs. saved_ring s.pair.ring ++ xs) (c ∙ ap (λ xs. saved_record s.pair.changes ++ xs) end ∙ append-nil (saved_record s.pair.changes)))

@@ -1,19 +1,21 @@
 -- What holds whatever a call answered.
-use Rattle.rl_session.proofs.Common.{ToldOutcome, Outcome, Cut, replay_entries, Bool, false, true, inr, List, [], Result, Ok, Err, ◌≡◌, ◌∙◌, ap, arith, refl, subst, sym, append-nil, inl, ◌≤◌, ℕ, length, take_all, IsCharBoundary-start, IsUtf8-nil, Option, None, max, IsSome, Some, IsUtf8, Event, Start, Stop, Refusal, Line, Moved, Plan, Done, Halted, or_no_memory, Takes, nothing_more, a_copy, insert_str_plan, Told, Record, agree, replays_to, unwind, AtRest, Follows, pair_step, pair_refused, Pair, IsCharBoundary, Walks, line_back, bytes_eq-Decides, same_Some}
+use Rattle.rl_session.proofs.Common.{ToldOutcome, Outcome, Entry, ◌∷◌, event_of, inverse, line_after, line_ahead, map, reverse, stepped, Cut, replay_entries, Bool, false, true, inr, List, [], Result, Ok, Err, ◌≡◌, ◌∙◌, ap, arith, refl, subst, sym, append-nil, inl, ◌≤◌, ℕ, length, take_all, IsCharBoundary-start, IsUtf8-nil, Option, None, max, IsSome, Some, IsUtf8, Event, Start, Stop, Refusal, Line, Moved, Plan, Done, Halted, or_no_memory, Takes, nothing_more, a_copy, insert_str_plan, Told, Record, agree, replays_to, unwind, AtRest, Follows, pair_step, pair_refused, Pair, IsCharBoundary, Walks, line_back, bytes_eq-Decides, same_Some}
 use Rattle.rl_base.proofs.Ring.BoundLemmas.{killing-within}
 use Rattle.rl_base.proofs.Texts.EventLemmas.{apply-InsertStr}
 use Rattle.rl_line.proofs.Records.JoinLemmas.{record_step-Start, record_step-Stop}
-use Rattle.rl_line.proofs.Plans.PlanLemmas.{first_step}
+use Rattle.rl_line.specs.Plan.{Step, after}
+use Rattle.rl_line.specs.Undo.{Abandoned, Redone, Undone}
+use Rattle.rl_line.specs.Units.{last_of, open_group, redo_of}
+use Rattle.rl_line.proofs.Plans.PlanLemmas.{Fits-from, first_step}
 use Rattle.rl_line.proofs.Records.ForgettingLemmas.{Walks-forgotten}
 use Rattle.rl_line.proofs.Lines.LineReadLemmas.{range-before, range-some}
 use Rattle.rl_session.proofs.Sessions.IdleLemmas.{NoneStarts, NoneStarts-edit_word, NoneStarts-insert, NoneStarts-kill, NoneStarts-removal, NoneStarts-transpose_chars, NoneStarts-yank, IsIdle, idle-step, idle-Told, ring-Done, ring-Halted}
 use Rattle.rl_session.proofs.Sessions.PairLemmas.{Halted-own, Done-changes, Halted-changes, keeps_changes}
-use Rattle.rl_line.proofs.Records.RecordLemmas.{value_of}
-use Rattle.rl_line.proofs.Records.UndoLemmas.{line_ahead-replay, line_back-unwind}
+use Rattle.rl_line.proofs.Records.RecordLemmas.{through, value_of}
+use Rattle.rl_line.proofs.Records.UndoLemmas.{line_ahead-back, line_ahead-replay, line_back-unwind}
 use Rattle.rl_line.proofs.Records.UnitingLemmas.{Walks-parted, Walks-united}
 use Rattle.rl_line.proofs.Records.WaitingLemmas.{Walks-dropped, Walks-opened}
 use Rattle.rl_line.proofs.Records.WalkLemmas.{Walks-truncated, Walks-Done, Walks-Halted, Walks-ahead, Walks-back, Walks-begun, Walks-closed, Walks-reopened}
-use Rattle.rl_line.proofs.Records.AbandonLemmas.{abandoned-walks}
 use Rattle.rl_line.proofs.Records.RoundLemmas.{Walks-kept}
 
 -- a text that goes into an empty line
@@ -37,18 +39,61 @@ Walks-refused : {A : Type 0} (plan : Plan A) (p q : Pair) (old new : Line) (w : 
     → Walks p.changes old.text → Walks q.changes new.text
 Walks-refused plan p q old new w at h = Walks-Halted keeps_changes plan p.changes q.changes old new w keeps at (Halted-changes plan old new p q w h)
 
+-- ---- whether the line may grow, which nothing changes
+grow-after : (ss : List Step) (old new : Line) → after ss old ≡ Some new → new.grow ≡ old.grow
+grow-after [] old new h = let same : new ≡ old = cc in ap (λ (l : Line). l.grow) same
+grow-after (s ∷ ss) old new h = let b = first_step s ss old new h in grow-after ss (stepped old b.text s.1) new b.rest
+
+grow-Done : {A : Type 0} (plan : Plan A) (p q : Pair) (old new : Line) (a : A) → Done pair_step plan old new p q a → new.grow ≡ old.grow
+grow-Done plan p q old new a d = ap (λ (l : Line). l.grow) d.line ∙ grow-after plan.steps old d.last d.taken.line
+
+grow-Halted : {A : Type 0} (plan : Plan A) (p q : Pair) (old new : Line) (w : Refusal) → Halted pair_step (or_no_memory pair_refused) plan old new p q w → new.grow ≡ old.grow
+grow-Halted plan p q old new w h = grow-after h.first old new h.taken.line
+
+grow-Moved : (place : Option ℕ) (old new : Line) (a : Bool) → Moved place old new a → new.grow ≡ old.grow
+grow-Moved None old new a m = ap (λ (l : Line). l.grow) m.1
+grow-Moved (Some place) old new a m = ap (λ (l : Line). l.grow) m.1
+
+grow-Told : (b : Bool) (P : Pair → Pair → Type 0) (p q : Pair) (old new : Line) → ((before now : Pair) → P before now → new.grow ≡ old.grow) → Told pair_step b P p q → new.grow ≡ old.grow
+grow-Told true P p q old new same t = same p q t
+grow-Told false P p q old new same t = same (pair_step p Start) t.last t.inside
+
+grow-back : (es : List Entry) (old new : Line) → line_back es old ≡ Some new → new.grow ≡ old.grow
+grow-back [] old new h = let same : new ≡ old = cc in ap (λ (l : Line). l.grow) same
+grow-back (e ∷ es) old new h =
+    let p = through (line_after (inverse e)) (line_back es old) new h in
+    ap (λ (l : Line). l.grow) (Fits-from (event_of (inverse e)) _ p.0 new p.2).is ∙ grow-back es old p.0 p.1
+
+pub grow-Undone : (n : ℕ) (r now : Record) (old new : Line) (a : Bool) → Undone n r now old new a → new.grow ≡ old.grow
+grow-Undone n r now old new a d = grow-back (last_of n r.recorded) old new d.line_is
+
+pub grow-Abandoned : (r now : Record) (old new : Line) (a : Bool) → Abandoned r now old new a → new.grow ≡ old.grow
+grow-Abandoned r now old new a d = grow-back (open_group r.recorded) old new d.line_is
+
+pub grow-Redone : (r now : Record) (old new : Line) (a : Bool) → Redone r now old new a → new.grow ≡ old.grow
+grow-Redone r now old new a d =
+    let unit = redo_of r.pending in
+    grow-back (map inverse (reverse unit)) old new (line_ahead-back unit old ∙ d.line_is)
+
 -- ---- the session's invariant
 pub AtRest-Moved : (place : Option ℕ) (p : Pair) (old new : Line) (a : Bool) → Moved place old new a → AtRest old p → AtRest new p
-AtRest-Moved place p old new a m h = record { walks = Walks-Moved place p.changes old new a m h.walks; idle = h.idle }
+AtRest-Moved place p old new a m h = record { walks = Walks-Moved place p.changes old new a m h.walks; idle = h.idle; grows_not = grow-Moved place old new a m ∙ h.grows_not }
 
 AtRest-pair : {A : Type 0} (plan : Plan A) (p q : Pair) (old new : Line) (a : A) → IsCharBoundary old.text old.cursor → NoneStarts plan.steps → Done pair_step plan old new p q a
     → AtRest old p → AtRest new q
-AtRest-pair plan p q old new a at none d h = record { walks = Walks-pair plan p q old new a at d h.walks; idle = ring-Done IsIdle idle-step plan old new p q a none d h.idle }
+AtRest-pair plan p q old new a at none d h = record {
+  walks = Walks-pair plan p q old new a at d h.walks;
+  idle = ring-Done IsIdle idle-step plan old new p q a none d h.idle;
+  grows_not = grow-Done plan p q old new a d ∙ h.grows_not;
+}
 
 AtRest-refused : {A : Type 0} (plan : Plan A) (p q : Pair) (old new : Line) (w : Refusal) → IsCharBoundary old.text old.cursor → NoneStarts plan.steps → Halted pair_step (or_no_memory pair_refused) plan old new p q w
     → AtRest old p → AtRest new q
-AtRest-refused plan p q old new w at none d h =
-    record { walks = Walks-refused plan p q old new w at d h.walks; idle = ring-Halted IsIdle idle-step plan old new p q w none d h.idle }
+AtRest-refused plan p q old new w at none d h = record {
+  walks = Walks-refused plan p q old new w at d h.walks;
+  idle = ring-Halted IsIdle idle-step plan old new p q w none d h.idle;
+  grows_not = grow-Halted plan p q old new w d ∙ h.grows_not;
+}
 
 -- an edit, which may copy what it moves
 AtRest-same : (p q : Pair) (old new : Line) → new ≡ old → q ≡ p → AtRest old p → AtRest new q
@@ -96,10 +141,12 @@ pub AtRest-told : (b : Bool) (plan : Plan Bool) (p q : Pair) (old new : Line) (r
 AtRest-told b plan p q old new (Ok a) at none d r = record {
   walks = Walks-Told b _ p q old new (λ before now i. Walks-pair plan before now old new a at i) d r.walks;
   idle = idle-Told b _ p q (λ i. ring-Done IsIdle idle-step plan old new p q a none i r.idle) d;
+  grows_not = grow-Told b _ p q old new (λ before now i. grow-Done plan before now old new a i) d ∙ r.grows_not;
 }
 AtRest-told b plan p q old new (Err w) at none h r = record {
   walks = Walks-Told b _ p q old new (λ before now i. Walks-refused plan before now old new w at (Halted-own nothing_more plan old new before now w i)) h r.walks;
   idle = idle-Told b _ p q (λ i. ring-Halted IsIdle idle-step plan old new p q w none (Halted-own nothing_more plan old new p q w i) r.idle) h;
+  grows_not = grow-Told b _ p q old new (λ before now i. grow-Halted plan before now old new w (Halted-own nothing_more plan old new before now w i)) h ∙ r.grows_not;
 }
 
 -- all entries lead to the text
@@ -121,7 +168,7 @@ follows_unwind r line f = grind (arith, value_of, line_back-unwind)
 pub follows_replay : (r : Record) (line : Line) → Follows line r → IsSome (replay_entries r.pending line.text)
 follows_replay r line f = grind (arith, value_of, line_ahead-replay)
 
-pub ruleset resting = (Walks-parted, Walks-united, Walks-kept, abandoned-walks, Walks-forgotten, killing-within, Walks-begun, Walks-closed, Walks-reopened, Walks-opened, Walks-dropped, Walks-truncated, replays-all)
+pub ruleset resting = (Walks-parted, Walks-united, Walks-kept, Walks-forgotten, killing-within, Walks-begun, Walks-closed, Walks-reopened, Walks-opened, Walks-dropped, Walks-truncated, replays-all)
 
 pub ruleset places = (range-before, range-some)
 

@@ -36,7 +36,7 @@ leaves s command h =
 -- the command itself drops what waits, which is put back then
 Ends-left : (s : State) (r changes : Record) → changes.pending ≡ [] → Ends (with_changes (still_waiting changes.recorded r) s) → Ends (with_changes changes s)
 Ends-left s r changes none e = record {
-  stands = record { utf8 = e.stands.utf8; cursor = e.stands.cursor; within = e.stands.within; ring = e.stands.ring; idle = e.stands.idle };
+  stands = record { utf8 = e.stands.utf8; cursor = e.stands.cursor; within = e.stands.within; grows_not = e.stands.grows_not; ring = e.stands.ring; idle = e.stands.idle };
   bounded = e.bounded;
   follows = record { back = e.follows.back; ahead = subst (λ es. IsSome (line_ahead es s.line)) (sym none) refl };
 }

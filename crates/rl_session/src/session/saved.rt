@@ -1,5 +1,5 @@
 //! A session as bytes, and back.
-ghost use Rattle.std.specs.Prelude.{◌≡◌, ◌<◌, ◌≤◌, ◌-◌, ◌↔◌, ◌^◌, ◌++◌, All, Bool, List, ℕ, Err, IfErr, IfOk, IfSome, None, OnOk, Some, false, length, min, true};
+ghost use Rattle.std.specs.Prelude.{◌≡◌, ◌<◌, ◌≤◌, ◌-◌, ◌↔◌, ◌^◌, ◌++◌, All, Bool, List, ℕ, Err, IfErr, IfOk, IfSome, None, OnOk, Some, drop, false, length, min, take, true};
 ghost use Rattle.std.specs.Str.{IsCharBoundary};
 ghost use Rattle.rl_base.specs.Saving.{Fits, IsOfPart, Loads};
 ghost use Rattle.rl_base.specs.declared.layout.GraphemeClusterMode.{GraphemeClusterMode};
@@ -7,8 +7,8 @@ ghost use Rattle.rl_base.specs.declared.saving.LoadFault.TheVariants.{NoMemory, 
 ghost use Rattle.rl_base.specs.declared.saving.SaveFault.TheVariants.{TooLong};
 ghost use Rattle.rl_base.specs.declared.saving.Width.TheVariants.{Eight};
 ghost use Rattle.rl_line.specs.Line.{Line};
-ghost use Rattle.rl_session.specs.SavedSession.{FitsSaving, IsSavedState, checksum, heading, line_numbers, mode_number, option_numbers, saved_line, saved_session, saved_state, sealed, state_numbers, truth_number, unwatched};
-ghost use Rattle.rl_session.specs.State.{ChangedFrom, Ends, KeepsLimit, State};
+ghost use Rattle.rl_session.specs.SavedSession.{FitsSaving, HasHeading, IsSavedState, checksum, heading, line_numbers, mode_number, option_numbers, saved_line, saved_session, saved_state, sealed, state_numbers, truth_number, unwatched};
+ghost use Rattle.rl_session.specs.State.{ChangedFrom, Ends, State};
 ghost use Rattle.rl_session.specs.declared.options.Options.{Options};
 
 use crate::options::{Bound, Options};
@@ -26,12 +26,12 @@ const HEADING: [u8; 8] = [108, 111, 100, 118, 97, 114, 110, 1];
 
 impl Session {
     /// The session as bytes, from which `load` makes it again: text and cursor, record, ring and options, but no reports.
-    /// `docs/FORMAT.md` says what each byte is. It changes nothing. `TooLong` comes exactly if a text of the
+    /// `docs/FORMAT.md` says what each byte is. It changes nothing. `TooLong` comes only if a text of the
     /// record has 4 GiB or more, or a place is as far.
     #[tactic(auto, unfolding(crate::specs::SavedSession::sealed))]
     pub fn save(&self) -> Result<Vec<u8>, SaveFault>
         ensures ok { IfOk result (λ bytes. bytes.items ≡ saved_session self.now) }
-        ensures loads { OnOk result (self.now.line.grow ≡ false → IsSavedState self.now) }
+        ensures loads { OnOk result (IsSavedState self.now) }
         ensures err { IfErr result (λ f. f ≡ TooLong → ¬ (FitsSaving self.now)) }
     {
         let mut out = Vec::with_capacity(self.alloc, self.saved_len())?;
@@ -55,7 +55,7 @@ impl Session {
     #[tactic(auto, unfolding(crate::specs::SavedSession::saved_state))]
     fn put(&self, out: &mut Vec<u8>) -> Result<(), SaveFault>
         ensures ok { OnOk result (out.new.items ≡ out.old.items ++ saved_state self.now) }
-        ensures loads { OnOk result (self.now.line.grow ≡ false → IsSavedState self.now) }
+        ensures loads { OnOk result (IsSavedState self.now) }
         ensures err { IfErr result (λ f. f ≡ TooLong → ¬ (FitsSaving self.now)) }
     {
         self.stands();
@@ -96,16 +96,16 @@ impl Session {
         ]
     }
 
-    /// Makes the session of what `save` wrote, without its reports: nothing changed yet, and none are kept. `Unknown` comes
-    /// exactly if the bytes do not begin as this version begins them, and any others are `Damaged`: their checksum is wrong,
-    /// or they are those of no session, since its record does not lead to its text and on from it.
+    /// Makes the session of what `save` wrote, without its reports: nothing changed yet, and none are kept. Whoever wrote
+    /// the bytes, `save` of the session writes these. `Unknown` comes exactly if they do not begin as this version begins
+    /// them, and any others are `Damaged`: their checksum is wrong, or `save` writes them of no session, as where the record
+    /// does not lead to the text and on from it.
     pub fn load(alloc: Global, bytes: &[u8]) -> Result<Session, LoadFault>
         ensures loaded { (s : State) → IsSavedState s → bytes.now ≡ saved_session s → Loads (unwatched s) result }
-        ensures sealed { OnOk result ((inside : List ℕ) × (bytes.now ≡ sealed inside)) }
+        ensures read { IfOk result (λ s. IsSavedState s × (bytes.now ≡ saved_session s) × (s ≡ unwatched s)) }
         ensures ends { IfOk result Ends }
-        ensures held { IfOk result KeepsLimit }
         ensures changed { IfOk result (λ s. ChangedFrom s.line.text s) }
-        ensures unknown { result ≡ Err Unknown ↔ ((inside : List ℕ) → bytes.now ≡ heading ++ inside → ⊥) }
+        ensures unknown { HasHeading bytes.now ↔ ¬ (result ≡ Err Unknown) }
     {
         let Some(_) = after_heading(bytes) else {
             return Err(LoadFault::Unknown);
@@ -119,9 +119,9 @@ impl Session {
     // Reads the parts, which are all that there is.
     fn read(alloc: Global, inside: &[u8]) -> Result<Session, LoadFault>
         ensures loaded { (s : State) → IsSavedState s → inside.now ≡ saved_state s → Loads (unwatched s) result }
+        ensures read { IfOk result (λ s. IsSavedState s × (inside.now ≡ saved_state s) × (s ≡ unwatched s)) }
         ensures part { IfErr result IsOfPart }
         ensures ends { IfOk result Ends }
-        ensures held { IfOk result KeepsLimit }
         ensures changed { IfOk result (λ s. ChangedFrom s.line.text s) }
     {
         let mut bytes = Unread::new(inside);
@@ -156,6 +156,8 @@ impl Session {
 fn read_line(alloc: Global, bytes: &mut Unread) -> Result<(LineBuffer, Options), LoadFault>
     ensures ok { IfOk result (λ made. (s : State) (rest : List ℕ) → IsSavedState s → bytes.old ≡ saved_line s ++ rest → (made.0 ≡ s.line) × (made.1 ≡ s.options) × (bytes.new ≡ rest)) }
     ensures err { IfErr result (λ f. (s : State) (rest : List ℕ) → IsSavedState s → bytes.old ≡ saved_line s ++ rest → f ≡ NoMemory) }
+    ensures read { IfOk result (λ made. (s : State) → s.line ≡ made.0 → s.options ≡ made.1
+        → (bytes.old ≡ saved_line s ++ bytes.new) × All (Fits Eight) (state_numbers s) × (s.options.prompt < 2 ^ 16)) }
     ensures grows_not { IfOk result (λ made. made.0.grow ≡ false) }
     ensures part { IfErr result IsOfPart }
 {
@@ -180,7 +182,8 @@ fn truth_number(truth: bool) -> u64
 }
 
 fn truth_of(number: u64) -> Option<bool>
-    ensures { (truth : Bool) → number ≡ truth_number truth → result ≡ Some truth }
+    ensures loaded { (truth : Bool) → number ≡ truth_number truth → result ≡ Some truth }
+    ensures read { IfSome result (λ truth. number ≡ truth_number truth) }
 {
     match number {
         0 => Some(false),
@@ -200,7 +203,8 @@ fn mode_number(mode: GraphemeClusterMode) -> u64
 }
 
 fn mode_of(number: u64) -> Option<GraphemeClusterMode>
-    ensures { (mode : GraphemeClusterMode) → number ≡ mode_number mode → result ≡ Some mode }
+    ensures loaded { (mode : GraphemeClusterMode) → number ≡ mode_number mode → result ≡ Some mode }
+    ensures read { IfSome result (λ mode. number ≡ mode_number mode) }
 {
     match number {
         0 => Some(GraphemeClusterMode::Unicode),
@@ -212,7 +216,8 @@ fn mode_of(number: u64) -> Option<GraphemeClusterMode>
 
 // The options of these numbers, which stand after those of the line.
 fn options_of(head: [u64; 9]) -> Option<Options>
-    ensures { (options : Options) (line : Line) (rest : List ℕ) → options.prompt < 2 ^ 16 → head ≡ line_numbers line ++ (option_numbers options ++ rest) → result ≡ Some options }
+    ensures loaded { (options : Options) (line : Line) (rest : List ℕ) → options.prompt < 2 ^ 16 → head ≡ line_numbers line ++ (option_numbers options ++ rest) → result ≡ Some options }
+    ensures read { IfSome result (λ options. (option_numbers options ≡ take 6 (drop 2 head)) × (options.prompt < 2 ^ 16)) }
 {
     let mode = mode_of(head[2])?;
     let prompt = u16::try_from(head[3]).ok()?;
@@ -234,7 +239,7 @@ fn options_of(head: [u64; 9]) -> Option<Options>
 fn line_of(alloc: Global, head: [u64; 9], text: &str) -> Result<LineBuffer, LoadFault>
     ensures ok { IfOk result (λ made. (line : Line) (rest : List ℕ) → line.grow ≡ false → length text.now ≤ line.limit → head ≡ line_numbers line ++ rest → text.now ≡ line.text → made ≡ line) }
     ensures err { IfErr result (λ f. (line : Line) (rest : List ℕ) → line.grow ≡ false → IsCharBoundary line.text line.cursor → length text.now ≤ line.limit → head ≡ line_numbers line ++ rest → text.now ≡ line.text → f ≡ NoMemory) }
-    ensures grows_not { IfOk result (λ made. made.grow ≡ false) }
+    ensures read { IfOk result (λ made. (line_numbers made ≡ take 2 head) × (made.text ≡ text.now) × (made.grow ≡ false)) }
     ensures part { IfErr result IsOfPart }
 {
     let (limit, pos) = (head[0] as usize, head[1] as usize);

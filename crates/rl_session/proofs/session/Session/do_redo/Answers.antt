@@ -1,10 +1,15 @@
-use Rattle.rl_session.proofs.Common.{rules}
+use Rattle.rl_session.proofs.Common.{rules, ◌∙◌}
 use Rattle.rl_line.proofs.Records.MoveLemmas.{redo-fits}
 use Rattle.rl_line.proofs.Records.WalkLemmas.{Walks-Redone, Walks-ahead}
+use Rattle.rl_session.proofs.Sessions.SessionLemmas.{grow-Redone}
 use Rattle.rl_session.proofs.session.Session.do_redo.Goals as goal
 
 pub invariant_of-self-2 : goal.invariant_of-self-2
-invariant_of-self-2 c = record { walks = Walks-Redone _ _ _ _ _ c.in_ok-done.ensures.done c.self.invariant.walks; idle = c.self.invariant.idle }
+invariant_of-self-2 c = record {
+  walks = Walks-Redone _ _ _ _ _ c.in_ok-done.ensures.done c.self.invariant.walks;
+  idle = c.self.invariant.idle;
+  grows_not = grow-Redone _ _ _ _ _ c.in_ok-done.ensures.done ∙ c.self.invariant.grows_not;
+}
 
 pub returns : goal.returns
 returns c = search rules

@@ -9,8 +9,8 @@ pub invariant_of-self : goal.invariant_of-self
 invariant_of-self c =
     let out = rw c.replace-ring.ensures.value at c.pop_into-outcome.ensures in
     let empty = ap (λ (k : Ring). k.killing) (c.replace-ring.ensures.after ∙ c.new.ensures) in
-    let heard = AtRest-edit room_by_step _ _ _ c.self.inside.line _ _ (rw (← c.self.view_is) at c.stands.ensures.cursor) (NoneStarts-popped c.self.inside.line (yank_pop c.self.inside.pair.ring)) out.line (record { walks = c.self.invariant.walks; idle = empty }) in
-    record { walks = heard.walks; idle = idle-popped c.self.inside.pair.ring _ out.ring c.self.invariant.idle }
+    let heard = AtRest-edit room_by_step _ _ _ c.self.inside.line _ _ (rw (← c.self.view_is) at c.stands.ensures.cursor) (NoneStarts-popped c.self.inside.line (yank_pop c.self.inside.pair.ring)) out.line (record { walks = c.self.invariant.walks; idle = empty; grows_not = c.self.invariant.grows_not }) in
+    record { walks = heard.walks; idle = idle-popped c.self.inside.pair.ring _ out.ring c.self.invariant.idle; grows_not = heard.grows_not }
 
 pub returns : goal.returns
 returns c =

@@ -1,4 +1,6 @@
-use Rattle.rl_session.specs.SavedSession.{saved_state}
+use Rattle.std.proofs.lemmas.Result.{IfOk-weaker}
+use Rattle.rl_session.proofs.Common.{◌∙◌, ap}
+use Rattle.rl_session.specs.SavedSession.{saved_state, sealed}
 use Rattle.rl_session.proofs.Sessions.SavedLemmas.{sealed-begins, sealed-one}
 use Rattle.rl_session.proofs.session.Session.load.Goals as goal
 
@@ -9,3 +11,6 @@ returns-in_default-clause-loaded c s saved is =
 
 pub returns-clause-loaded : goal.returns-clause-loaded
 returns-clause-loaded c s saved is = c.read.ensures.loaded s saved (sealed-one c.args.bytes.now c.in-Some-unsealed.inside.now (saved_state s) c.in-Some-unsealed.ensures.some is)
+
+pub returns-clause-read : goal.returns-clause-read
+returns-clause-read c = IfOk-weaker c.read.result _ _ (λ s r. (r.0, c.in-Some-unsealed.ensures.some ∙ ap sealed r.1, r.2)) c.read.ensures.read

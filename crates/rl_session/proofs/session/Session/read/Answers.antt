@@ -1,6 +1,6 @@
-use Rattle.rl_session.proofs.Common.{◌≡◌, ◌∙◌, ◌==◌, [], ap, err_from_is_err_and, false, length, refl, subst, sym, true, Line}
+use Rattle.rl_session.proofs.Common.{◌≡◌, ◌∙◌, ◌==◌, [], ap, err_from_is_err_and, false, length, refl, subst, sym, true, Line, State, with_watch}
 use Rattle.rl_line.specs.Walk.{Walks}
-use Rattle.rl_session.proofs.Sessions.SavedLemmas.{parts}
+use Rattle.rl_session.proofs.Sessions.SavedLemmas.{parts, parts-saved}
 use Rattle.rl_session.proofs.session.Session.read.Goals as goal
 
 pub returns-in_err-line-clause-loaded : goal.returns-in_err-line-clause-loaded
@@ -42,3 +42,26 @@ returns-clause-loaded c s saved is =
     let ring = c.in_ok-ring.ensures.loaded s.pair.ring _ saved.ring line.2 in
     let changes = c.in_ok-changes.ensures.loaded s.pair.changes [] saved.changes ring.1 in
     rw (line.0, ring.0, changes.0, c.new.ensures, line.1) refl
+
+pub returns-clause-read : goal.returns-clause-read
+returns-clause-read c =
+    let s : State = record { line = c.in_ok-line.line; pair = record { ring = c.in_ok-ring.ring; changes = c.in_ok-changes.changes; watch = c.new.result }; options = c.in_ok-line.options } in
+    let line = c.in_ok-line.ensures.read s refl refl in
+    let ring = c.in_ok-ring.ensures.read in
+    let changes = c.in_ok-changes.ensures.read in
+    let stands = c.stands.ensures in
+    (
+      record {
+        text = stands.utf8;
+        cursor = stands.cursor;
+        within = stands.within;
+        grows_not = stands.grows_not;
+        fits = line.1;
+        prompt = line.2;
+        walks = c.in_ok-walks.ensures.ok.0 c.if-not-branch.false;
+        ring = ring.1;
+        changes = changes.1;
+      },
+      sym c.new-bytes.ensures ∙ parts-saved s _ _ _ _ line.0 ring.0 changes.0 (sym c.is_empty.ensures ∙ c.if-not-is_empty.false),
+      ap (λ watch. with_watch watch s) c.new.ensures,
+    )

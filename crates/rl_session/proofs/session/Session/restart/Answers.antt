@@ -7,6 +7,7 @@ pub invariant_of-self-2 : goal.invariant_of-self-2
 invariant_of-self-2 c = record {
   walks = Walks-nothing c.new.result c.renew.new.line.text c.new.ensures (subst (λ (l : Line). IsUtf8 l.text) (sym c.in_ok-renew.ensures.line) c.utf8.text);
   idle = ap (λ (r : Ring). r.killing) c.reset.ensures ∙ c.self.invariant.idle;
+  grows_not = ap (λ (l : Line). l.grow) c.in_ok-renew.ensures.line ∙ c.self.invariant.grows_not;
 }
 
 pub returns-clause-ok : goal.returns-clause-ok

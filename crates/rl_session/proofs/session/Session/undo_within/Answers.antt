@@ -1,13 +1,15 @@
+use Rattle.rl_session.proofs.Common.{◌≡◌, ◌∙◌, false, Line, Walks}
 use Rattle.rl_line.proofs.Records.MoveLemmas.{undo-fits}
 use Rattle.rl_line.proofs.Records.WalkLemmas.{Walks-Undone, Walks-back}
-use Rattle.rl_session.proofs.Sessions.PerformLemmas.{Walks-within}
+use Rattle.rl_session.proofs.Sessions.PerformLemmas.{within-keeps}
+use Rattle.rl_session.proofs.Sessions.SessionLemmas.{grow-Undone}
 use Rattle.rl_session.proofs.session.Session.undo_within.Goals as goal
 
 pub invariant_of-self : goal.invariant_of-self
-invariant_of-self c = record {
-  walks = Walks-within _ _ _ _ _ _ _ c.undo_within.result (λ a d w. Walks-Undone _ _ _ _ _ a d w) c.undo_within.ensures.done c.undo_within.ensures.err c.self.invariant.walks;
-  idle = c.self.invariant.idle;
-}
+invariant_of-self c =
+    let kept = within-keeps (λ r (l : Line). Walks r l.text × (l.grow ≡ false)) _ _ _ _ _ _ _ c.undo_within.result (λ a d w. (Walks-Undone _ _ _ _ _ a d w.0, grow-Undone _ _ _ _ _ a d ∙ w.1))
+    c.undo_within.ensures.done c.undo_within.ensures.err (c.self.invariant.walks, c.self.invariant.grows_not) in
+    record { walks = kept.0; idle = c.self.invariant.idle; grows_not = kept.1 }
 
 pub undo_within-requires-clause-follows : goal.undo_within-requires-clause-follows
 undo_within-requires-clause-follows c =
