@@ -1,5 +1,5 @@
 -- What a session held: all that it keeps of what was undone, and of a session of which no history is known what its record says.
-use Rattle.rl_session.proofs.Common.{◌≡◌, ◌∙◌, ℕ, List, [], ◌∷◌, ◌++◌, All, Ends, Entry, Begin, End, Changed, IsUtf8, Option, None, Some, WasHeld, Placed, History, Holds, State, append-nil, append_assoc, ap, end_one, end_times, event_of, inl, inr, inverse, level, line_ahead, line_back, option_and_then, origin, refl, replay_entries, subst, sym}
+use Rattle.rl_session.proofs.Common.{◌≡◌, ◌∙◌, ℕ, List, [], ◌∷◌, ◌++◌, All, Ends, Entry, Begin, End, Changed, IsUtf8, Some, WasHeld, Placed, Holds, State, append-nil, append_assoc, ap, end_one, event_of, inl, inr, inverse, level, line_ahead, line_back, option_and_then, origin, refl, replay_entries, subst, sym}
 use Rattle.rl_base.proofs.Common.{All-cons, All-nil}
 use Rattle.rl_base.specs.Event.{apply}
 use Rattle.rl_line.specs.Record.{flipped, turned_all}

@@ -1,5 +1,5 @@
 -- How what a command does becomes a command that was performed.
-use Rattle.rl_session.proofs.Common.{option_map, arith, Err, IfErr, IfOk, Line, List, Option, Refusal, Walks, ◌≡◌, ℕ, ap, cond, max, Record, min, None, Some, same_Some, ◌∙◌, not, string_bytes, Bool, Ok, Result, replied, false, true, inl, inr, refl, subst, sym, reset, Movement, BeginningOfLine, EndOfLine, BackwardWord, ForwardWord, ViCharSearch, BeginningOfBuffer, EndOfBuffer, CanDeleteBy, kill_plan, nothing_more, Came, Does, answers, deletion_of, edit_course, readied, settled, State, Ends, WasRefused, with_ring, Command, KillLine, KillBuffer, DiscardLine, DiscardBuffer, DeletePrevWord, DeleteWord, DeleteTo, Reply}
+use Rattle.rl_session.proofs.Common.{option_map, arith, Err, IfErr, IfOk, Line, List, Option, Refusal, ◌≡◌, ℕ, ap, cond, max, Record, min, None, Some, same_Some, ◌∙◌, not, string_bytes, Bool, Ok, Result, replied, false, true, inl, inr, refl, subst, sym, reset, Movement, BeginningOfLine, EndOfLine, BackwardWord, ForwardWord, ViCharSearch, BeginningOfBuffer, EndOfBuffer, CanDeleteBy, kill_plan, nothing_more, Came, Does, answers, deletion_of, edit_course, readied, settled, State, Ends, WasRefused, with_ring, Command, KillLine, KillBuffer, DiscardLine, DiscardBuffer, DeletePrevWord, DeleteWord, DeleteTo, Reply}
 use Rattle.rl_base.specs.declared.motion.Movement.TheVariants.{WholeBuffer}
 use Rattle.rl_line.specs.Edits.{CanInsertStr, insert_str_plan}
 use Rattle.rl_line.specs.Indents.{indent_changes}

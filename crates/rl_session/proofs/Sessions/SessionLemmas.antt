@@ -1,5 +1,5 @@
 -- What holds whatever a call answered.
-use Rattle.rl_session.proofs.Common.{ToldOutcome, Outcome, Entry, ◌∷◌, event_of, inverse, line_after, line_ahead, map, reverse, stepped, Cut, replay_entries, Bool, false, true, inr, List, [], Result, Ok, Err, ◌≡◌, ◌∙◌, ap, arith, refl, subst, sym, append-nil, inl, ◌≤◌, ℕ, length, take_all, IsCharBoundary-start, IsUtf8-nil, Option, None, max, IsSome, Some, IsUtf8, Event, Start, Stop, Refusal, Line, Moved, Plan, Done, Halted, or_no_memory, Takes, nothing_more, a_copy, insert_str_plan, Told, Record, agree, replays_to, unwind, AtRest, Follows, pair_step, pair_refused, Pair, IsCharBoundary, Walks, line_back, bytes_eq-Decides, same_Some}
+use Rattle.rl_session.proofs.Common.{ToldOutcome, Outcome, Entry, ◌∷◌, event_of, inverse, line_after, map, reverse, stepped, Cut, replay_entries, Bool, false, true, inr, List, [], Result, Ok, Err, ◌≡◌, ◌∙◌, ap, arith, refl, subst, sym, append-nil, inl, ◌≤◌, ℕ, length, take_all, IsCharBoundary-start, IsUtf8-nil, Option, None, max, IsSome, Some, IsUtf8, Event, Start, Stop, Refusal, Line, Moved, Plan, Done, Halted, or_no_memory, Takes, nothing_more, a_copy, insert_str_plan, Told, Record, agree, replays_to, unwind, AtRest, Follows, pair_step, pair_refused, Pair, IsCharBoundary, Walks, line_back, bytes_eq-Decides, same_Some}
 use Rattle.rl_base.proofs.Ring.BoundLemmas.{killing-within}
 use Rattle.rl_base.proofs.Texts.EventLemmas.{apply-InsertStr}
 use Rattle.rl_line.proofs.Records.JoinLemmas.{record_step-Start, record_step-Stop}

@@ -49,8 +49,7 @@ returns-clause-read c =
     let line = c.in_ok-line.ensures.read s refl refl in
     let ring = c.in_ok-ring.ensures.read in
     let changes = c.in_ok-changes.ensures.read in
-    let stands = c.stands.ensures in
-    (
+    let stands = c.stands.ensures in (
       record {
         text = stands.utf8;
         cursor = stands.cursor;

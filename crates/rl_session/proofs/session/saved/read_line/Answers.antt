@@ -32,8 +32,7 @@ returns-clause-read c s line options =
     let made = c.in_ok-line.ensures.read in
     let chosen = c.in-Some-options_of.ensures.read in
     let text_is = ap (λ (l : Line). l.text) line ∙ made.1 in
-    let numbers_are = numbers-read _ s c.numbers.ensures.len (ap line_numbers line ∙ made.0) (ap option_numbers options ∙ chosen.0) (ap length text_is ∙ text.1) in
-    (
+    let numbers_are = numbers-read _ s c.numbers.ensures.len (ap line_numbers line ∙ made.0) (ap option_numbers options ∙ chosen.0) (ap length text_is ∙ text.1) in (
       line-saved s _ _ _ _ _ head.0 text.0 numbers_are text_is,
       subst (All (Fits Eight)) (sym numbers_are) head.1,
       subst (λ (o : Options). o.prompt < 2 ^ 16) (sym options) chosen.1,
