@@ -1,5 +1,5 @@
 -- What holds whatever a call answered.
-use Rattle.rl_session.proofs.Common.{ToldOutcome, Outcome, Entry, ◌∷◌, event_of, inverse, line_after, map, reverse, stepped, Cut, replay_entries, Bool, false, true, inr, List, [], Result, Ok, Err, ◌≡◌, ◌∙◌, ap, arith, refl, subst, sym, append-nil, inl, ◌≤◌, ℕ, length, take_all, IsCharBoundary-start, IsUtf8-nil, Option, None, max, IsSome, Some, IsUtf8, Event, Start, Stop, Refusal, Line, Moved, Plan, Done, Halted, or_no_memory, Takes, nothing_more, a_copy, insert_str_plan, Told, Record, agree, replays_to, unwind, AtRest, Follows, pair_step, pair_refused, Pair, IsCharBoundary, Walks, line_back, bytes_eq-Decides, same_Some}
+use Rattle.rl_session.proofs.Common.{OnOk, IfErr, ToldOutcome, Outcome, Entry, ◌∷◌, event_of, inverse, line_after, map, reverse, stepped, Cut, replay_entries, Bool, false, true, inr, List, [], Result, Ok, Err, ◌≡◌, ◌∙◌, ap, arith, refl, subst, sym, append-nil, inl, ◌≤◌, ℕ, length, take_all, IsCharBoundary-start, IsUtf8-nil, Option, None, max, IsSome, Some, IsUtf8, Event, Start, Stop, Refusal, Line, Moved, Plan, Done, Halted, or_no_memory, Takes, nothing_more, a_copy, insert_str_plan, Told, Record, agree, replays_to, unwind, AtRest, Follows, pair_step, pair_refused, Pair, IsCharBoundary, Walks, line_back, bytes_eq-Decides, same_Some}
 use Rattle.rl_base.proofs.Ring.BoundLemmas.{killing-within}
 use Rattle.rl_base.proofs.Texts.EventLemmas.{apply-InsertStr}
 use Rattle.rl_line.proofs.Records.JoinLemmas.{record_step-Start, record_step-Stop}
@@ -155,6 +155,20 @@ replays-all len r line at all w =
     let now = value_of (line_back r.recorded line) (Walks-back r line w at) in
     let back = line_back-unwind r.recorded line now.0 now.1 in
     ap (λ es. agree (unwind r.recorded line.text) (unwind es line.text)) (take_all len r.recorded all) ∙ ap (λ o. agree o o) back ∙ (bytes_eq-Decides now.0.text now.0.text).1 refl
+
+-- a call of the record, after which it leads to the text still; or which may also have left it as it was
+pub AtRest-changed : (line : Line) (p : Pair) (r now : Record) → now ≡ r → Walks r line.text → AtRest line p → AtRest line (record p { changes = now })
+AtRest-changed line p r now e w h = record { walks = subst (λ (k : Record). Walks k line.text) (sym e) w; idle = h.idle; grows_not = h.grows_not }
+
+pub AtRest-tried : (line : Line) (p : Pair) (r now : Record) (done : Bool) → (done ≡ true → now ≡ r) → (done ≡ false → now ≡ p.changes) → Walks r line.text → AtRest line p
+    → AtRest line (record p { changes = now })
+AtRest-tried line p r now true is _ w h = AtRest-changed line p r now (is refl) w h
+AtRest-tried line p r now false _ is w h = AtRest-changed line p p.changes now (is refl) h.walks h
+
+pub AtRest-kept : {A : Type 0} (P : Refusal → Type 0) (line : Line) (p : Pair) (r now : Record) (o : Result A Refusal) → OnOk o (now ≡ r) → IfErr o P → ((w : Refusal) → P w → now ≡ p.changes) → Walks r line.text
+    → AtRest line p → AtRest line (record p { changes = now })
+AtRest-kept P line p r now (Ok x) is _ _ w h = AtRest-changed line p r now is w h
+AtRest-kept P line p r now (Err x) _ e same w h = AtRest-changed line p p.changes now (same x e) h.walks h
 
 -- the line can go back then, and ahead
 pub Follows-Walks : (r : Record) (line : Line) → IsCharBoundary line.text line.cursor → Walks r line.text → Follows line r
