@@ -30,12 +30,14 @@ pub fn conditions_are_of_the_text()
 {}
 
 /// What an undo leaves is the text unwound over the units that it took off the record, and what a redo leaves is the replay of
-/// the unit that it recorded again.
+/// the unit that it recorded again. So n redos leave the replay of the next n units, if no group is open among what waits.
 pub fn undo_unwinds_and_redo_replays()
     ensures undone { (n : ℕ) (old new : Record) (line line' : Line) (answer : Bool) → Undone n old new line line' answer
         → unwind (last_of n old.recorded) line.text ≡ Some line'.text }
     ensures redone { (old new : Record) (line line' : Line) (answer : Bool) → Redone old new line line' answer
         → replay_entries (redo_of old.pending) line.text ≡ Some line'.text }
+    ensures redos { (n : ℕ) (old new : Record) (line line' : Line) → IsMatched old.pending → level old.pending ≡ 0 → 0 < n → n ≤ length (units old.pending)
+        → Redos n old new line line' → replay_entries (next_of n old.pending) line.text ≡ Some line'.text }
 {}
 
 /// What a listener hears of an undo or of a redo are steps that lead the old line to the new one. So `steps_are_a_replay`
