@@ -35,8 +35,9 @@ pub fn a_session_has_a_history()
 
 /// Where undone changes are kept, the texts there and back, which count as held (`held_by`), were held before. An undo that
 /// takes all units that were recorded since, and n more, leaves the text to which the first n units led that waited then, with
-/// their groups closed. Conditions: neither the keeping nor the undo was refused, something waited, and what was recorded since
-/// stands above what was kept, each End with its Begin.
+/// their groups closed: that to which n redos would have led instead of the keeping, if no group was open there. Conditions:
+/// neither the keeping nor the undo was refused, something waited, and what was recorded since stands above what was kept, each
+/// End with its Begin.
 pub fn what_is_kept_was_held()
     ensures held { (start : List ℕ) (held : List (List ℕ)) (s : State) → Holds start held s
         → All (λ (text : List ℕ). WasHeld text held) (texts_ahead (there_and_back s.pair.changes.pending) s.line.text) }
@@ -48,7 +49,9 @@ pub fn what_is_kept_was_held()
         → u.before.pair.changes.recorded ≡ k.after.pair.changes.recorded ++ es → IsMatched es
         → 0 < n → n ≤ length (units (closed_all k.before.pair.changes.pending))
         → u.command ≡ Undo (length (units es) + n) → ¬ (WasRefused u.reply)
-        → replay_entries (next_of n (closed_all k.before.pair.changes.pending)) k.before.line.text ≡ Some u.after.line.text }
+        → (replay_entries (next_of n (closed_all k.before.pair.changes.pending)) k.before.line.text ≡ Some u.after.line.text)
+        × ((other : State) (asked : List Command) (answered : List Reply) → (redos : Run k.before asked answered other) → AllRedone redos.rows
+        → length redos.rows ≡ n → level k.before.pair.changes.pending ≡ 0 → other.line.text ≡ u.after.line.text) }
 {}
 
 /// Among the recorded entries, and among the undone ones, every end of a group has its begin, and every closed group
