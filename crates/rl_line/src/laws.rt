@@ -1,7 +1,7 @@
 //! The laws of the record: what undo, redo, groups and forgetting come to, over any entries.
 #![tactic(auto, using(crate::proofs::Records::Laws::laws))]
 
-ghost use Rattle.std.specs.Prelude.{◌≡◌, ◌≤◌, ◌↔◌, ℕ, List, Bool, [], ◌∷◌, ◌++◌, ◌-◌, min, suc, true, false, drop, length, take, IsSome, Some, ◌<◌};
+ghost use Rattle.std.specs.Prelude.{◌≡◌, ◌≤◌, ◌↔◌, ◌+◌, ℕ, List, Bool, [], ◌∷◌, ◌++◌, ◌-◌, min, suc, true, false, drop, length, take, IsSome, Some, ◌<◌};
 ghost use Rattle.std.specs.Str.{IsCharBoundary, IsUtf8};
 ghost use Rattle.rl_base.specs.Event.{Event};
 ghost use Rattle.rl_line.specs.Forgetting.{fits, forgotten, gone_within, kept_within};
@@ -30,12 +30,14 @@ pub fn conditions_are_of_the_text()
 {}
 
 /// What an undo leaves is the text unwound over the units that it took off the record, and what a redo leaves is the replay of
-/// the unit that it recorded again.
+/// the unit that it recorded again. So n redos leave the replay of the next n units, if no group is open among what waits.
 pub fn undo_unwinds_and_redo_replays()
     ensures undone { (n : ℕ) (old new : Record) (line line' : Line) (answer : Bool) → Undone n old new line line' answer
         → unwind (last_of n old.recorded) line.text ≡ Some line'.text }
     ensures redone { (old new : Record) (line line' : Line) (answer : Bool) → Redone old new line line' answer
         → replay_entries (redo_of old.pending) line.text ≡ Some line'.text }
+    ensures redos { (n : ℕ) (old new : Record) (line line' : Line) → IsMatched old.pending → level old.pending ≡ 0 → 0 < n → n ≤ length (units old.pending)
+        → Redos n old new line line' → replay_entries (next_of n old.pending) line.text ≡ Some line'.text }
 {}
 
 /// What a listener hears of an undo or of a redo are steps that lead the old line to the new one. So `steps_are_a_replay`
@@ -97,10 +99,14 @@ pub fn abandoned_group_was_never_begun()
 
 /// What was undone and is kept can be had by undos: of a record that keeps it, an undo of n units leads where the next n units
 /// led that waited to be redone, with their groups closed, and as many undos as there were units there and back come to what was
-/// recorded before.
+/// recorded before. It holds too once entries were recorded above, as of a later edit: an undo that takes all their units, and n
+/// more, leads from the text after them to where n redos led.
 pub fn undos_lead_where_redos_led()
     ensures lead { (n : ℕ) (r : Record) (text : List ℕ) → IsMatched r.pending → waits r.pending ≡ true → 0 < n → n ≤ length (units (closed_all r.pending))
         → unwind (last_of n (kept_undone r).recorded) text ≡ replay_entries (next_of n (closed_all r.pending)) text }
+    ensures above { (n : ℕ) (r : Record) (es : List Entry) (text now : List ℕ) → IsMatched r.pending → waits r.pending ≡ true → 0 < n → n ≤ length (units (closed_all r.pending))
+        → IsMatched es → IsUtf8 text → replay_entries es text ≡ Some now
+        → unwind (last_of (length (units es) + n) ((kept_undone r).recorded ++ es)) now ≡ replay_entries (next_of n (closed_all r.pending)) text }
     ensures pass { (r : Record) → IsMatched r.pending → waits r.pending ≡ true → 0 < length (units (there_and_back r.pending))
         → kept_of (length (units (there_and_back r.pending))) (kept_undone r).recorded ≡ r.recorded }
 {}

@@ -2,15 +2,15 @@
 //! history (`Holds`): the texts that were held by then, among which the record is placed. A new session and one that was
 //! restarted begin one (`record_is_placed`), any other has one (`a_session_has_a_history`), and each run goes on with it.
 //! After `forget` it is that of the texts from the one on with which the record then begins (`what_is_left_replays`).
-ghost use Rattle.std.specs.Prelude.{◌≡◌, ◌++◌, ◌∷◌, [], ℕ, All, List, IsSome, Some, drop, length, suc, true};
+ghost use Rattle.std.specs.Prelude.{◌≡◌, ◌≤◌, ◌<◌, ◌+◌, ◌++◌, ◌∷◌, [], ℕ, All, List, IsSome, Some, drop, length, suc, true};
 ghost use Rattle.rl_line.specs.Record.{Entry, StaysSaved, is_saved, replay_entries};
 ghost use Rattle.rl_line.specs.Undo.{texts_ahead};
-ghost use Rattle.rl_line.specs.Units.{BothMatched, has_change, last_of, last_units, level, opens, there_and_back, undone};
+ghost use Rattle.rl_line.specs.Units.{BothMatched, IsMatched, closed_all, has_change, last_of, last_units, level, next_of, opens, there_and_back, undone, units, waits};
 ghost use Rattle.rl_session.specs.History.{AllRedone, AllStandInGroup, ClosesGroup, Holds, IsEdit, WasHeld, WasRefused};
 ghost use Rattle.rl_session.specs.Run.{Row, Run, held_of};
 ghost use Rattle.rl_session.specs.State.{Begins, Ends, Stands, State, origin, saved_now};
 ghost use Rattle.rl_session.specs.declared.session.Command.{Command};
-ghost use Rattle.rl_session.specs.declared.session.Command.TheVariants.{Abandon, Begin, Redo, Undo};
+ghost use Rattle.rl_session.specs.declared.session.Command.TheVariants.{Abandon, Begin, KeepUndone, Redo, Undo};
 ghost use Rattle.rl_session.specs.declared.session.Reply.{Reply};
 
 /// A history (`Holds`): the recorded entries, followed by the undone ones, are placed among the texts that were held,
@@ -33,10 +33,25 @@ pub fn a_session_has_a_history()
         × Holds start (start ∷ texts_ahead (s.pair.changes.recorded ++ s.pair.changes.pending) start) s }
 {}
 
-/// Where undone changes are kept, the texts there and back, which count as held (`held_by`), were held before.
+/// Where undone changes are kept, the texts there and back, which count as held (`held_by`), were held before. An undo that
+/// takes all units that were recorded since, and n more, leaves the text to which the first n units led that waited then, with
+/// their groups closed: that to which n redos would have led instead of the keeping, if no group was open there. Conditions:
+/// neither the keeping nor the undo was refused, something waited, and what was recorded since stands above what was kept, each
+/// End with its Begin.
 pub fn what_is_kept_was_held()
-    ensures { (start : List ℕ) (held : List (List ℕ)) (s : State) → Holds start held s
+    ensures held { (start : List ℕ) (held : List (List ℕ)) (s : State) → Holds start held s
         → All (λ (text : List ℕ). WasHeld text held) (texts_ahead (there_and_back s.pair.changes.pending) s.line.text) }
+    ensures undone { (start : List ℕ) (held : List (List ℕ)) (old new : State) (commands : List Command) (replies : List Reply)
+        (earlier since later : List Row) (k u : Row) (n : ℕ) (es : List Entry)
+        → Holds start held old → (run : Run old commands replies new)
+        → run.rows ≡ earlier ++ (k ∷ (since ++ (u ∷ later)))
+        → k.command ≡ KeepUndone → ¬ (WasRefused k.reply) → waits k.before.pair.changes.pending ≡ true
+        → u.before.pair.changes.recorded ≡ k.after.pair.changes.recorded ++ es → IsMatched es
+        → 0 < n → n ≤ length (units (closed_all k.before.pair.changes.pending))
+        → u.command ≡ Undo (length (units es) + n) → ¬ (WasRefused u.reply)
+        → (replay_entries (next_of n (closed_all k.before.pair.changes.pending)) k.before.line.text ≡ Some u.after.line.text)
+        × ((other : State) (asked : List Command) (answered : List Reply) → (redos : Run k.before asked answered other) → AllRedone redos.rows
+        → length redos.rows ≡ n → level k.before.pair.changes.pending ≡ 0 → other.line.text ≡ u.after.line.text) }
 {}
 
 /// Among the recorded entries, and among the undone ones, every end of a group has its begin, and every closed group

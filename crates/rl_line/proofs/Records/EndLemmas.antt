@@ -1,5 +1,5 @@
 -- The end of one group: it leaves one unit, or no trace. And whether the last unit, and the next one, holds a change.
-use Rattle.rl_line.proofs.Common.{change_count, common_steps, arrived, kept_point, point_kept, Option, length-append, cond_both, ends_in_end, reopened, with_closed, zero, ◌≤◌, ◌≡◌, ℕ, ◌+◌, suc, true, false, List, [], ◌∷◌, ◌++◌, length, ◌-◌, take, drop, map, min, refl, sym, ap, subst, ◌∙◌, inl, inr, arith, append_assoc, drop_at, reverse-reverse, max, not, ◌||◌, reverse, slice_get, Some, None, Event, Change, Entry, Begin, End, Changed, Record, entry_of, record_step, UndoUnit, Open, Whole, AtLevel, Hears, IsMatched, adds_end, after_in_group, begun, close, end_one, end_times, ended_one, ends_in_begin, has_change, in_group, is_begin, kept_of, last_of, level, opens, redo_from, redo_of, together, units}
+use Rattle.rl_line.proofs.Common.{change_count, common_steps, arrived, kept_point, point_kept, Option, cond_both, ends_in_end, reopened, with_closed, zero, ◌≤◌, ◌≡◌, ℕ, ◌+◌, suc, true, false, List, [], ◌∷◌, ◌++◌, length, ◌-◌, take, drop, map, min, refl, sym, ap, subst, ◌∙◌, inl, inr, arith, append_assoc, drop_at, reverse-reverse, max, not, ◌||◌, reverse, slice_get, Some, None, Event, Change, Entry, Begin, End, Changed, Record, entry_of, record_step, UndoUnit, Open, Whole, AtLevel, Hears, IsMatched, adds_end, after_in_group, begun, close, end_one, end_times, ended_one, ends_in_begin, has_change, in_group, is_begin, kept_of, last_of, level, opens, redo_from, redo_of, together, units}
 use Rattle.rl_line.proofs.Records.EntryLemmas.{last-split, none-last}
 use Rattle.rl_line.proofs.Records.LastLemmas.{but_last, end-added, EndsOne, end_one-begin, end_one-cases, end_one-past, ends-past}
 use Rattle.rl_line.proofs.Records.GroupLemmas.{Inside-steps, Settles-change, ends_in_begin-begin, has_change-append, touching}

@@ -1,5 +1,5 @@
 -- The last recorded entry, where an event joins it and where it does not.
-use Rattle.rl_line.proofs.Common.{StandsAt, change_count, append_assoc, drop_all, take_all, length-append, common_steps, Bool, if◌then◌else◌, true, ◌==◌, Added, Change, Changed, Cursors, Delete, Deletion, Direction, Entry, Event, Forward, Freshness, InsertChar, InsertStr, Insertion, Joined, Joins, List, Parted, None, Option, Record, Replace, Replacement, Some, Stale, Start, Stop, TakesIn, [], added, after, ap, append-nil, arith, cut_at, drop, drop-map, drop-set-lt, encode_utf8, entries_after, entries_told, entry_of, false, cursors_of, freshness_added, freshness_joined, freshness_of, freshness_told, get_or, kept_point, point_kept, is_parted, joined, joined_in, last_told, option_map_or, length, length-map, length-take, map, map-append, map-set_same, nil_from_length, refl, set, settled, subst, sym, take, take-map, take_at_read, take_more_set, untold, with_cursors, ℕ, ◌++◌, ◌+◌, ◌-◌, ◌<◌, ◌∙◌, ◌∷◌, ◌≡◌, ◌≤◌}
+use Rattle.rl_line.proofs.Common.{StandsAt, change_count, drop_all, take_all, common_steps, Bool, if◌then◌else◌, true, ◌==◌, Added, Change, Changed, Cursors, Delete, Deletion, Direction, Entry, Event, Forward, Freshness, InsertChar, InsertStr, Insertion, Joined, Joins, List, Parted, None, Option, Record, Replace, Replacement, Some, Stale, Start, Stop, TakesIn, [], added, after, ap, append-nil, arith, cut_at, drop, drop-map, drop-set-lt, encode_utf8, entries_after, entries_told, entry_of, false, cursors_of, freshness_added, freshness_joined, freshness_of, freshness_told, get_or, kept_point, point_kept, is_parted, joined, joined_in, last_told, option_map_or, length, length-map, length-take, map, map-append, map-set_same, nil_from_length, refl, set, settled, subst, sym, take, take-map, take_at_read, take_more_set, untold, with_cursors, ℕ, ◌++◌, ◌+◌, ◌-◌, ◌<◌, ◌∙◌, ◌∷◌, ◌≡◌, ◌≤◌}
 use Rattle.std.specs.Str.{chars}
 use Rattle.unicode_segmentation.specs.Segments.{cut, segments}
 use Rattle.rl_base.specs.Event.{apply}

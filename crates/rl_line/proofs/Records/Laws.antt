@@ -6,11 +6,11 @@ use Rattle.rl_line.proofs.Records.GroupLemmas.{group-empty, group-empty-end}
 use Rattle.rl_line.proofs.Records.HeardLemmas.{after-steps_ahead, after-steps_back}
 use Rattle.rl_line.proofs.Records.PartLemmas.{parted-adds, parted-stays}
 use Rattle.rl_line.proofs.Records.RecordLemmas.{replay-unwind, unwind-replay}
-use Rattle.rl_line.proofs.Records.RedoLemmas.{redos-give-back}
+use Rattle.rl_line.proofs.Records.RedoLemmas.{Redos-lead, redos-give-back}
 use Rattle.rl_line.proofs.Records.SavedLemmas.{saved-back, saved-begun, saved-closed, saved-marked, saved-parted, saved-redone, saved-reopened, saved-replays, saved-step, saved-there, saved-truncated, saved-undone}
 use Rattle.rl_line.proofs.Records.UndoLemmas.{line_ahead-replay, line_back-unwind}
 use Rattle.rl_line.proofs.Records.UnitLawLemmas.{heard-none, heard-stays}
 use Rattle.rl_line.proofs.Records.WayLemmas.{ways-ahead, ways-back}
-use Rattle.rl_line.proofs.Records.RoundLemmas.{saved-kept, undos-lead, undos-pass}
+use Rattle.rl_line.proofs.Records.RoundLemmas.{saved-kept, undos-lead, undos-lead_above, undos-pass}
 
-pub ruleset laws = (after-steps_ahead, after-steps_back, alone-answer, alone-level, alone-nothing, alone-unit, fitting-stay, gone-kept, gone-level, gone-matched, group-empty, group-empty-end, group-stays, heard-none, heard-stays, left-fits, left-replays, line_ahead-replay, line_back-unwind, parted-adds, parted-stays, redos-give-back, reopened-end, replay-unwind, saved-abandoned, saved-back, saved-begun, saved-closed, saved-forgotten, saved-kept, saved-marked, saved-parted, saved-redone, saved-reopened, saved-replays, saved-step, saved-there, saved-truncated, saved-undone, undos-lead, undos-pass, unwind-replay, ways-ahead, ways-back)
+pub ruleset laws = (Redos-lead, after-steps_ahead, after-steps_back, alone-answer, alone-level, alone-nothing, alone-unit, fitting-stay, gone-kept, gone-level, gone-matched, group-empty, group-empty-end, group-stays, heard-none, heard-stays, left-fits, left-replays, line_ahead-replay, line_back-unwind, parted-adds, parted-stays, redos-give-back, reopened-end, replay-unwind, saved-abandoned, saved-back, saved-begun, saved-closed, saved-forgotten, saved-kept, saved-marked, saved-parted, saved-redone, saved-reopened, saved-replays, saved-step, saved-there, saved-truncated, saved-undone, undos-lead, undos-lead_above, undos-pass, unwind-replay, ways-ahead, ways-back)

@@ -1,8 +1,8 @@
 -- As many redos as an undo took units give back the record and the text.
-use Rattle.rl_line.proofs.Common.{common_steps, ◌≡◌, ℕ, suc, Bool, List, [], ◌∷◌, ◌++◌, length, reverse, Option, Some, refl, sym, ap, subst, ◌∙◌, arith, append-nil, append_assoc, reverse-reverse, length-reverse, option_and_then, zero, max, IsUtf8, Line, Entry, Record, replay_entries, UndoUnit, Open, Whole, units, together, opens, last_of, kept_of, last_units, redo_of, undone, redone, marks, IsMatched, BothMatched, line_ahead, Undone, Redos, arrived}
+use Rattle.rl_line.proofs.Common.{◌+◌, ◌<◌, ◌≤◌, drop, entries, length-take-le, level, next_of, take, take-append-drop, common_steps, ◌≡◌, ℕ, suc, Bool, List, [], ◌∷◌, ◌++◌, length, reverse, Option, Some, refl, sym, ap, subst, ◌∙◌, arith, append-nil, append_assoc, reverse-reverse, length-reverse, option_and_then, zero, max, IsUtf8, Line, Entry, Record, replay_entries, UndoUnit, Open, Whole, units, together, opens, last_of, kept_of, last_units, redo_of, undone, redone, marks, IsMatched, BothMatched, line_ahead, Undone, Redos, arrived}
 use Rattle.rl_line.proofs.Records.RecordLemmas.{replay-append, replay-unwind}
 use Rattle.rl_line.proofs.Records.UndoLemmas.{line_ahead-replay, line_back-unwind}
-use Rattle.rl_line.proofs.Records.UnitLemmas.{AllGood, Settles, kept-last, opens-reverse, units-good, units-append, IsMatched-append, on, together-reverse, AllGood-reverse}
+use Rattle.rl_line.proofs.Records.UnitLemmas.{AllGood, AllGood-left, AllGood-right, Settles, kept-last, opens-append, opens-reverse, together-units, units-good, units-append, IsMatched-append, on, together-reverse, AllGood-reverse}
 use Rattle.rl_base.proofs.Texts.SwapLemmas.{some_is}
 use Rattle.rl_line.proofs.Records.MatchLemmas.{AllGood-take}
 
@@ -80,6 +80,37 @@ Redos-text saved (Whole es ∷ vs) kept rest new line line' g o h d =
     replay-append es (on vs) line.text ∙ ap (option_and_then (replay_entries (on vs))) one
     ∙ Redos-text saved vs (kept ++ es) rest new between line' g.1 o h
     (subst (λ x. Redos (length vs) x new between line') (first.record_is ∙ redo_one saved es kept (on vs ++ rest) g.0 m) others)
+
+on-append : (vs ws : List UndoUnit) → on (vs ++ ws) ≡ on vs ++ on ws
+on-append [] ws = refl
+on-append (v ∷ vs) ws = ap (λ l. entries v ++ l) (on-append vs ws) ∙ sym (append_assoc (entries v) (on vs) (on ws))
+
+-- whether the last recorded change may be joined is all one to a redo
+Redos-arrived : (n : ℕ) (r new : Record) (line line' : Line) → 0 < n → Redos n r new line line' → Redos n (arrived r.recorded r.pending r.saved) new line line'
+Redos-arrived zero r new line line' some d = absurd (omega (arith, some))
+Redos-arrived (suc n) r new line line' some d =
+    let (mid, between, answer, first, others) = d in
+    (mid, between, answer, record { line_is = first.line_is; record_is = first.record_is; answer_is = first.answer_is }, others)
+
+-- n redos lead where the next n units lead
+pub Redos-lead : (n : ℕ) (r new : Record) (line line' : Line) → IsMatched r.pending → level r.pending ≡ 0 → 0 < n → n ≤ length (units r.pending) → Redos n r new line line'
+    → replay_entries (next_of n r.pending) line.text ≡ Some line'.text
+Redos-lead n r new line line' m closed some few d =
+    let vs = reverse (units r.pending) in
+    let first = take n vs in
+    let rest = drop n vs in
+    let good = AllGood-reverse (units r.pending) (units-good r.pending m) in
+    let none : opens first + opens rest ≡ 0 = sym (opens-append first rest) ∙ ap opens (take-append-drop n vs) ∙ opens-reverse (units r.pending) ∙ closed in
+    let parts = subst AllGood (sym (take-append-drop n vs)) good in
+    let all : r.pending ≡ on first ++ on rest =
+    sym (together-units r.pending) ∙ ap together (sym (reverse-reverse (units r.pending))) ∙ together-reverse vs ∙ ap on (sym (take-append-drop n vs)) ∙ on-append first rest in
+    let long : n ≡ length first = sym (length-take-le n vs (omega (arith, few, length-reverse (units r.pending)))) in
+    let one : max n 1 ≡ n = omega (arith, some) in
+    let redos = subst (λ k. Redos k (arrived r.recorded (on first ++ on rest) r.saved) new line line') long
+    (subst (λ l. Redos n (arrived r.recorded l r.saved) new line line') all (Redos-arrived n r new line line' some d)) in
+    ap (λ k. replay_entries (together (reverse (take k vs))) line.text) one ∙ ap (λ l. replay_entries l line.text) (together-reverse first)
+    ∙ Redos-text r.saved first r.recorded (on rest) new line line' (AllGood-left first rest parts) (omega (arith, none))
+    (IsMatched-on rest (AllGood-right first rest parts) (omega (arith, none))) redos
 
 pub redos-give-back : (n : ℕ) (r mid now : Record) (line back ahead : Line) (answer : Bool) → IsUtf8 line.text → BothMatched r
     → opens (last_units n r.recorded) ≡ 0 → Undone n r mid line back answer

@@ -1,17 +1,16 @@
 -- Going over what was undone there and back: it ends where it began, and undos lead where redos led. And what each call keeps
 -- that touches no line.
-use Rattle.rl_line.proofs.Common.{end_times, ends_in_end, min, ◌≡◌, ◌≤◌, ℕ, max, arith, Bool, true, List, [], ◌∷◌, ◌++◌, length, take, drop, map, reverse, Option, Some, refl, sym, ap, subst, ◌∙◌, cond_both, append-nil, append_assoc, reverse-append, take-append-le, length-reverse, option_and_then, IsSome, IsUtf8, Entry, Begin, End, Changed, Record, UndoUnit, Open, Whole, AtLevel, BothMatched, IsMatched, StaysSaved, Walk, Walks, LeadsTo, arrived, closed_all, cursor_stands, cut_more, event_of, flipped, inverse, kept_of, kept_undone, last_of, level, marks, opens, replay_entries, there_and_back, together, touched, turned_all, units, unwind, waits, None, cond, drop_at, length-map, next_of, take-append-drop, take-map, ◌<◌}
+use Rattle.rl_line.proofs.Common.{◌+◌, ap₂, take-append-add, end_times, ends_in_end, min, ◌≡◌, ◌≤◌, ℕ, max, arith, Bool, true, List, [], ◌∷◌, ◌++◌, length, take, drop, map, reverse, Option, Some, refl, sym, ap, subst, ◌∙◌, cond_both, append-nil, append_assoc, reverse-append, take-append-le, length-reverse, option_and_then, IsSome, IsUtf8, Entry, Begin, End, Changed, Record, UndoUnit, Open, Whole, AtLevel, BothMatched, IsMatched, StaysSaved, Walk, Walks, LeadsTo, arrived, closed_all, cursor_stands, cut_more, event_of, flipped, inverse, kept_of, kept_undone, last_of, level, marks, opens, replay_entries, there_and_back, together, touched, turned_all, units, unwind, waits, None, cond, drop_at, length-map, next_of, take-append-drop, take-map, ◌<◌}
 use Rattle.rl_base.specs.Event.{apply}
 use Rattle.rl_line.proofs.Records.LastLemmas.{end_times-keeps, map-reverse}
 use Rattle.rl_line.proofs.Records.LevelLemmas.{level-append}
 use Rattle.rl_line.proofs.Records.MatchLemmas.{Lower-end_times}
 use Rattle.rl_line.proofs.Records.RecordLemmas.{inverse-inverse, inverse-undoes, unwind-append, unwind-replay, value_of, replay-append, replay-unwind}
 use Rattle.rl_line.proofs.Records.SavedLemmas.{saved-begun, saved-closed, saved-parted, saved-reopened, saved-there_and_back, saved-truncated}
-use Rattle.rl_line.proofs.Records.UnitLemmas.{AllGood, IsMatched-append, cut_more-append, marks-append, on, together-reverse, together-units, turned-append, units-append, units-good, opens-append, opens-reverse}
+use Rattle.rl_line.proofs.Records.UnitLemmas.{AllGood, IsMatched-append, cut_more-append, marks-append, on, together-reverse, together-append, together-units, turned-append, units-append, units-good, opens-append, opens-reverse}
 use Rattle.rl_line.proofs.Records.WalkLemmas.{Walk-append, Walk-end_one, Walk-IsUtf8}
 use Rattle.rl_base.proofs.Texts.SwapLemmas.{apply-IsUtf8}
 use Rattle.rl_line.proofs.Records.MarkLemmas.{replay-end_one, unwind-cut, unwind-end_one, unwind-truncated}
-use Rattle.rl_line.proofs.Records.KeepLemmas.{ends_past}
 use Rattle.rl_line.proofs.Records.GroupLemmas.{Inside}
 use Rattle.rl_line.specs.Calls.{RecordCall, MayCome, after_call, keeps_undone, parts_next, puts_begin, puts_end, puts_ends, reopens, shortens}
 use Rattle.rl_line.specs.Record.{parted}
@@ -181,6 +180,25 @@ pub undos-lead : (n : ℕ) (r : Record) (text : List ℕ) → IsMatched r.pendin
 undos-lead n r text m some pos few =
     ap (λ b. unwind (last_of n (cond b (round r) r).recorded) text) some ∙ ap (λ l. unwind l text) (last-round n r.recorded r.pending m pos few)
     ∙ unwind-turned (next_of n (closed_all r.pending)) text
+
+-- later units stand above what was recorded
+last-above : (n : ℕ) (xs es : List Entry) → IsMatched es → 0 < n → last_of (length (units es) + n) (xs ++ es) ≡ last_of n xs ++ es
+last-above n xs es m some =
+    let us = units es in
+    let one : max n 1 ≡ n = omega (arith, some) in
+    let all : max (length us + n) 1 ≡ length us + n = omega (arith, some) in
+    ap (λ k. together (take k (units (xs ++ es)))) all ∙ ap (λ l. together (take (length us + n) l)) (units-append xs es m)
+    ∙ ap together (take-append-add us (units xs) n) ∙ together-append us (take n (units xs))
+    ∙ ap₂ (λ k l. together (take k (units xs)) ++ l) (sym one) (together-units es)
+
+-- so an undo that goes on past them leads where it led without them
+pub undos-lead_above : (n : ℕ) (r : Record) (es : List Entry) (text now : List ℕ) → IsMatched r.pending → waits r.pending ≡ true → 0 < n → n ≤ length (units (closed_all r.pending))
+    → IsMatched es → IsUtf8 text → replay_entries es text ≡ Some now
+    → unwind (last_of (length (units es) + n) ((kept_undone r).recorded ++ es)) now ≡ replay_entries (next_of n (closed_all r.pending)) text
+undos-lead_above n r es text now m some pos few above u h =
+    let kept = (kept_undone r).recorded in
+    ap (λ l. unwind l now) (last-above n kept es above pos) ∙ unwind-append (last_of n kept) es now
+    ∙ ap (option_and_then (unwind (last_of n kept))) (unwind-replay es text now u h) ∙ undos-lead n r text m some pos few
 
 -- and as many as it has units come to what was recorded before
 pub undos-pass : (r : Record) → IsMatched r.pending → waits r.pending ≡ true → 0 < length (units (there_and_back r.pending))

@@ -1,5 +1,5 @@
 -- What was recorded becomes one unit: its two marks lead nowhere, and the group that they make is the last unit.
-use Rattle.rl_line.proofs.Common.{change_count, cond, gone_on, is_at, Parted, StaysSaved, inl, inr, ◌⊎◌, length-take-le, put_in_first, reverse-append, cut_more, is_saved, touched, length-drop, length-map, both_ways, leb-true, ◌≡◌, ℕ, ◌+◌, ◌-◌, ◌<◌, ◌≤◌, ◌==◌, ◌&&◌, not, nat_le, suc, arith, Bool, true, false, cond_both, List, [], ◌∷◌, ◌++◌, length, map, take, drop, insert, Option, Some, None, refl, sym, ap, subst, ◌∙◌, append-nil, append_assoc, map-append, take-map, drop-map, take-append-drop, take_rest, eqb-true, le-leb, length-append, option_and_then, option_map_or, IsUtf8, Line, Freshness, Change, Entry, Begin, End, Record, arrived, cut_at, entry_of, freshness_at, freshness_told, kept_point, replay_entries, unwind, UndoUnit, Open, Whole, close, units, together, opens, level, last_of, kept_of, marks, IsMatched, BothMatched, AtLevel, Walk, Walks, waits}
+use Rattle.rl_line.proofs.Common.{change_count, cond, gone_on, is_at, Parted, StaysSaved, inl, inr, ◌⊎◌, put_in_first, reverse-append, cut_more, is_saved, touched, length-drop, length-map, both_ways, leb-true, ◌≡◌, ℕ, ◌+◌, ◌-◌, ◌<◌, ◌≤◌, ◌==◌, ◌&&◌, not, nat_le, suc, arith, Bool, true, false, cond_both, List, [], ◌∷◌, ◌++◌, length, map, take, drop, insert, Option, Some, None, refl, sym, ap, subst, ◌∙◌, append-nil, append_assoc, map-append, take-map, drop-map, take-append-drop, take_rest, eqb-true, le-leb, length-append, option_and_then, option_map_or, IsUtf8, Line, Freshness, Change, Entry, Begin, End, Record, arrived, cut_at, entry_of, freshness_at, freshness_told, replay_entries, unwind, UndoUnit, Open, Whole, close, units, together, opens, level, last_of, kept_of, marks, IsMatched, BothMatched, AtLevel, Walk, Walks, waits}
 use Rattle.std.proofs.lemmas.Bool.{and_from, and_parts, cond-false, cond-true, eq-eqb, ne_eqb, not-true}
 use Rattle.std.proofs.Math.Seq.{drop-append-add, take-append-add}
 use Rattle.rl_base.specs.Event.{apply}

@@ -1,5 +1,5 @@
 -- Empty groups that are opened and closed before what waits to be redone.
-use Rattle.rl_line.proofs.Common.{change_count, changes_of, ◌⊎◌, max, ◌≡◌, ◌≤◌, ◌<◌, ◌^◌, ◌+◌, ◌-◌, ◌||◌, ◌∙◌, ℕ, common_steps, cond, ends_in_begin, zero, suc, arith, Bool, true, false, not, List, [], end_one, ◌∷◌, ◌++◌, length, map, take, drop, insert, remove_range, Option, None, Some, option_map_or, refl, sym, ap, subst, cond_both, append_assoc, drop-append-add, length-append, length-map, length-take-le, drop-map, take-map, map-append, take-append-le, take_all, le-leb, leb-true, leb-false, nat_le, inl, inr, AtLevel, Begin, Change, Entry, Freshness, Record, Walks, adds_end, begun, cut_at, end_times, entry_of, freshness_at, kept_point, level, with_closed}
+use Rattle.rl_line.proofs.Common.{change_count, changes_of, ◌⊎◌, max, ◌≡◌, ◌≤◌, ◌+◌, ◌-◌, ◌||◌, ◌∙◌, ℕ, common_steps, cond, ends_in_begin, zero, suc, arith, true, false, not, List, [], end_one, ◌∷◌, ◌++◌, length, map, take, drop, insert, remove_range, Option, None, Some, refl, sym, ap, subst, append_assoc, drop-append-add, length-append, length-map, length-take-le, drop-map, take-map, map-append, take-append-le, take_all, inl, inr, AtLevel, Begin, Change, Entry, Freshness, Record, Walks, adds_end, begun, cut_at, end_times, entry_of, freshness_at, level, with_closed}
 use Rattle.rl_line.specs.Units.{still_waiting}
 use Rattle.rl_line.specs.declared.change.Change.TheVariants as made
 use Rattle.rl_base.specs.Event.{apply}

@@ -1,5 +1,5 @@
 -- A save point, which no performed command leaves with other changes before it.
-use Rattle.rl_session.proofs.Common.{◌≡◌, ◌++◌, ◌∷◌, ◌∙◌, [], List, true, false, Bool, ℕ, cond_both, refl, sym, ap, subst, same_Some, inl, inr, no_bound, Entry, Record, Command, Reply, Row, State, Holds, Leads, held_of}
+use Rattle.rl_session.proofs.Common.{◌≡◌, ◌++◌, ◌∷◌, ◌∙◌, [], List, true, false, Bool, ℕ, cond_both, refl, sym, ap, subst, same_Some, inl, inr, no_bound, Entry, Command, Reply, Row, State, Holds, Leads, held_of}
 use Rattle.rl_line.specs.Record.{StaysSaved, changes_of, is_saved, parted}
 use Rattle.rl_line.specs.Units.{still_waiting, unit_start}
 use Rattle.rl_line.specs.declared.change.Freshness.TheVariants.{Parted}

@@ -1,16 +1,22 @@
 -- What a session held: all that it keeps of what was undone, and of a session of which no history is known what its record says.
-use Rattle.rl_session.proofs.Common.{◌≡◌, ◌∙◌, ℕ, List, [], ◌∷◌, ◌++◌, All, Ends, Entry, Begin, End, Changed, IsUtf8, Some, WasHeld, Placed, Holds, State, append-nil, append_assoc, ap, end_one, event_of, inl, inr, inverse, level, line_ahead, line_back, option_and_then, origin, refl, replay_entries, subst, sym}
+use Rattle.rl_session.proofs.Common.{AllRedone, Redos, end_times, same_Some, ◌+◌, ◌<◌, ◌≤◌, length, true, rules, unwind, last_of, IsMatched, Undo, Command, Does, Line, Record, Reply, Row, Run, WasRefused, held, held_of, ◌≡◌, ◌∙◌, ℕ, List, [], ◌∷◌, ◌++◌, All, Ends, Entry, Begin, End, Changed, IsUtf8, Some, WasHeld, Placed, Holds, State, append-nil, append_assoc, ap, end_one, event_of, inl, inr, inverse, level, line_ahead, line_back, option_and_then, origin, refl, replay_entries, subst, sym}
 use Rattle.rl_base.proofs.Common.{All-cons, All-nil}
 use Rattle.rl_base.specs.Event.{apply}
 use Rattle.rl_line.specs.Record.{flipped, turned_all}
 use Rattle.rl_line.specs.Undo.{texts_ahead}
-use Rattle.rl_line.specs.Units.{BothMatched, closed_all, there_and_back}
+use Rattle.rl_line.specs.Units.{BothMatched, closed_all, kept_undone, next_of, there_and_back, units, waits}
+use Rattle.rl_session.specs.declared.session.Command.TheVariants.{KeepUndone}
+use Rattle.rl_session.specs.declared.session.Reply.TheVariants as says
 use Rattle.rl_line.proofs.Records.LastLemmas.{end_one-cases, end_times-keeps}
 use Rattle.rl_line.proofs.Records.MarkLemmas.{replay-end, replay-end_one}
 use Rattle.rl_line.proofs.Records.RecordLemmas.{inverse-undoes, replay-IsUtf8, replay-append, replay-unwind, through, unwind-IsUtf8, value_of}
+use Rattle.rl_line.proofs.Records.RedoLemmas.{Redos-lead}
 use Rattle.rl_line.proofs.Records.RoomLemmas.{texts_after-more}
+use Rattle.rl_line.proofs.Records.RoundLemmas.{undos-lead_above}
 use Rattle.rl_line.proofs.Records.UndoLemmas.{line_ahead-replay, line_back-unwind}
 use Rattle.rl_line.proofs.Records.UnitLemmas.{turned-append}
+use Rattle.rl_session.proofs.Runs.HistoryLemmas.{Holds-Leads, Holds-row, done_as, redo-rows, row_at, undo-row}
+use Rattle.rl_session.proofs.Runs.RowLemmas.{Leads-split}
 use Rattle.rl_session.proofs.Runs.PlaceLemmas.{Placed-ahead, Placed-front, Placed-held, Placed-mark, pending-leads}
 
 -- the texts on a way were all held
@@ -93,3 +99,51 @@ history-of s ends matched =
     let on = replay-append r.recorded r.pending start ∙ ap (option_and_then (replay_entries r.pending)) leads ∙ line_ahead-replay r.pending s.line last ahead in
     let placed = Placed-ahead start [] (r.recorded ++ r.pending) (start ∷ []) start last.text ([], record { rest = []; is = refl }) refl on in
     (start, from, record { is_text = u; leads = leads; placed = placed; matched = matched })
+
+-- ---- undos that go on past later edits to what is kept
+KeepUndone-done : (old left : State) (reply : Reply) → Does old KeepUndone reply left → ¬ (WasRefused reply) → (left.pair.changes ≡ kept_undone old.pair.changes) × (left.line ≡ old.line)
+KeepUndone-done old left (says.Answer a) d w = (ap (λ (s : State). s.pair.changes) d.1, ap (λ (s : State). s.line) d.1)
+KeepUndone-done old left _ d w = absurd (search rules)
+
+-- redos leave the text to which the first units lead that wait, if no group is open there
+as-redone : (s : State) (n : ℕ) (text : List ℕ) → IsMatched s.pair.changes.pending → 0 < n → n ≤ length (units (closed_all s.pair.changes.pending))
+    → replay_entries (next_of n (closed_all s.pair.changes.pending)) s.line.text ≡ Some text → (other : State) (commands : List Command) (replies : List Reply)
+    → (redos : Run s commands replies other) → AllRedone redos.rows → length redos.rows ≡ n → level s.pair.changes.pending ≡ 0 → other.line.text ≡ text
+as-redone s n text m pos few to other commands replies redos all long closed =
+    let r = s.pair.changes in
+    let same : closed_all r.pending ≡ r.pending = ap (λ j. end_times j r.pending) closed in
+    let d = subst (λ j. Redos j r other.pair.changes s.line other.line) long (redo-rows redos.rows s other all redos.leads) in
+    let there = Redos-lead n r other.pair.changes s.line other.line m closed pos (subst (λ l. n ≤ length (units l)) same few) d in
+    same_Some _ _ (sym there ∙ ap (λ l. replay_entries (next_of n l) s.line.text) (sym same) ∙ to)
+
+pub undos-past_later : (start : List ℕ) (texts : List (List ℕ)) (old new : State) (commands : List Command) (replies : List Reply)
+    (earlier inside later : List Row) (k u : Row) (n : ℕ) (es : List Entry) → Holds start texts old → (run : Run old commands replies new)
+    → run.rows ≡ earlier ++ (k ∷ (inside ++ (u ∷ later)))
+    → k.command ≡ KeepUndone → ¬ (WasRefused k.reply) → waits k.before.pair.changes.pending ≡ true
+    → u.before.pair.changes.recorded ≡ k.after.pair.changes.recorded ++ es → IsMatched es
+    → 0 < n → n ≤ length (units (closed_all k.before.pair.changes.pending))
+    → u.command ≡ Undo (length (units es) + n) → ¬ (WasRefused u.reply)
+    → (replay_entries (next_of n (closed_all k.before.pair.changes.pending)) k.before.line.text ≡ Some u.after.line.text)
+    × ((other : State) (asked : List Command) (answered : List Reply) → (redos : Run k.before asked answered other) → AllRedone redos.rows → length redos.rows ≡ n
+    → level k.before.pair.changes.pending ≡ 0 → other.line.text ≡ u.after.line.text)
+undos-past_later start texts old new commands replies earlier inside later k u n es holds run rows is_keep keeps some above matched pos few is_undo undoes =
+    let r = k.before.pair.changes in
+    let text = k.before.line.text in
+    let now = u.before.line.text in
+    let m = length (units es) + n in
+    let at = row_at start texts old new commands replies earlier (inside ++ (u ∷ later)) k holds run rows in
+    let q = Leads-split inside (u ∷ later) k.after new at.goes_on in
+    let held_then = (texts ++ held_of earlier) ++ held k in
+    let here = Holds-row start (texts ++ held_of earlier) k at.holds in
+    let late = subst (λ s. Holds start (held_then ++ held_of inside) s) (sym q.2.0) (Holds-Leads start inside held_then k.after q.0 here q.1) in
+    let kept = done_as k KeepUndone (λ r now l m. (now ≡ kept_undone r) × (m ≡ l)) KeepUndone-done is_keep keeps in
+    let from = here.leads ∙ ap (λ (l : Line). Some l.text) kept.1 in
+    let to : replay_entries es text ≡ Some now =
+    sym (replay-append k.after.pair.changes.recorded es start ∙ ap (option_and_then (replay_entries es)) from) ∙ ap (λ l. replay_entries l start) (sym above) ∙ late.leads in
+    let d = (undo-row u m is_undo undoes).1 in
+    let back = line_back-unwind (last_of m u.before.pair.changes.recorded) u.before.line u.after.line d.line_is in
+    let same : u.before.pair.changes.recorded ≡ (kept_undone r).recorded ++ es = above ∙ ap (λ (q : Record). q.recorded ++ es) kept.0 in
+    let leads =
+    sym (undos-lead_above n r es text now at.holds.matched.pending some pos few matched (replay-IsUtf8 r.recorded start text at.holds.is_text at.holds.leads) to)
+    ∙ ap (λ l. unwind (last_of m l) now) (sym same) ∙ back in
+    (leads, as-redone k.before n u.after.line.text at.holds.matched.pending pos few leads)

@@ -1,6 +1,6 @@
 -- Rows of a session: what they make of its history, and what undos and redos among them do.
 use Rattle.rl_session.specs.Commands.{gives_up, keeps, on_record}
-use Rattle.rl_session.proofs.Common.{texts_of_call, ◌≡◌, ◌∙◌, inr, same_Some, replay_entries, true, Cursors, Entry, rules, ℕ, Bool, List, [], ◌∷◌, ◌++◌, length, arith, sym, ap, subst, append-nil, append_assoc, Line, listener_after, Record, record_step, Undone, Redone, Redos, last_of, last_units, opens, redo_of, undone, Effect, by_steps, takes_back, puts_again, Became, effect, Does, readied, with_changes, AllRedone, History, Holds, WasHeld, WasRefused, Row, Leads, Run, held, held_by, held_of, steps_in, texts_of_steps, State, Command, Undo, Redo, Reply, inl}
+use Rattle.rl_session.proofs.Common.{texts_of_call, ◌≡◌, ◌∙◌, inr, same_Some, true, Cursors, Entry, rules, ℕ, Bool, List, [], ◌∷◌, ◌++◌, length, arith, sym, ap, subst, append-nil, append_assoc, Line, listener_after, Record, record_step, Undone, Redone, Redos, last_of, last_units, opens, redo_of, undone, Effect, by_steps, takes_back, puts_again, Became, effect, Does, readied, with_changes, AllRedone, History, Holds, WasHeld, WasRefused, Row, Leads, Run, held, held_by, held_of, steps_in, texts_of_steps, State, Command, Undo, Redo, Reply, inl}
 use Rattle.rl_line.specs.Plan.{Step as PlanStep}
 use Rattle.rl_line.proofs.Records.RoundLemmas.{saved-call}
 use Rattle.rl_line.proofs.Records.RecordLemmas.{replay-IsUtf8}
@@ -127,7 +127,7 @@ Redo-done old left _ d w = absurd (search rules)
 pub redo-row : (row : Row) → row.command ≡ Redo → ¬ (WasRefused row.reply) → (a : Bool) × Redone row.before.pair.changes row.after.pair.changes row.before.line row.after.line a
 redo-row row = done_as row Redo (λ r k l m. (a : Bool) × Redone r k l m a) Redo-done
 
-redo-rows : (rows : List Row) (old new : State) → AllRedone rows → Leads old rows new → Redos (length rows) old.pair.changes new.pair.changes old.line new.line
+pub redo-rows : (rows : List Row) (old new : State) → AllRedone rows → Leads old rows new → Redos (length rows) old.pair.changes new.pair.changes old.line new.line
 redo-rows [] old new all l = (ap (λ (s : State). s.pair.changes) l, ap (λ (s : State). s.line) l)
 redo-rows (row ∷ rows) old new all l = grind (arith, redo-row, (redo-rows rows row.after new all.2 l.1))
 

@@ -1,5 +1,8 @@
-use Rattle.rl_session.proofs.Runs.HeldLemmas.{kept-held}
+use Rattle.rl_session.proofs.Runs.HeldLemmas.{kept-held, undos-past_later}
 use Rattle.rl_session.proofs.history.what_is_kept_was_held.Goals as goal
 
-pub returns : goal.returns
-returns c = kept-held
+pub returns-clause-held : goal.returns-clause-held
+returns-clause-held c = kept-held
+
+pub returns-clause-undone : goal.returns-clause-undone
+returns-clause-undone c = undos-past_later

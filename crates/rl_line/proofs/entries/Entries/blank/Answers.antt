@@ -1,4 +1,4 @@
-use Rattle.rl_line.proofs.Common.{End, Record, StandsAt, [], ap, arith, change_count, drop, entry_of, get_or, map, point_past, set, subst, sym, take, ◌+◌, ◌-◌, ◌∙◌, ◌∷◌}
+use Rattle.rl_line.proofs.Common.{End, Record, StandsAt, [], ap, arith, change_count, drop, entry_of, get_or, map, point_past, subst, sym, take, ◌+◌, ◌-◌, ◌∙◌, ◌∷◌}
 use Rattle.std.proofs.lemmas.List.{length-set}
 use Rattle.rl_line.proofs.Records.PointLemmas.{count-blank, one-part, stands-blanked}
 use Rattle.rl_line.proofs.Records.TallyLemmas.{blank-view}

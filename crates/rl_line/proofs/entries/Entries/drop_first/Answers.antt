@@ -1,4 +1,4 @@
-use Rattle.rl_line.proofs.Common.{ap, arith, cut_at, entry_of, length-map, map, rules, ◌-◌, ◌∙◌, StandsAt, subst, sym}
+use Rattle.rl_line.proofs.Common.{arith, entry_of, length-map, rules, StandsAt, subst, sym}
 use Rattle.rl_line.proofs.Records.PointLemmas.{stands-past}
 use Rattle.rl_line.proofs.Records.ForgettingLemmas.{dropped-first, removed-front}
 use Rattle.rl_line.proofs.Records.FrontLemmas.{Ends-within, count-front}

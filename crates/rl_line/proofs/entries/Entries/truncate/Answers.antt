@@ -1,4 +1,4 @@
-use Rattle.rl_line.proofs.Common.{length, StandsAt, ap, arith, change_count, drop, entry_of, length-map, length-take-le, map, subst, sym, take, ◌+◌, ◌-◌, ◌∙◌, ◌≡◌}
+use Rattle.rl_line.proofs.Common.{length, StandsAt, ap, arith, change_count, drop, entry_of, length-map, length-take-le, map, subst, sym, take, ◌-◌, ◌∙◌, ◌≡◌}
 use Rattle.rl_line.proofs.Records.KeepLemmas.{truncated-front, truncated-view}
 use Rattle.rl_line.proofs.Records.PointLemmas.{left-counted, stands-truncated}
 use Rattle.rl_line.proofs.entries.Entries.truncate.Goals as goal

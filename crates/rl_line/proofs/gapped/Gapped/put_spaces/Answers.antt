@@ -1,4 +1,4 @@
-use Rattle.rl_line.proofs.Common.{rules, refl, ℕ, ◌≡◌, ◌+◌, ◌-◌, ◌<◌, ◌++◌, ◌∷◌, [], List, min, length, ap, sym, subst, ◌∙◌, arith, append_assoc, append-nil, insert_slice, IsCharBoundary, err_from_is_err_and, IsCharBoundary-from_ascii, InsertStr, parts, pushed, put_spaces, spaces, Line, Step, Taken}
+use Rattle.rl_line.proofs.Common.{rules, refl, ℕ, ◌≡◌, ◌-◌, ◌<◌, ◌++◌, ◌∷◌, [], List, min, length, ap, sym, subst, ◌∙◌, arith, append_assoc, append-nil, insert_slice, IsCharBoundary, err_from_is_err_and, IsCharBoundary-from_ascii, InsertStr, parts, pushed, put_spaces, spaces, Line, Step, Taken}
 use Rattle.rl_base.proofs.Clusters.ClusterLemmas.{slice_range-front}
 use Rattle.rl_base.proofs.Texts.TextLemmas.{IsCharBoundary-before}
 use Rattle.rl_line.proofs.Lines.RoomyLemmas.{HasRoom-inserted, length-inserted}
