@@ -27,7 +27,12 @@ impl LineBuffer {
         ensures { result ≡ height screen.now self.now.text k start }
     {
         let on = screen.screen_from(self.as_str(), start);
-        on.rows(self.rest_of_line(k, start), &mut [])
+        let rest = self.rest_of_line(k, start);
+        let (row, column) = on.cell(rest, rest.len());
+        if k < self.last_line() && column == 0 {
+            return row.max(1);
+        }
+        row + 1
     }
 
     // The place at a column of a row of a line, which is laid out from a place of it on.
@@ -69,7 +74,15 @@ impl LineBuffer {
         // So the proof knows that the sum is a `usize`.
         let _len = self.len();
         let on = screen.screen_from(self.as_str(), from);
-        let place = on.find_in_row(self.rest_of_line(k, from), row, column)?;
+        let rest = self.rest_of_line(k, from);
+        let place = on.place_at(rest, (row, column));
+        if place < rest.len() {
+            return Ok(from + place);
+        }
+        let height = self.height(screen, k, from);
+        if height <= row {
+            return Err(height);
+        }
         Ok(from + place)
     }
 
