@@ -1,13 +1,15 @@
 -- The rows of a screen on which each line of a text is laid out by itself, and where motions over them go.
-use Rattle.std.specs.Prelude.{◌≡◌, ◌&&◌, ◌==◌, ℕ, ◌+◌, ◌-◌, ◌<◌, ◌≤◌, max, nat_le, nat_lt, List, length, slice_range, Option, Some, None, unwrap_or, MatchOption, if◌then◌else◌}
+use Rattle.std.specs.Prelude.{◌≡◌, ◌&&◌, ◌==◌, ℕ, ◌+◌, ◌-◌, ◌<◌, ◌≤◌, max, nat_le, nat_lt, get_or, List, length, take, slice_range, Option, Some, None, unwrap_or, MatchOption, if◌then◌else◌}
 use Rattle.rl_base.specs.Lines.{end_of_line, last_line, line_number, start_of_line}
 use Rattle.rl_base.specs.Screen.{cell, place_at, screen_from}
 use Rattle.rl_base.specs.declared.screen.Screen.{Screen}
 
 module _ (text : List ℕ) where
-  -- what follows a place in line k
+  -- what follows a place in line k, before its newline, which is "\n" or "\r\n"
   abbrev pub rest_of_line : ℕ → ℕ → List ℕ
-  rest_of_line k from = slice_range text from (end_of_line text k)
+  rest_of_line k from =
+      let rest = slice_range text from (end_of_line text k) in
+      if nat_lt k (last_line text) && (get_or rest (length rest - 1) 0 == 13) then take (length rest - 1) rest else rest
 
   -- the start of the line of a place
   abbrev pub own_start : ℕ → ℕ

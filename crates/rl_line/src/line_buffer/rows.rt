@@ -8,7 +8,7 @@ use crate::line_buffer::LineBuffer;
 use rl_base::{RepeatCount, Screen};
 
 impl LineBuffer {
-    // What follows a place in line `k`.
+    // What follows a place in line `k`, before its newline.
     fn rest_of_line(&self, k: usize, from: usize) -> &str
         requires line { k ≤ last_line self.now.text }
         requires before { from ≤ end_of_line self.now.text k }
@@ -16,7 +16,12 @@ impl LineBuffer {
         ensures text { result.now ≡ rest_of_line self.now.text k from }
         ensures within { from + length result.now ≤ length self.now.text }
     {
-        &self.as_str()[from..self.end_of_line(k)]
+        let rest = &self.as_str()[from..self.end_of_line(k)];
+        let len = rest.len();
+        if k < self.last_line() && len > 0 && rest.as_bytes()[len - 1] == b'\r' {
+            return &rest[..len - 1];
+        }
+        rest
     }
 
     // How many rows a line takes.
@@ -147,10 +152,10 @@ impl LineBuffer {
 
     /// The byte place `n` rows below the cursor on a screen (GNU readline: next-screen-line), and the column that it is
     /// looked for at: the given one, or the cursor's. Keep that, and give it to the next motion, which then comes back to it
-    /// over a shorter row. A row leads to its last place before the column. Each line is laid out by itself; one that ends at
-    /// the right edge has one row more, for the cursor there. None if there are fewer rows. The cursor's line is laid out from
-    /// the place `from`, where a row begins, if that stands in it and before the cursor; else from its start. It reads the
-    /// text from there to the row that it comes to.
+    /// over a shorter row. A row leads to its last place before the column. Each line is laid out by itself, and has the rows
+    /// that it has in the whole text: if it fills its last row, its end stands in the row in which the next line begins. None
+    /// if there are fewer rows. The cursor's line is laid out from the place `from`, where a row begins, if that stands in it
+    /// and before the cursor; else from its start. It reads the text from there to the row that it comes to.
     pub fn row_below(
         &self,
         screen: &Screen,

@@ -1,4 +1,4 @@
-use Rattle.std.proofs.Common.{◌-◌, ◌≤◌, ℕ, Option}
+use Rattle.std.proofs.Common.{◌≤◌, ℕ, Option}
 use Rattle.std.specs.Str.{IsCharBoundary}
 use Rattle.rl_base.specs.Lines.{end_of_line, last_line, line_number}
 use Rattle.rl_line.specs.Rows.{Above, cell_after, near_above}
