@@ -701,8 +701,8 @@ int lodvarn_rows_from(lodvarn *s, const lodvarn_screen *screen, size_t from, siz
 
 /* Set *offset to n rows above the cursor on a screen; below it: to the last offset of that row whose column is at most
  * *column. Pass LODVARN_OWN_COLUMN in *column for the cursor's column, which is written there, and pass that to the
- * next such call, so that the cursor comes back to its column after a shorter row. Each line is laid out by itself, as
- * by lodvarn_rows: the first after the prompt of the screen, the others after its continuation. In a long line pass in
+ * next such call, so that the cursor comes back to its column after a shorter row. The rows are those of lodvarn_rows:
+ * the end of a line that fills its last row stands in the next row, where the next line begins. In a long line pass in
  * `from` the start of a row of the cursor's line at or above the cursor's row and the one it leads to, as written by
  * lodvarn_rows_from: the line is laid out only from there. Otherwise pass LODVARN_LINE_START, which also stands for an
  * offset in another line or after the cursor, and for one below the row that a motion leads to. They read the text only

@@ -1150,8 +1150,8 @@ class Session:
         column for None; and that column. Pass it to the next such call, so that the cursor comes back to it after a
         shorter row. Returns None if there are fewer rows.
 
-        Each line is laid out by itself, as by `rows`: the first after the prompt of the screen, the others after its
-        continuation. In a long line pass as `start` where a row of the cursor's line begins, at or above the cursor's
+        The rows are those of `rows`: the end of a line that fills its last row stands in the next row, where the next
+        line begins. In a long line pass as `start` where a row of the cursor's line begins, at or above the cursor's
         row and the one that it leads to, as `rows_from` returns it: the line is laid out only from there. None is
         the start of the line; so is an index in another line or after the cursor, or below the row that it leads to.
         Raises BadIndexError, and NoSuchNumberError if a number of the screen is out of its range.

@@ -862,8 +862,26 @@ static void see_rows_from(lodvarn *t, const lodvarn_screen *screen, const size_t
         }
 }
 
+/* From before each cluster and from the end, motions by rows lead over as many rows as the whole text has. */
+static void see_motions(lodvarn *t, const lodvarn_screen *screen, const char *text, const lodvarn_cluster *clusters,
+                        size_t cut, size_t rows) {
+    for (size_t k = 0; k <= cut; k++) {
+        size_t len = strlen(text), pos = k < cut ? clusters[k].from : len, column = 0, offset;
+        lodvarn_position at = {NO, NO};
+        must(lodvarn_cell(screen, pos, text, len, &at) > 0 && lodvarn_set_pos(t, pos) >= 0);
+        size_t left = rows - 1 - at.line;
+        int same = !lodvarn_row_above(t, screen, LODVARN_LINE_START, at.line + 1, &column, &offset)
+            && !lodvarn_row_below(t, screen, LODVARN_LINE_START, left + 1, &column, &offset)
+            && (!at.line || lodvarn_row_above(t, screen, LODVARN_LINE_START, at.line, &column, &offset) > 0)
+            && (!left || lodvarn_row_below(t, screen, LODVARN_LINE_START, left, &column, &offset) > 0);
+        if (!see("rows above and below", same))
+            printf("  columns %zu, prompt %zu, continuation %zu, offset %zu in row %zu of %zu\n", screen->columns,
+                   screen->prompt, screen->continuation, pos, at.line, rows);
+    }
+}
+
 /* On screens of all kinds, whose continuation leaves room for each cluster: the rows of a text are found from each of
- * them on, and its clusters from each on. */
+ * them on, motions lead over all of them, and its clusters are found from each on. */
 static void rows_and_clusters_are_found_from_each(void) {
     static const char *const texts[] = {
         "", "abcdefghi", "ab\n\ncdefg\r\nh\n", "a\tb\1漢\n漢漢e\u0301\t\r" FAMILY "x\u200by",
@@ -874,13 +892,14 @@ static void rows_and_clusters_are_found_from_each(void) {
         size_t all[80], rows = 0, len = strlen(texts[i]), cut = 0, next = 0, count;
         lodvarn_cluster clusters[40], few[3];
         must(lodvarn_open(&t, NULL, texts[i], len) > 0);
+        must(lodvarn_clusters(W, texts[i], len, clusters, COUNT(clusters), &cut) > 0);
         for (size_t k = 0; k < 4 * 7 * 7 * 7; k++) {
             size_t columns = 2 + k / 4 % 7;
             lodvarn_screen screen = ON(columns, k / 28 % 7, k / 196 % (columns - 1), k & 1 ? 4 : 0, k & 2, U);
             must(lodvarn_rows(&screen, texts[i], len, all, COUNT(all), &rows) > 0);
             see_rows_from(t, &screen, all, rows);
+            see_motions(t, &screen, texts[i], clusters, cut, rows);
         }
-        must(lodvarn_clusters(W, texts[i], len, clusters, COUNT(clusters), &cut) > 0);
         for (size_t k = 0; k <= cut; k++) {
             size_t want = cut - k < COUNT(few) ? cut - k : COUNT(few), from = k < cut ? clusters[k].from : len;
             int same = lodvarn_clusters_from(t, W, from, few, COUNT(few), &count, &next) == LODVARN_DONE && count == want
@@ -908,8 +927,20 @@ static const struct moved {
      {{1, 3, 6, 0}, {0, 2, 2, 0}, {0, 2, NO, 0}, {1, 3, NO, 0}}},
     {"by columns over a wide letter and a tab", "ab日c\n\tx\nabcdefghij", 5, ON(80, 0, 0, 8, 0, U),
      {{1, 1, 7, 4}, {1, 1, 14, 4}, {0, 2, 5, 4}}},
-    {"a line that ends at the right edge has one row more", "abcd\nef", 6, ON(4, 0, 0, 0, 0, U),
-     {{0, 1, 4, 1}, {0, 1, 1, 1}}},
+    {"a line that ends at the right edge has no row more", "abc\nd", 0, ON(3, 0, 0, 0, 0, U),
+     {{1, 1, 4, 0}, {0, 1, 0, 0}, {1, 2, NO, 0}}},
+    {"nor one of two rows; from its end as from the next line's row", "abcdef\ng", 6, ON(3, 0, 0, 0, 0, U),
+     {{0, 1, 3, 0}, {1, 1, 7, 0}, {1, 1, NO, 0}, {0, 2, 0, 0}}},
+    {"down from its end", "abcdef\ngh\ni", 6, ON(3, 0, 0, 0, 0, U), {{1, 1, 10, 0}, {0, 1, 7, 0}, {0, 1, 3, 0}}},
+    {"nothing below its end", "abc\nd", 3, ON(3, 0, 0, 0, 0, U), {{1, 1, NO, 0}, {0, 1, 0, 0}}},
+    {"before an empty line", "abc\n\nd", 1, ON(3, 0, 0, 0, 0, U),
+     {{1, 1, 4, 1}, {1, 1, 6, 1}, {0, 2, 1, 1}, {1, 3, NO, 1}}},
+    {"after a prompt, and another", "a\nbc\nd", 5, ON(3, 2, 1, 0, 0, U),
+     {{0, 1, 2, 1}, {0, 1, 0, 1}, {1, 2, 5, 1}, {1, 1, NO, 1}}},
+    {"before CR LF", "abc\r\nde", 7, ON(3, 0, 0, 0, 0, U), {{0, 1, 2, 2}, {1, 1, 7, 2}, {0, 2, NO, 2}}},
+    {"not between CR and LF", "a\r\nbcd", 5, ON(4, 0, 0, 0, 0, U), {{0, 1, 1, 2}, {1, 1, 5, 2}}},
+    {"the last line has one for its end", "a\nabc", 0, ON(3, 0, 0, 0, 0, U),
+     {{1, 1, 2, 0}, {1, 1, 5, 0}, {1, 1, NO, 0}, {0, 1, 2, 0}}},
 };
 
 /* A step from each row of the text, as the line's start does it if the row stands in another line or below. */

@@ -1,13 +1,15 @@
 -- The rows of a screen on which each line of a text is laid out by itself, and where motions over them go.
-use Rattle.std.specs.Prelude.{◌≡◌, ◌&&◌, ℕ, ◌+◌, ◌-◌, ◌<◌, ◌≤◌, nat_le, nat_lt, List, length, slice_range, Option, Some, None, unwrap_or, MatchOption, if◌then◌else◌}
+use Rattle.std.specs.Prelude.{◌≡◌, ◌&&◌, ◌==◌, ℕ, ◌+◌, ◌-◌, ◌<◌, ◌≤◌, max, nat_le, nat_lt, get_or, List, length, take, slice_range, Option, Some, None, unwrap_or, MatchOption, if◌then◌else◌}
 use Rattle.rl_base.specs.Lines.{end_of_line, last_line, line_number, start_of_line}
-use Rattle.rl_base.specs.Screen.{cell, place_at, rows, screen_from}
+use Rattle.rl_base.specs.Screen.{cell, place_at, screen_from}
 use Rattle.rl_base.specs.declared.screen.Screen.{Screen}
 
 module _ (text : List ℕ) where
-  -- what follows a place in line k
+  -- what follows a place in line k, before its newline, which is "\n" or "\r\n"
   abbrev pub rest_of_line : ℕ → ℕ → List ℕ
-  rest_of_line k from = slice_range text from (end_of_line text k)
+  rest_of_line k from =
+      let rest = slice_range text from (end_of_line text k) in
+      if nat_lt k (last_line text) && (get_or rest (length rest - 1) 0 == 13) then take (length rest - 1) rest else rest
 
   -- the start of the line of a place
   abbrev pub own_start : ℕ → ℕ
@@ -19,9 +21,14 @@ module _ (text : List ℕ) where
   near (Some from) place = if nat_le (own_start place) from && nat_le from place then from else own_start place
 
 module _ (screen : Screen) (text : List ℕ) where
-  -- how many rows that takes, if a row begins at the place; one that ends at the right edge has one more, for the cursor there
+  -- where that ends, if a row begins at the place; one that ends at the right edge does at column 0 of the next row
+  abbrev pub line_end : ℕ → ℕ → ℕ × ℕ
+  line_end k from = cell (screen_from screen text from) (rest_of_line text k from) (length (rest_of_line text k from))
+
+  -- how many rows that takes: the next row, to which the right edge leads, is one of the last line, for the cursor there; after any
+  -- other line it is the row in which the next line begins
   abbrev pub height : ℕ → ℕ → ℕ
-  height k from = length (rows (screen_from screen text from) (rest_of_line text k from))
+  height k from = if nat_lt k (last_line text) && ((line_end k from).1 == 0) then max 1 (line_end k from).0 else (line_end k from).0 + 1
 
   -- the row of a later place of the line, from 0, and its column there
   abbrev pub cell_after : ℕ → ℕ → ℕ → ℕ × ℕ

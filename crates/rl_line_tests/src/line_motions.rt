@@ -289,11 +289,11 @@ fn goes_by_rows(
 
 #[test]
 fn rows_above_and_below(rt: HostRuntime) -> Result<(), Fail> {
-    // The rows abc, defg, and an empty one; hi, and jk.
+    // The rows abc, and defg; hi, where the end of the first line stands, and jk.
     const ROWS: &[(usize, usize, Target, Target)] = &[
-        (5, 3, Some((1, 2)), Some((7, 2))),
-        (5, 0, Some((1, 2)), Some((7, 2))),
-        (7, 7, Some((3, 0)), Some((8, 0))),
+        (5, 3, Some((1, 2)), Some((8, 2))),
+        (5, 0, Some((1, 2)), Some((8, 2))),
+        (7, 7, Some((3, 0)), Some((10, 0))),
         (11, 10, Some((8, 1)), None),
         (11, 3, Some((8, 1)), None),
         (1, 3, None, Some((5, 2))),

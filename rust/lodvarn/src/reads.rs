@@ -233,8 +233,8 @@ impl Session {
     }
 
     /// Where the cursor goes `n` rows up on a screen: to the last offset of that row whose column is not after
-    /// `column`, or the cursor's if it is `None`. `None` if there are fewer rows, or `n` is 0. Each line is laid out by
-    /// itself, the first after the prompt of the screen, and the others after its continuation.
+    /// `column`, or the cursor's if it is `None`. `None` if there are fewer rows, or `n` is 0. The rows are those
+    /// of [`Screen::rows`]: the end of a line that fills its last row stands in the next row, where the next line begins.
     ///
     /// In a long line give in `from` the start of a row of the cursor's line at or above the cursor's row and the one
     /// it leads to, as given by [`rows_from`](Session::rows_from): the line is laid out only from there. `None` stands

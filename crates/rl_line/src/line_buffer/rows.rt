@@ -8,7 +8,7 @@ use crate::line_buffer::LineBuffer;
 use rl_base::{RepeatCount, Screen};
 
 impl LineBuffer {
-    // What follows a place in line `k`.
+    // What follows a place in line `k`, before its newline.
     fn rest_of_line(&self, k: usize, from: usize) -> &str
         requires line { k ≤ last_line self.now.text }
         requires before { from ≤ end_of_line self.now.text k }
@@ -16,7 +16,12 @@ impl LineBuffer {
         ensures text { result.now ≡ rest_of_line self.now.text k from }
         ensures within { from + length result.now ≤ length self.now.text }
     {
-        &self.as_str()[from..self.end_of_line(k)]
+        let rest = &self.as_str()[from..self.end_of_line(k)];
+        let len = rest.len();
+        if k < self.last_line() && len > 0 && rest.as_bytes()[len - 1] == b'\r' {
+            return &rest[..len - 1];
+        }
+        rest
     }
 
     // How many rows a line takes.
@@ -27,7 +32,12 @@ impl LineBuffer {
         ensures { result ≡ height screen.now self.now.text k start }
     {
         let on = screen.screen_from(self.as_str(), start);
-        on.rows(self.rest_of_line(k, start), &mut [])
+        let rest = self.rest_of_line(k, start);
+        let (row, column) = on.cell(rest, rest.len());
+        if k < self.last_line() && column == 0 {
+            return row.max(1);
+        }
+        row + 1
     }
 
     // The place at a column of a row of a line, which is laid out from a place of it on.
@@ -69,7 +79,15 @@ impl LineBuffer {
         // So the proof knows that the sum is a `usize`.
         let _len = self.len();
         let on = screen.screen_from(self.as_str(), from);
-        let place = on.find_in_row(self.rest_of_line(k, from), row, column)?;
+        let rest = self.rest_of_line(k, from);
+        let place = on.place_at(rest, (row, column));
+        if place < rest.len() {
+            return Ok(from + place);
+        }
+        let height = self.height(screen, k, from);
+        if height <= row {
+            return Err(height);
+        }
         Ok(from + place)
     }
 
@@ -134,10 +152,10 @@ impl LineBuffer {
 
     /// The byte place `n` rows below the cursor on a screen (GNU readline: next-screen-line), and the column that it is
     /// looked for at: the given one, or the cursor's. Keep that, and give it to the next motion, which then comes back to it
-    /// over a shorter row. A row leads to its last place before the column. Each line is laid out by itself; one that ends at
-    /// the right edge has one row more, for the cursor there. None if there are fewer rows. The cursor's line is laid out from
-    /// the place `from`, where a row begins, if that stands in it and before the cursor; else from its start. It reads the
-    /// text from there to the row that it comes to.
+    /// over a shorter row. A row leads to its last place before the column. Each line is laid out by itself, and has the rows
+    /// that it has in the whole text: if it fills its last row, its end stands in the row in which the next line begins. None
+    /// if there are fewer rows. The cursor's line is laid out from the place `from`, where a row begins, if that stands in it
+    /// and before the cursor; else from its start. It reads the text from there to the row that it comes to.
     pub fn row_below(
         &self,
         screen: &Screen,
