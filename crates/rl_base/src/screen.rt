@@ -148,26 +148,30 @@ impl Screen {
         self.seek(text, cell).0
     }
 
-    /// The byte place at a column of a row, as `place_at` finds it; an error if there is no such row, which says how many
-    /// there are. It reads the text up to there.
-    pub fn find_in_row(&self, text: &str, row: usize, column: usize) -> Result<usize, usize>
-        ensures ok { IfOk result (λ place. (place ≡ place_at self.now text.now (row, column)) × (row < length (rows self.now text.now))) }
+    /// The byte place at a column of a row, as `place_at` finds it; if the text ends above that row, the error is the cell of
+    /// its end. It reads the text up to there.
+    pub fn find_in_row(
+        &self,
+        text: &str,
+        row: usize,
+        column: usize,
+    ) -> Result<usize, (usize, usize)>
+        ensures ok { IfOk result (λ place. place ≡ place_at self.now text.now (row, column)) }
         ensures within { IfOk result (λ place. place ≤ length text.now) }
-        ensures err { IfErr result (λ height. (height ≡ length (rows self.now text.now)) × (height ≤ row)) }
+        ensures err { IfErr result (λ end. (end ≡ cell self.now text.now (length text.now)) × (end.0 < row)) }
     {
-        let (place, last) = self.seek(text, (row, column));
-        if last < row {
-            return Err(last + 1);
+        let (place, end) = self.seek(text, (row, column));
+        if end.0 < row {
+            return Err(end);
         }
         Ok(place)
     }
 
-    // `place_at`, and the row in which the text ends, or the first row that was come to from the cell's on.
-    fn seek(&self, text: &str, cell: (usize, usize)) -> (usize, usize)
-        ensures value { result.0 ≡ place_at self.now text.now cell }
+    // `place_at`, and the cell at which the text ends, or the first one after the given cell.
+    fn seek(&self, text: &str, to: (usize, usize)) -> (usize, (usize, usize))
+        ensures value { result.0 ≡ place_at self.now text.now to }
         ensures within { result.0 ≤ length text.now }
-        ensures row { result.1 < length (rows self.now text.now) }
-        ensures last { result.1 < cell.0 → result.1 + 1 ≡ length (rows self.now text.now) }
+        ensures end { result.1.0 < to.0 → result.1 ≡ cell self.now text.now (length text.now) }
     {
         let mut row: usize = 0;
         let mut column = usize::from(self.prompt);
@@ -175,18 +179,18 @@ impl Screen {
         let mut found: usize = 0;
         for cluster in text.graphemes(true) {
             let at = self.stands(row, column, cluster);
-            if !is_within(at, cell) {
-                return (found, at.0);
+            if !is_within(at, to) {
+                return (found, at);
             }
             found = place;
             (row, column) = self.after(row, column, cluster);
             place += cluster.len();
         }
         let end = self.wrapped(row, column);
-        if is_within(end, cell) {
-            return (place, end.0);
+        if is_within(end, to) {
+            return (place, end);
         }
-        (found, end.0)
+        (found, end)
     }
 
     /// The byte places of a text where its rows begin, from row 0 on: as many as fit go to `starts`. Answers how many rows

@@ -11,6 +11,11 @@ module _ (text : List ℕ) where
       let rest = slice_range text from (end_of_line text k) in
       if nat_lt k (last_line text) && (get_or rest (length rest - 1) 0 == 13) then take (length rest - 1) rest else rest
 
+  -- how many rows line k takes that ends at a cell: the next row, to which the right edge leads, is one of the last line, for the
+  -- cursor there; after any other line it is the row in which the next line begins
+  abbrev pub rows_to : ℕ → ℕ × ℕ → ℕ
+  rows_to k end = if nat_lt k (last_line text) && (end.1 == 0) then max 1 end.0 else end.0 + 1
+
   -- the start of the line of a place
   abbrev pub own_start : ℕ → ℕ
   own_start place = start_of_line text (line_number text place)
@@ -25,10 +30,9 @@ module _ (screen : Screen) (text : List ℕ) where
   abbrev pub line_end : ℕ → ℕ → ℕ × ℕ
   line_end k from = cell (screen_from screen text from) (rest_of_line text k from) (length (rest_of_line text k from))
 
-  -- how many rows that takes: the next row, to which the right edge leads, is one of the last line, for the cursor there; after any
-  -- other line it is the row in which the next line begins
+  -- how many rows that takes
   abbrev pub height : ℕ → ℕ → ℕ
-  height k from = if nat_lt k (last_line text) && ((line_end k from).1 == 0) then max 1 (line_end k from).0 else (line_end k from).0 + 1
+  height k from = rows_to text k (line_end k from)
 
   -- the row of a later place of the line, from 0, and its column there
   abbrev pub cell_after : ℕ → ℕ → ℕ → ℕ × ℕ

@@ -1,9 +1,13 @@
 -- The places where rows begin, and what is written of them.
-use Rattle.rl_base.proofs.Common.{◌≡◌, ℕ, zero, suc, ◌+◌, ◌-◌, ◌≤◌, ◌<◌, ◌++◌, All, max, Bool, true, false, nat_lt, List, [], ◌∷◌, length, take, replicate, slice_get, MatchOption, Some, same_Some, All-head, All-tail, length-append, length-replicate, nat_tests, arith, refl, sym, ap, subst, ◌∙◌}
+use Rattle.rl_base.proofs.Common.{◌≡◌, ℕ, zero, suc, ◌+◌, ◌-◌, ◌≤◌, ◌<◌, ◌++◌, All, max, Bool, true, false, cond, nat_le, nat_lt, List, [], ◌∷◌, length, take, replicate, slice_get, MatchOption, Some, same_Some, All-head, All-tail, length-append, length-replicate, nat_tests, arith, refl, sym, ap, subst, ◌∙◌}
 use Rattle.std.specs.Prelude.{slice_set}
-use Rattle.rl_base.specs.Screen.{after, begins, cells, filled_after, is_within, stands, wrapped}
+use Rattle.std.specs.List.{concat}
+use Rattle.std.specs.Str.{IsUtf8}
+use Rattle.rl_base.specs.Clusters.{bytes_in, clusters}
+use Rattle.rl_base.specs.Screen.{after, begins, cell, cells, filled_after, is_within, laid, stands, wrapped}
 use Rattle.rl_base.specs.declared.screen.Screen.{Screen}
 use Rattle.rl_base.proofs.Clusters.CellLemmas.{first_cell, within-after}
+use Rattle.rl_base.proofs.Clusters.ClusterLemmas.{bytes_in-clusters}
 
 pub get-replicated : (m i p : ℕ) (ys : List ℕ) → i < m → slice_get (replicate m p ++ ys) i ≡ Some p
 get-replicated (suc m) zero p ys lt = refl
@@ -151,30 +155,23 @@ count-on begun row p ys =
     let one = length-replicate (row + 1 - begun) p in
     grind (arith, nat_tests, len, one)
 
--- the row in which the clusters end is not above the one in which they begin, and as many rows have begun then
+-- where the clusters end: the cell of the place after them all
 abbrev pub end_cell : Screen → ℕ × ℕ → List (List ℕ) → ℕ × ℕ
 end_cell screen at [] = wrapped screen.columns at
 end_cell screen at (cluster ∷ more) = end_cell screen (after screen at cluster) more
 
-pub ends-below : (screen : Screen) (at : ℕ × ℕ) (cs : List (List ℕ)) → (first_cell screen at cs).0 ≤ (end_cell screen at cs).0
-ends-below screen at [] = omega arith
-ends-below screen at (cluster ∷ more) =
-    let next = first_cell screen (after screen at cluster) more in
-    omega (arith, rows-grow (stands screen at cluster) next (within-after screen at cluster more), ends-below screen (after screen at cluster) more)
+laid-end : (screen : Screen) (at : ℕ × ℕ) (cs : List (List ℕ)) → laid screen (bytes_in cs) at cs ≡ end_cell screen at cs
+laid-end screen at [] = refl
+laid-end screen at (cluster ∷ more) =
+    let split = length-append cluster (concat more) in
+    let there : nat_le (length cluster) (bytes_in (cluster ∷ more)) ≡ true = grind (arith, nat_tests, split) in
+    let left : bytes_in (cluster ∷ more) - length cluster ≡ bytes_in more = omega (arith, split) in
+    ap (λ b. cond b (laid screen (bytes_in (cluster ∷ more) - length cluster) (after screen at cluster) more) (stands screen at cluster)) there
+    ∙ ap (λ n. laid screen n (after screen at cluster) more) left ∙ laid-end screen (after screen at cluster) more
 
-pub count-to_end : (screen : Screen) (begun place : ℕ) (at : ℕ × ℕ) (cs : List (List ℕ)) → begun ≤ (first_cell screen at cs).0 + 1
-    → begun + length (begins begun (cells screen place at cs)) ≡ (end_cell screen at cs).0 + 1
-count-to_end screen begun place at [] le =
-    let w = wrapped screen.columns at in
-    let all = count-on begun w.0 place [] in
-    grind (arith, nat_tests)
-count-to_end screen begun place at (cluster ∷ more) le =
-    let w = stands screen at cluster in
-    let b = max begun (w.0 + 1) in
-    let next = first_cell screen (after screen at cluster) more in
-    let grows : w.0 ≤ next.0 = rows-grow w next (within-after screen at cluster more) in
-    count-on begun w.0 place (begins b (cells screen (place + length cluster) (after screen at cluster) more))
-    ∙ count-to_end screen b (place + length cluster) (after screen at cluster) more (grind (arith, nat_tests))
+pub cell-end : (screen : Screen) (text : List ℕ) → IsUtf8 text → cell screen text (length text) ≡ end_cell screen (0, screen.prompt) (clusters text)
+cell-end screen text u =
+    ap (λ n. laid screen n (0, screen.prompt) (clusters text)) (sym (bytes_in-clusters text u)) ∙ laid-end screen (0, screen.prompt) (clusters text)
 
 -- a cell after another is not in a row above it
 pub rows-past : (a b : ℕ × ℕ) → is_within a b ≡ false → b.0 ≤ a.0

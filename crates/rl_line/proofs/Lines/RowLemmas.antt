@@ -1,11 +1,11 @@
 -- Rows above and below, by the numbers that the code compares.
-use Rattle.rl_line.proofs.Common.{◌≡◌, ℕ, ◌+◌, ◌-◌, ◌<◌, ◌≤◌, ◌==◌, ◌&&◌, Bool, true, false, cond, eqb-true, max, nat_le, nat_lt, List, [], ◌∷◌, length, length-append, Some, None, Option, IsUtf8, nat_tests, arith, refl, ap, ap₂, sym, subst, ◌∙◌, last_line, start_of_line}
+use Rattle.rl_line.proofs.Common.{◌≡◌, ℕ, ◌+◌, ◌-◌, ◌<◌, ◌≤◌, ◌==◌, ◌&&◌, Bool, true, false, cond, eqb-true, max, nat_lt, List, [], ◌∷◌, length, length-append, Some, None, Option, IsUtf8, nat_tests, arith, refl, ap, ap₂, sym, subst, ◌∙◌, last_line, start_of_line}
 use Rattle.std.specs.List.{concat}
 use Rattle.rl_base.specs.Clusters.{bytes_in, clusters}
-use Rattle.rl_base.specs.Screen.{after, cell, cells, is_within, laid, last_within, place_at, screen_from, stands}
+use Rattle.rl_base.specs.Screen.{after, cell, cells, is_within, last_within, place_at, screen_from, stands}
 use Rattle.rl_base.specs.declared.screen.Screen.{Screen}
 use Rattle.rl_base.proofs.Clusters.ClusterLemmas.{bytes_in-clusters}
-use Rattle.rl_base.proofs.Clusters.RowLemmas.{end_cell}
+use Rattle.rl_base.proofs.Clusters.RowLemmas.{cell-end, end_cell}
 use Rattle.rl_base.proofs.Texts.TextLemmas.{and_right}
 use Rattle.rl_line.specs.Rows.{Above, Below, cell_after, height, line_end, rest_of_line, stays_above, goes_above, stops_above, stays_below, goes_below, stops_below}
 
@@ -49,16 +49,7 @@ module _ (screen : Screen) (text : List ℕ) where
       subst (λ n. Above screen text k' from' row' n to) times
       (subst (λ r. Above screen text k' from' r n to) same (subst (λ s. Above screen text k' s row n to) begins (subst (λ k. Above screen text k from row n to) line h)))
 
--- where clusters end is the cell of the place after them all, and the place that is found for a cell from there on
-laid-end : (screen : Screen) (at : ℕ × ℕ) (cs : List (List ℕ)) → laid screen (bytes_in cs) at cs ≡ end_cell screen at cs
-laid-end screen at [] = refl
-laid-end screen at (cluster ∷ more) =
-    let split = length-append cluster (concat more) in
-    let there : nat_le (length cluster) (bytes_in (cluster ∷ more)) ≡ true = grind (arith, nat_tests, split) in
-    let left : bytes_in (cluster ∷ more) - length cluster ≡ bytes_in more = omega (arith, split) in
-    ap (λ b. cond b (laid screen (bytes_in (cluster ∷ more) - length cluster) (after screen at cluster) more) (stands screen at cluster)) there
-    ∙ ap (λ n. laid screen n (after screen at cluster) more) left ∙ laid-end screen (after screen at cluster) more
-
+-- the place that is found for the cell at which clusters end, or one after it, is that after them all
 found-end : (screen : Screen) (to : ℕ × ℕ) (found place : ℕ) (at : ℕ × ℕ) (cs : List (List ℕ)) → is_within (end_cell screen at cs) to ≡ true
     → last_within to found (cells screen place at cs) ≡ place + bytes_in cs
 found-end screen to found place at [] e = ap (λ b. cond b place found) e ∙ omega arith
@@ -71,12 +62,9 @@ pub not-at-end : (screen : Screen) (text : List ℕ) (to : ℕ × ℕ) → IsUtf
     → is_within (cell screen text (length text)) to ≡ false
 not-at-end screen text to u lt = by_test (is_within (end_cell screen (0, screen.prompt) (clusters text)) to) refl
   where
-    same : cell screen text (length text) ≡ end_cell screen (0, screen.prompt) (clusters text)
-    same = ap (λ n. laid screen n (0, screen.prompt) (clusters text)) (sym (bytes_in-clusters text u)) ∙ laid-end screen (0, screen.prompt) (clusters text)
-
     by_test : (b : Bool) → is_within (end_cell screen (0, screen.prompt) (clusters text)) to ≡ b → is_within (cell screen text (length text)) to ≡ false
     by_test true e = absurd (omega (arith, lt, found-end screen to 0 0 (0, screen.prompt) (clusters text) e, bytes_in-clusters text u))
-    by_test false e = ap (λ x. is_within x to) same ∙ e
+    by_test false e = ap (λ x. is_within x to) (cell-end screen text u) ∙ e
 
 -- and the row of such a cell is one of the line
 low : (edge : Bool) (ends to : ℕ × ℕ) → (edge ≡ true → ends.1 ≡ 0) → is_within ends to ≡ false → to.0 < cond edge (max 1 ends.0) (ends.0 + 1)

@@ -2,7 +2,7 @@
 ghost use Rattle.std.specs.Prelude.{◌≡◌, ◌+◌, ◌-◌, ◌^◌, ◌≤◌, ◌<◌, length, IfErr, IfOk, IfSome};
 ghost use Rattle.std.specs.Str.{IsCharBoundary};
 ghost use Rattle.rl_base.specs.Lines.{end_of_line, last_line, line_number};
-ghost use Rattle.rl_line.specs.Rows.{TellsAbove, TellsBelow, cell_after, height, near, near_above, place_in_row, rest_of_line};
+ghost use Rattle.rl_line.specs.Rows.{TellsAbove, TellsBelow, cell_after, height, near, near_above, place_in_row, rest_of_line, rows_to};
 
 use crate::line_buffer::LineBuffer;
 use rl_base::{RepeatCount, Screen};
@@ -24,6 +24,18 @@ impl LineBuffer {
         rest
     }
 
+    // How many rows a line takes that ends at a cell.
+    fn rows_to(&self, k: usize, end: (usize, usize)) -> usize
+        requires { end.0 + 1 < 2 ^ 64 }
+        ensures { result ≡ rows_to self.now.text k end }
+    {
+        if k < self.last_line() && end.1 == 0 {
+            end.0.max(1)
+        } else {
+            end.0 + 1
+        }
+    }
+
     // How many rows a line takes.
     fn height(&self, screen: &Screen, k: usize, start: usize) -> usize
         requires line { k ≤ last_line self.now.text }
@@ -33,11 +45,7 @@ impl LineBuffer {
     {
         let on = screen.screen_from(self.as_str(), start);
         let rest = self.rest_of_line(k, start);
-        let (row, column) = on.cell(rest, rest.len());
-        if k < self.last_line() && column == 0 {
-            return row.max(1);
-        }
-        row + 1
+        self.rows_to(k, on.cell(rest, rest.len()))
     }
 
     // The place at a column of a row of a line, which is laid out from a place of it on.
@@ -80,7 +88,10 @@ impl LineBuffer {
         let _len = self.len();
         let on = screen.screen_from(self.as_str(), from);
         let rest = self.rest_of_line(k, from);
-        let place = on.place_at(rest, (row, column));
+        let place = match on.find_in_row(rest, row, column) {
+            Ok(place) => place,
+            Err(end) => return Err(self.rows_to(k, end)),
+        };
         if place < rest.len() {
             return Ok(from + place);
         }

@@ -5,7 +5,7 @@ use Rattle.rl_base.specs.Clusters.{bytes_in, clusters}
 use Rattle.rl_base.specs.Screen.{after, cells, is_within, last_within, stands}
 use Rattle.rl_base.proofs.Clusters.CellLemmas.{first_cell, none-within}
 use Rattle.rl_base.proofs.Clusters.ClusterLemmas.{bytes_in-clusters}
-use Rattle.rl_base.proofs.Clusters.RowLemmas.{count-to_end, end_cell, ends-below, rows-past}
+use Rattle.rl_base.proofs.Clusters.RowLemmas.{cell-end, end_cell, rows-past}
 use Rattle.rl_base.proofs.screen.Screen.seek.Goals as goal
 
 pub loop-cluster-init : goal.loop-cluster-init
@@ -18,34 +18,24 @@ loop-cluster-init c =
       place = omega (arith, ap bytes_in left, bytes_in-clusters c.args.text.now c.utf8.text);
       found = search rules;
       chosen = search rules;
-      last = omega (
-        arith,
-        ap₂ (λ (column : ℕ) l. (end_cell c.args.self.now (0, column) l).0) c.from-column.ensures left,
-        count-to_end c.args.self.now 0 0 (0, c.args.self.now.prompt) (clusters c.args.text.now) (omega arith),
-      );
+      end =
+          ap₂ (λ (column : ℕ) l. end_cell c.args.self.now (0, column) l) c.from-column.ensures left
+          ∙ sym (cell-end c.args.self.now c.args.text.now c.utf8.text);
     }
 
 pub returns-then-not-is_within-clause-value : goal.returns-then-not-is_within-clause-value
 returns-then-not-is_within-clause-value c =
     let at : ℕ × ℕ = (c.loop-cluster.row, c.loop-cluster.column) in
-    let past : is_within (first_cell c.args.self.now at (graphemes_left c.loop-cluster.cluster-iterator)) c.args.cell ≡ false =
-    ap (λ l. is_within (first_cell c.args.self.now at l) c.args.cell) c.in-Some.ensures.steps
-    ∙ ap (λ cell. is_within cell c.args.cell) (sym c.stands-at.ensures.cell) ∙ sym c.is_within.ensures ∙ c.if-not-is_within.true in
-    sym (none-within c.args.self.now c.args.cell c.loop-cluster.place at (graphemes_left c.loop-cluster.cluster-iterator) c.loop-cluster.found past)
+    let past : is_within (first_cell c.args.self.now at (graphemes_left c.loop-cluster.cluster-iterator)) c.args.to ≡ false =
+    ap (λ l. is_within (first_cell c.args.self.now at l) c.args.to) c.in-Some.ensures.steps
+    ∙ ap (λ cell. is_within cell c.args.to) (sym c.stands-at.ensures.cell) ∙ sym c.is_within.ensures ∙ c.if-not-is_within.true in
+    sym (none-within c.args.self.now c.args.to c.loop-cluster.place at (graphemes_left c.loop-cluster.cluster-iterator) c.loop-cluster.found past)
     ∙ c.loop-cluster.invariant.chosen
 
-pub returns-then-not-is_within-clause-row : goal.returns-then-not-is_within-clause-row
-returns-then-not-is_within-clause-row c =
-    let at : ℕ × ℕ = (c.loop-cluster.row, c.loop-cluster.column) in
-    let left = graphemes_left c.loop-cluster.cluster-iterator in
-    let here : (first_cell c.args.self.now at left).0 ≡ c.stands-at.result.0 =
-    ap (λ l. (first_cell c.args.self.now at l).0) c.in-Some.ensures.steps ∙ ap (λ (cell : ℕ × ℕ). cell.0) (sym c.stands-at.ensures.cell) in
-    omega (arith, here, ends-below c.args.self.now at left, c.loop-cluster.invariant.last)
-
-pub returns-then-not-is_within-clause-last : goal.returns-then-not-is_within-clause-last
-returns-then-not-is_within-clause-last c =
-    let past : is_within c.stands-at.result c.args.cell ≡ false = sym c.is_within.ensures ∙ c.if-not-is_within.true in
-    λ above. absurd (omega (arith, above, rows-past c.stands-at.result c.args.cell past))
+pub returns-then-not-is_within-clause-end : goal.returns-then-not-is_within-clause-end
+returns-then-not-is_within-clause-end c =
+    let past : is_within c.stands-at.result c.args.to ≡ false = sym c.is_within.ensures ∙ c.if-not-is_within.true in
+    λ above. absurd (omega (arith, above, rows-past c.stands-at.result c.args.to past))
 
 pub loop-cluster-preserved : goal.loop-cluster-preserved
 loop-cluster-preserved c =
@@ -57,18 +47,18 @@ loop-cluster-preserved c =
     let cluster = c.in-Some.cluster.now in
     let at : ℕ × ℕ = (c.loop-cluster.row, c.loop-cluster.column) in
     let next = place + length cluster in
-    let within : is_within (stands screen at cluster) c.args.cell ≡ true =
-    ap (λ cell. is_within cell c.args.cell) (sym c.stands-at.ensures.cell) ∙ sym c.is_within.ensures ∙ c.if-not-is_within.false in
+    let within : is_within (stands screen at cluster) c.args.to ≡ true =
+    ap (λ cell. is_within cell c.args.to) (sym c.stands-at.ensures.cell) ∙ sym c.is_within.ensures ∙ c.if-not-is_within.false in
     record {
       height = search rules;
       column = search rules;
       place = omega (arith, i.place, ap bytes_in step, length-append cluster (concat rest));
       found = search rules;
       chosen =
-          ap (λ to. last_within c.args.cell place (cells screen next to rest)) c.after.ensures.place
-          ∙ sym (ap (λ b. last_within c.args.cell (cond b place c.loop-cluster.found) (cells screen next (after screen at cluster) rest)) within)
-          ∙ sym (ap (λ l. last_within c.args.cell c.loop-cluster.found (cells screen place at l)) step) ∙ i.chosen;
-      last = ap (λ (to : ℕ × ℕ). (end_cell screen to rest).0 + 1) c.after.ensures.place ∙ sym (ap (λ l. (end_cell screen at l).0 + 1) step) ∙ i.last;
+          ap (λ to. last_within c.args.to place (cells screen next to rest)) c.after.ensures.place
+          ∙ sym (ap (λ b. last_within c.args.to (cond b place c.loop-cluster.found) (cells screen next (after screen at cluster) rest)) within)
+          ∙ sym (ap (λ l. last_within c.args.to c.loop-cluster.found (cells screen place at l)) step) ∙ i.chosen;
+      end = ap (λ (to : ℕ × ℕ). end_cell screen to rest) c.after.ensures.place ∙ sym (ap (λ l. end_cell screen at l) step) ∙ i.end;
     }
 
 pub wrapped-end-requires : goal.wrapped-end-requires
