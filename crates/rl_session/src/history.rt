@@ -3,11 +3,13 @@
 //! restarted begin one (`record_is_placed`), any other has one (`a_session_has_a_history`), and each run goes on with it.
 //! After `forget` it is that of the texts from the one on with which the record then begins (`what_is_left_replays`).
 ghost use Rattle.std.specs.Prelude.{◌≡◌, ◌≤◌, ◌<◌, ◌+◌, ◌++◌, ◌∷◌, [], ℕ, All, List, IsSome, Some, drop, length, suc, true};
+ghost use Rattle.rl_line.specs.Calls.{keeps_undone};
 ghost use Rattle.rl_line.specs.Record.{Entry, StaysSaved, is_saved, replay_entries};
 ghost use Rattle.rl_line.specs.Undo.{texts_ahead};
-ghost use Rattle.rl_line.specs.Units.{BothMatched, IsMatched, closed_all, has_change, last_of, last_units, level, next_of, opens, there_and_back, undone, units, waits};
+ghost use Rattle.rl_line.specs.Units.{BothMatched, IsMatched, closed_all, has_change, last_of, last_units, level, next_of, opens, undone, units, waits};
+ghost use Rattle.rl_session.specs.Commands.{Became, on_record};
 ghost use Rattle.rl_session.specs.History.{AllRedone, AllStandInGroup, ClosesGroup, Holds, IsEdit, WasHeld, WasRefused};
-ghost use Rattle.rl_session.specs.Run.{Row, Run, held_of};
+ghost use Rattle.rl_session.specs.Run.{Row, Run, held_by, held_of};
 ghost use Rattle.rl_session.specs.State.{Begins, Ends, Stands, State, origin, saved_now};
 ghost use Rattle.rl_session.specs.declared.session.Command.{Command};
 ghost use Rattle.rl_session.specs.declared.session.Command.TheVariants.{Abandon, Begin, KeepUndone, Redo, Undo};
@@ -39,8 +41,9 @@ pub fn a_session_has_a_history()
 /// neither the keeping nor the undo was refused, something waited, and what was recorded since stands above what was kept, each
 /// End with its Begin.
 pub fn what_is_kept_was_held()
-    ensures held { (start : List ℕ) (held : List (List ℕ)) (s : State) → Holds start held s
-        → All (λ (text : List ℕ). WasHeld text held) (texts_ahead (there_and_back s.pair.changes.pending) s.line.text) }
+    ensures held { (start : List ℕ) (held : List (List ℕ)) (answer : Type 0) (old new : State) → Holds start held old
+        → (kept : Became (on_record answer keeps_undone) old new)
+        → All (λ (text : List ℕ). WasHeld text held) (held_by (on_record answer keeps_undone) old new kept) }
     ensures undone { (start : List ℕ) (held : List (List ℕ)) (old new : State) (commands : List Command) (replies : List Reply)
         (earlier since later : List Row) (k u : Row) (n : ℕ) (es : List Entry)
         → Holds start held old → (run : Run old commands replies new)
