@@ -84,7 +84,7 @@ finish() {
 
 is_built() {
     local program=$top/crates/$1/out/$1
-    [[ -e $program && -z $(find "$top"/crates/{rl_base,rl_line,rl_session,"$1"}/src -name '*.rt' -newer "$program") ]]
+    [[ -e $program && -z $(find "$top"/crates/{rl_base,rl_line,rl_record,rl_session,"$1"}/src -name '*.rt' -newer "$program") ]]
 }
 
 built() {

@@ -1,4 +1,4 @@
 pub mod Common
 pub mod Lines
 pub mod Plans
-pub mod Records
+pub mod Changes

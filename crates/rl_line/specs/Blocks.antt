@@ -1,6 +1,6 @@
 -- A text in parts, one after another.
-use Rattle.std.specs.Prelude.{◌≡◌, ℕ, ◌+◌, ◌<◌, Bool, ◌||◌, List, length, nat_le, nat_lt, take}
 use Rattle.std.specs.List.{flat_map}
+use Rattle.std.specs.Prelude.{Bool, List, length, nat_le, nat_lt, take, ℕ, ◌+◌, ◌<◌, ◌||◌, ◌≡◌}
 
 -- a place of the text lies in part k, at a place there
 pub record LiesIn {X : Type 0} (bytes : X → List ℕ) (parts : List X) (at k there : ℕ) : Type 0 where

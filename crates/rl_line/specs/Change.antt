@@ -1,18 +1,11 @@
 -- What the private functions of one entry say of it: joining, and going over it either way.
-use Rattle.std.specs.Prelude.{◌≡◌, ◌<◌, ℕ, ◌+◌, ◌-◌, max, Bool, List, [], ◌∷◌, length, map, reverse, Option, Some, None, option_and_then, if◌then◌else◌}
-use Rattle.rl_base.specs.Event.{Event, apply}
+use Rattle.rl_base.specs.Event.{apply}
+use Rattle.rl_line.specs.Entry.{Changed, Entry, entry_of, event_of, inverse, new_text, old_text}
+use Rattle.rl_line.specs.Going.{cursor_stands}
 use Rattle.rl_line.specs.declared.change.Change.{Change}
 use Rattle.rl_line.specs.declared.change.Way.{Way}
-use Rattle.rl_line.specs.declared.change.Way.TheVariants.{Back, Ahead}
-use Rattle.rl_line.specs.Record.{Entry, Changed, cursors_of, entry_of, event_of, freshness_joined, inverse, joined, new_text, old_text}
-use Rattle.rl_line.specs.declared.change.Freshness.{Freshness}
-use Rattle.rl_line.specs.Undo.{cursor_stands}
-
--- what an entry makes of an event: if they join, it takes the event in, and `fresh` says what it may be told of its cursors;
--- else it stays as it is
-abbrev pub TakesIn : Event → Entry → Entry → Option Freshness → Type 0
-TakesIn event old new (Some fresh) = (joined event old ≡ Some new) × (fresh ≡ freshness_joined (cursors_of old))
-TakesIn event old new None = (joined event old ≡ None) × (new ≡ old)
+use Rattle.rl_line.specs.declared.change.Way.TheVariants.{Ahead, Back}
+use Rattle.std.specs.Prelude.{Bool, List, None, Option, Some, [], if◌then◌else◌, length, map, max, option_and_then, reverse, ℕ, ◌+◌, ◌-◌, ◌<◌, ◌∷◌}
 
 -- the text after an entry, if it fits and the cursor stands
 abbrev pub text_after : Bool → Entry → List ℕ → Option (List ℕ)

@@ -1,22 +1,22 @@
 -- What copying, deleting and killing by a movement do.
-use Rattle.std.specs.Prelude.{◌≡◌, ℕ, nat_lt, Bool, true, false, List, Option, Some, None, Result, MatchResult, String, if◌then◌else◌}
+use Rattle.rl_base.specs.Event.{Delete, Event, Start, Stop}
+use Rattle.rl_base.specs.declared.listeners.Direction.{Direction}
+use Rattle.rl_base.specs.declared.listeners.Direction.TheVariants.{Backward, Forward}
+use Rattle.rl_base.specs.declared.listeners.Refusal.{Refusal}
+use Rattle.rl_base.specs.declared.motion.CharSearch.{CharSearch}
+use Rattle.rl_base.specs.declared.motion.Movement.{Movement}
+use Rattle.rl_base.specs.declared.motion.Movement.TheVariants.{BackwardChar, BackwardWord, BeginningOfBuffer, BeginningOfLine, EndOfBuffer, EndOfLine, FirstNonBlank, ForwardChar, ForwardWord, ViCharSearch, ViFirstPrint, WholeLine}
+use Rattle.rl_line.specs.Line.{Line}
+use Rattle.rl_line.specs.LineMotions.{first_nonblank}
+use Rattle.rl_line.specs.Plan.{Done, Halted, Plan, answering, nothing, single}
+use Rattle.rl_line.specs.Ranges.{covered, killed, text_in, unless_empty}
 use Rattle.std.specs.Option.{option_map}
+use Rattle.std.specs.Prelude.{Bool, List, MatchResult, None, Option, Result, Some, String, false, if◌then◌else◌, nat_lt, true, ℕ, ◌≡◌}
 use Rattle.std.specs.Result.{result_map_both}
 use Rattle.std.specs.String.{string_bytes}
 use Rattle.std.specs.declared.alloc.Global.{Global}
 use Rattle.std.specs.declared.ops.Range.{Range}
-use Rattle.rl_base.specs.Event.{Event, Delete, Start, Stop}
-use Rattle.rl_base.specs.declared.listeners.Direction.{Direction}
-use Rattle.rl_base.specs.declared.listeners.Refusal.{Refusal}
-use Rattle.rl_base.specs.declared.listeners.Direction.TheVariants.{Forward, Backward}
-use Rattle.rl_base.specs.declared.motion.CharSearch.{CharSearch}
 use Rattle.rl_base.specs.declared.motion.CharSearch.TheVariants as to
-use Rattle.rl_base.specs.declared.motion.Movement.{Movement}
-use Rattle.rl_base.specs.declared.motion.Movement.TheVariants.{WholeLine, BeginningOfLine, EndOfLine, BackwardWord, ForwardWord, ViCharSearch, ViFirstPrint, FirstNonBlank, BackwardChar, ForwardChar, BeginningOfBuffer, EndOfBuffer}
-use Rattle.rl_line.specs.Line.{Line}
-use Rattle.rl_line.specs.LineMotions.{first_nonblank}
-use Rattle.rl_line.specs.Plan.{Plan, nothing, single, answering, Done, Halted}
-use Rattle.rl_line.specs.Ranges.{covered, killed, text_in, unless_empty}
 
 -- what a movement copies
 abbrev pub copied : Line → Movement → Option (List ℕ)

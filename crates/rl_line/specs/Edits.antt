@@ -1,16 +1,16 @@
 -- The plans of the edits that put a text in, or take a given range out.
-use Rattle.std.specs.Prelude.{ℕ, Result, ◌+◌, ◌-◌, ◌*◌, ◌≤◌, Bool, not, ◌==◌, ◌&&◌, ◌||◌, nat_lt, List, length, take, slice_range, min, encode_utf8, Option, Some, None, if◌then◌else◌}
-use Rattle.std.specs.List.{repeat, insert_slice, remove_range}
-use Rattle.std.specs.Str.{IsCharBoundary}
-use Rattle.std.specs.declared.ops.Range.{Range}
-use Rattle.rl_base.specs.Event.{Event, InsertChar, InsertStr, Delete, Replace}
+use Rattle.rl_base.specs.Event.{Delete, Event, InsertChar, InsertStr, Replace}
 use Rattle.rl_base.specs.Text.{greatest_boundary}
 use Rattle.rl_base.specs.declared.listeners.Direction.{Direction}
 use Rattle.rl_base.specs.declared.listeners.Direction.TheVariants.{Forward}
 use Rattle.rl_base.specs.declared.listeners.Refusal.{Refusal}
-use Rattle.rl_line.specs.Line.{Line, stepped, between}
+use Rattle.rl_line.specs.Line.{Line, between, stepped}
+use Rattle.rl_line.specs.Plan.{Completion, Plan, Step, StepOutcome, Takes, followed_by, nothing, nothing_more, of_step, single}
 use Rattle.rl_line.specs.Ranges.{text_in}
-use Rattle.rl_line.specs.Plan.{Completion, Step, StepOutcome, Plan, Takes, nothing, nothing_more, of_step, single, followed_by}
+use Rattle.std.specs.List.{insert_slice, remove_range, repeat}
+use Rattle.std.specs.Prelude.{Bool, List, None, Option, Result, Some, encode_utf8, if◌then◌else◌, length, min, nat_lt, not, slice_range, take, ℕ, ◌&&◌, ◌*◌, ◌+◌, ◌-◌, ◌==◌, ◌||◌, ◌≤◌}
+use Rattle.std.specs.Str.{IsCharBoundary}
+use Rattle.std.specs.declared.ops.Range.{Range}
 
 -- a length that the line may not have: it may not grow, and the length is past its limit
 abbrev pub too_long : Line → ℕ → Bool

@@ -1,10 +1,10 @@
 -- A line whose text has a gap, for the time of many steps.
-use Rattle.std.specs.Prelude.{◌≡◌, ℕ, ◌+◌, ◌-◌, ◌≤◌, Bool, true, List, length}
-use Rattle.std.specs.List.{remove_range}
-use Rattle.std.specs.Str.{IsCharBoundary, IsUtf8}
 use Rattle.rl_base.specs.Lines.{line_number}
 use Rattle.rl_line.specs.LineStarts.{IsTable}
 use Rattle.rl_line.specs.RoomyLine.{RoomyLine}
+use Rattle.std.specs.List.{remove_range}
+use Rattle.std.specs.Prelude.{Bool, List, length, true, ℕ, ◌+◌, ◌-◌, ◌≡◌, ◌≤◌}
+use Rattle.std.specs.Str.{IsCharBoundary, IsUtf8}
 
 -- a line, for how much there is memory, and the place of the gap in its text
 pub record Gapped : Type 0 where

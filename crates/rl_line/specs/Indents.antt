@@ -1,16 +1,16 @@
 -- The plans of indenting and dedenting the lines of a range.
-use Rattle.std.specs.Prelude.{ℕ, ◌+◌, ◌-◌, ◌/◌, ◌%◌, ◌==◌, nat_lt, min, max, Bool, true, false, List, [], ◌∷◌, ◌++◌, length, take, drop, slice_range, if◌then◌else◌}
-use Rattle.std.specs.List.{repeat}
-use Rattle.std.specs.Str.{trim_start}
-use Rattle.std.specs.declared.ops.Range.{Range}
-use Rattle.rl_base.specs.Event.{InsertStr, Delete}
-use Rattle.rl_base.specs.Lines.{lines, line_number, start_of_line, text_of_line}
+use Rattle.rl_base.specs.Event.{Delete, InsertStr}
+use Rattle.rl_base.specs.Lines.{line_number, lines, start_of_line, text_of_line}
 use Rattle.rl_base.specs.Text.{greatest_boundary}
 use Rattle.rl_base.specs.declared.listeners.Direction.TheVariants.{Forward}
 use Rattle.rl_base.specs.declared.motion.Movement.{Movement}
 use Rattle.rl_line.specs.Line.{Line, between}
-use Rattle.rl_line.specs.Plan.{Step, Plan, after_steps, bytes_of, single}
+use Rattle.rl_line.specs.Plan.{Plan, Step, after_steps, bytes_of, single}
 use Rattle.rl_line.specs.Ranges.{indented}
+use Rattle.std.specs.List.{repeat}
+use Rattle.std.specs.Prelude.{Bool, List, [], drop, false, if◌then◌else◌, length, max, min, nat_lt, slice_range, take, true, ℕ, ◌%◌, ◌++◌, ◌+◌, ◌-◌, ◌/◌, ◌==◌, ◌∷◌}
+use Rattle.std.specs.Str.{trim_start}
+use Rattle.std.specs.declared.ops.Range.{Range}
 
 -- the first line that holds a byte of a range, and the last; an empty range counts as a byte of the line that it lies in
 abbrev pub first_line : List ℕ → Range ℕ → ℕ

@@ -1,19 +1,19 @@
 -- Editing the letters of a word.
-use Rattle.std.specs.Prelude.{ℕ, ◌+◌, Bool, true, false, List, ◌++◌, map, length, take, drop, Option, Some, None, if◌then◌else◌}
-use Rattle.std.specs.Char.{is_ascii, to_ascii_lowercase, to_ascii_uppercase}
-use Rattle.std.specs.List.{list_all}
-use Rattle.std.specs.Option.{option_map}
-use Rattle.std.specs.StrCase.Lower.{str_to_lowercase}
-use Rattle.std.specs.StrCase.Upper.{str_to_uppercase}
-use Rattle.std.specs.declared.ops.Range.{Range}
 use Rattle.rl_base.specs.Words.{first_word_cluster}
 use Rattle.rl_base.specs.declared.motion.WordAction.{WordAction}
 use Rattle.rl_base.specs.declared.motion.WordAction.TheVariants.{Capitalize, Lowercase, Uppercase}
-use Rattle.rl_line.specs.Line.{Line, between}
-use Rattle.rl_line.specs.Plan.{Plan, nothing, answering}
 use Rattle.rl_line.specs.Edits.{exchange_plan}
+use Rattle.rl_line.specs.Line.{Line, between}
+use Rattle.rl_line.specs.Plan.{Plan, answering, nothing}
 use Rattle.rl_line.specs.Ranges.{text_in}
 use Rattle.rl_line.specs.Transpositions.{end_of_cluster, word_end}
+use Rattle.std.specs.Char.{is_ascii, to_ascii_lowercase, to_ascii_uppercase}
+use Rattle.std.specs.List.{list_all}
+use Rattle.std.specs.Option.{option_map}
+use Rattle.std.specs.Prelude.{Bool, List, None, Option, Some, drop, false, if◌then◌else◌, length, map, take, true, ℕ, ◌++◌, ◌+◌}
+use Rattle.std.specs.StrCase.Lower.{str_to_lowercase}
+use Rattle.std.specs.StrCase.Upper.{str_to_uppercase}
+use Rattle.std.specs.declared.ops.Range.{Range}
 
 -- the word that is edited: from the first cluster of an Emacs word, at the cursor or ahead, to the word's end
 abbrev pub word_ahead : Line → Option (Range ℕ)

@@ -4,8 +4,8 @@ pub mod RoomyLine
 pub mod Gapped
 pub mod LineRanges
 pub mod Plan
-pub mod Motions
 pub mod LineMotions
+pub mod Motions
 pub mod Rows
 pub mod Ranges
 pub mod Edits
@@ -13,15 +13,9 @@ pub mod Deletions
 pub mod Transpositions
 pub mod LetterCase
 pub mod Indents
-pub mod Record
+pub mod Entry
+pub mod Going
 pub mod Change
-pub mod Entries
-pub mod Units
-pub mod Forgetting
-pub mod Trying
-pub mod Undo
 pub mod Walk
 pub mod Blocks
 pub mod Retrace
-pub mod Calls
-pub mod SavedRecord

@@ -1,10 +1,10 @@
 -- The state of a line, and ranges of its text.
-use Rattle.std.specs.Prelude.{◌≡◌, ℕ, ◌<◌, ◌≤◌, Bool, true, List, length, max, Option, Some, None, option_and_then, if◌then◌else◌}
-use Rattle.std.specs.Str.{IsCharBoundary}
-use Rattle.std.specs.declared.ops.Range.{Range}
 use Rattle.rl_base.specs.Event.{Event, apply}
 use Rattle.rl_base.specs.Text.{is_boundary}
 use Rattle.rl_line.specs.LineStarts.{IsTable}
+use Rattle.std.specs.Prelude.{Bool, List, None, Option, Some, if◌then◌else◌, length, max, option_and_then, true, ℕ, ◌<◌, ◌≡◌, ◌≤◌}
+use Rattle.std.specs.Str.{IsCharBoundary}
+use Rattle.std.specs.declared.ops.Range.{Range}
 
 -- the text, the place of the cursor, the limit on the text's length, and whether the line may grow past it
 pub record Line : Type 0 where

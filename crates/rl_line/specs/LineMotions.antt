@@ -1,11 +1,11 @@
 -- Where the motions over lines go.
-use Rattle.std.specs.Prelude.{ℕ, ◌+◌, ◌-◌, ◌==◌, List, length, drop, slice_range, min, max, count_by, Option, Some, None, if◌then◌else◌}
-use Rattle.std.specs.Option.{option_map}
 use Rattle.rl_base.specs.Blanks.{without_leading_blanks}
-use Rattle.rl_base.specs.Lines.{is_newline, last_line, line_number, start_of_line, end_of_line, text_of_line, place_of_column}
+use Rattle.rl_base.specs.Lines.{end_of_line, is_newline, last_line, line_number, place_of_column, start_of_line, text_of_line}
 use Rattle.rl_base.specs.Widths.{width}
 use Rattle.rl_base.specs.declared.layout.Layout.{Layout}
 use Rattle.rl_line.specs.Line.{Line}
+use Rattle.std.specs.Option.{option_map}
+use Rattle.std.specs.Prelude.{List, None, Option, Some, count_by, drop, if◌then◌else◌, length, max, min, slice_range, ℕ, ◌+◌, ◌-◌, ◌==◌}
 
 -- the start and the end of the cursor's line
 abbrev pub home : Line → ℕ

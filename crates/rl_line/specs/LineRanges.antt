@@ -1,10 +1,10 @@
 -- Ranges of a text, and where the text of a line stands.
-use Rattle.std.specs.Prelude.{ℕ, ◌+◌, ◌≤◌, List, length, Option, slice_get}
-use Rattle.std.specs.Option.{option_map}
-use Rattle.std.specs.Str.{IsCharBoundary}
-use Rattle.std.specs.declared.ops.Range.{Range}
 use Rattle.rl_base.specs.Lines.{lines, start_of_line}
 use Rattle.rl_line.specs.Line.{between}
+use Rattle.std.specs.Option.{option_map}
+use Rattle.std.specs.Prelude.{List, Option, length, slice_get, ℕ, ◌+◌, ◌≤◌}
+use Rattle.std.specs.Str.{IsCharBoundary}
+use Rattle.std.specs.declared.ops.Range.{Range}
 
 -- a range of a text begins and ends between two characters, in this order
 abbrev pub IsRange : List ℕ → ℕ → ℕ → Type 0

@@ -1,7 +1,7 @@
 -- The table of a line's text: where its lines begin, except the first.
-use Rattle.std.specs.Prelude.{◌≡◌, ℕ, ◌-◌, ◌≤◌, List, ◌++◌, map, filter, take, drop, length}
-use Rattle.std.specs.List.{enumerate_from}
 use Rattle.rl_base.specs.Lines.{is_newline}
+use Rattle.std.specs.List.{enumerate_from}
+use Rattle.std.specs.Prelude.{List, drop, filter, length, map, take, ℕ, ◌++◌, ◌-◌, ◌≡◌, ◌≤◌}
 
 -- the places right after the newlines of a text whose first byte ends at n
 abbrev pub after_newlines : ℕ → List ℕ → List ℕ

@@ -1,14 +1,14 @@
 -- What the motions of a line do.
-use Rattle.std.specs.Prelude.{◌≡◌, ℕ, ◌≤◌, ◌==◌, Bool, true, false, length, Option, Some, None, if◌then◌else◌}
-use Rattle.std.specs.Str.{trim_end}
 use Rattle.rl_base.specs.Clusters.{next_pos, prev_pos}
 use Rattle.rl_base.specs.Search.{find_place}
 use Rattle.rl_base.specs.Words.{next_word, prev_word}
 use Rattle.rl_base.specs.declared.layout.Layout.{Layout}
 use Rattle.rl_base.specs.declared.motion.Movement.{Movement}
-use Rattle.rl_base.specs.declared.motion.Movement.TheVariants.{BeginningOfLine, EndOfLine, FirstNonBlank, BackwardWord, ForwardWord, ViCharSearch, BackwardChar, ForwardChar, LineUp, LineDown, BeginningOfBuffer, EndOfBuffer}
+use Rattle.rl_base.specs.declared.motion.Movement.TheVariants.{BackwardChar, BackwardWord, BeginningOfBuffer, BeginningOfLine, EndOfBuffer, EndOfLine, FirstNonBlank, ForwardChar, ForwardWord, LineDown, LineUp, ViCharSearch}
 use Rattle.rl_line.specs.Line.{Line}
 use Rattle.rl_line.specs.LineMotions.{first_nonblank, home, line_end, place_above, place_below}
+use Rattle.std.specs.Prelude.{Bool, None, Option, Some, false, if◌then◌else◌, length, true, ℕ, ◌==◌, ◌≡◌, ◌≤◌}
+use Rattle.std.specs.Str.{trim_end}
 
 -- a motion to a place, if there is one: true with the cursor there, else false, and nothing else changes
 abbrev pub Moved : Option ℕ → Line → Line → Bool → Type 0

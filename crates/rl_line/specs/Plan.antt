@@ -1,9 +1,9 @@
 -- What an edit does: its steps, each one event and the cursor after it, the cursor at the end, and its answer.
-use Rattle.std.specs.Prelude.{◌≡◌, ℕ, ◌<◌, map, max, List, [], ◌∷◌, ◌++◌, length, encode_utf8, ◌+◌, ◌-◌, Option, Some, option_and_then, ◌⊎◌, Result, MatchResult}
-use Rattle.rl_base.specs.Event.{Event, InsertChar, InsertStr, Delete, Replace, Cursors, replay}
+use Rattle.rl_base.specs.Event.{Cursors, Delete, Event, InsertChar, InsertStr, Replace, replay}
 use Rattle.rl_base.specs.declared.listeners.Refusal.{Refusal}
 use Rattle.rl_base.specs.declared.listeners.Refusal.TheVariants.{NoMemory}
 use Rattle.rl_line.specs.Line.{Line, NeedsRoom, after_step}
+use Rattle.std.specs.Prelude.{List, MatchResult, Option, Result, Some, [], encode_utf8, length, map, max, option_and_then, ℕ, ◌++◌, ◌+◌, ◌-◌, ◌<◌, ◌∷◌, ◌≡◌, ◌⊎◌}
 
 -- an event, and the cursor after it
 abbrev pub Step : Type 0

@@ -1,20 +1,20 @@
 -- What each movement covers: the one table that copying, killing and indenting share, with the exceptions of the last two beside it.
-use Rattle.std.specs.Prelude.{ℕ, ◌+◌, ◌-◌, ◌==◌, nat_le, min, max, count_by, List, length, drop, slice_range, Option, Some, None, option_and_then, unwrap_or, if◌then◌else◌}
-use Rattle.std.specs.Char.{len_utf8}
-use Rattle.std.specs.Option.{option_map, option_or}
-use Rattle.std.specs.declared.ops.Range.{Range}
 use Rattle.rl_base.specs.Clusters.{next_pos, prev_pos}
-use Rattle.rl_base.specs.Lines.{is_newline, last_line, line_number, start_of_line, end_of_line}
+use Rattle.rl_base.specs.Lines.{end_of_line, is_newline, last_line, line_number, start_of_line}
 use Rattle.rl_base.specs.Search.{chosen_hit}
 use Rattle.rl_base.specs.Words.{next_word, prev_word}
 use Rattle.rl_base.specs.declared.motion.At.TheVariants.{Start}
 use Rattle.rl_base.specs.declared.motion.CharSearch.{CharSearch}
-use Rattle.rl_base.specs.declared.motion.CharSearch.TheVariants.{Forward, ForwardBefore, Backward, BackwardAfter}
+use Rattle.rl_base.specs.declared.motion.CharSearch.TheVariants.{Backward, BackwardAfter, Forward, ForwardBefore}
 use Rattle.rl_base.specs.declared.motion.Movement.{Movement}
-use Rattle.rl_base.specs.declared.motion.Movement.TheVariants.{WholeLine, BeginningOfLine, EndOfLine, BackwardWord, ForwardWord, ViCharSearch, ViFirstPrint, FirstNonBlank, BackwardChar, ForwardChar, LineUp, LineDown, WholeLinesUp, WholeLinesDown, WholeBuffer, BeginningOfBuffer, EndOfBuffer}
+use Rattle.rl_base.specs.declared.motion.Movement.TheVariants.{BackwardChar, BackwardWord, BeginningOfBuffer, BeginningOfLine, EndOfBuffer, EndOfLine, FirstNonBlank, ForwardChar, ForwardWord, LineDown, LineUp, ViCharSearch, ViFirstPrint, WholeBuffer, WholeLine, WholeLinesDown, WholeLinesUp}
 use Rattle.rl_base.specs.declared.motion.Word.TheVariants.{Big}
 use Rattle.rl_line.specs.Line.{Line, between}
 use Rattle.rl_line.specs.LineMotions.{first_nonblank, home, line_end}
+use Rattle.std.specs.Char.{len_utf8}
+use Rattle.std.specs.Option.{option_map, option_or}
+use Rattle.std.specs.Prelude.{List, None, Option, Some, count_by, drop, if◌then◌else◌, length, max, min, nat_le, option_and_then, slice_range, unwrap_or, ℕ, ◌+◌, ◌-◌, ◌==◌}
+use Rattle.std.specs.declared.ops.Range.{Range}
 
 -- the text of a range
 abbrev pub text_in : Line → Range ℕ → List ℕ

@@ -1,8 +1,8 @@
 -- A text that goes back over entries, where both cursors of each are asked for.
-use Rattle.std.specs.Prelude.{ℕ, true, List, [], ◌∷◌, Option, Some, None, option_and_then, if◌then◌else◌}
 use Rattle.rl_line.specs.Change.{text_after}
-use Rattle.rl_line.specs.Record.{Entry, inverse}
-use Rattle.rl_line.specs.Undo.{cursor_stands}
+use Rattle.rl_line.specs.Entry.{Entry, inverse}
+use Rattle.rl_line.specs.Going.{cursor_stands}
+use Rattle.std.specs.Prelude.{List, None, Option, Some, [], if◌then◌else◌, option_and_then, true, ℕ, ◌∷◌}
 
 -- the text after an entry, if it fits and both its cursors stand
 abbrev pub walk_after : Entry → List ℕ → Option (List ℕ)

@@ -1,6 +1,6 @@
 -- A line, and for how much there is memory.
-use Rattle.std.specs.Prelude.{ℕ, ◌≤◌, List, length}
 use Rattle.rl_line.specs.Line.{Line}
+use Rattle.std.specs.Prelude.{List, length, ℕ, ◌≤◌}
 
 -- a line, and for how many bytes of a text there is memory
 pub record RoomyLine : Type 0 where

@@ -1,8 +1,8 @@
 -- The rows of a screen on which each line of a text is laid out by itself, and where motions over them go.
-use Rattle.std.specs.Prelude.{◌≡◌, ◌&&◌, ◌==◌, ℕ, ◌+◌, ◌-◌, ◌<◌, ◌≤◌, max, nat_le, nat_lt, get_or, List, length, take, slice_range, Option, Some, None, unwrap_or, MatchOption, if◌then◌else◌}
 use Rattle.rl_base.specs.Lines.{end_of_line, last_line, line_number, start_of_line}
 use Rattle.rl_base.specs.Screen.{cell, place_at, screen_from}
 use Rattle.rl_base.specs.declared.screen.Screen.{Screen}
+use Rattle.std.specs.Prelude.{List, MatchOption, None, Option, Some, get_or, if◌then◌else◌, length, max, nat_le, nat_lt, slice_range, take, unwrap_or, ℕ, ◌&&◌, ◌+◌, ◌-◌, ◌<◌, ◌==◌, ◌≡◌, ◌≤◌}
 
 module _ (text : List ℕ) where
   -- what follows a place in line k, before its newline, which is "\n" or "\r\n"

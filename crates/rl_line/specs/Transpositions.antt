@@ -1,17 +1,17 @@
 -- Exchanging two clusters, and two words.
-use Rattle.std.specs.Prelude.{◌≡◌, ℕ, ◌+◌, Bool, true, false, not, ◌==◌, ◌&&◌, nat_lt, nat_le, List, [], ◌∷◌, ◌++◌, length, take, drop, slice_range, Option, Some, None, option_and_then, unwrap_or, if◌then◌else◌}
-use Rattle.std.specs.List.{remove_range}
-use Rattle.std.specs.Option.{option_map}
-use Rattle.std.specs.declared.ops.Range.{Range}
 use Rattle.rl_base.specs.Clusters.{clusters, next_pos, prev_pos}
-use Rattle.rl_base.specs.Event.{InsertStr, Delete}
+use Rattle.rl_base.specs.Event.{Delete, InsertStr}
 use Rattle.rl_base.specs.Words.{next_word, prev_word}
 use Rattle.rl_base.specs.declared.listeners.Direction.TheVariants.{Forward}
 use Rattle.rl_base.specs.declared.motion.At.TheVariants.{AfterEnd}
 use Rattle.rl_base.specs.declared.motion.Word.TheVariants.{Emacs}
 use Rattle.rl_line.specs.Line.{Line, between}
-use Rattle.rl_line.specs.Plan.{Plan, nothing, single, followed_by, answering}
+use Rattle.rl_line.specs.Plan.{Plan, answering, followed_by, nothing, single}
 use Rattle.rl_line.specs.Ranges.{text_in}
+use Rattle.std.specs.List.{remove_range}
+use Rattle.std.specs.Option.{option_map}
+use Rattle.std.specs.Prelude.{Bool, List, None, Option, Some, [], drop, false, if◌then◌else◌, length, nat_le, nat_lt, not, option_and_then, slice_range, take, true, unwrap_or, ℕ, ◌&&◌, ◌++◌, ◌+◌, ◌==◌, ◌∷◌, ◌≡◌}
+use Rattle.std.specs.declared.ops.Range.{Range}
 
 -- where two clusters meet: at the cursor, or at the end of the text before the last cluster; none in a text of fewer than two
 abbrev pub meeting_place : Line → Option ℕ

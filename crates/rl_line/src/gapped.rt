@@ -10,7 +10,7 @@ ghost use Rattle.rl_line.specs.Line.{stepped};
 ghost use Rattle.rl_line.specs.LineRanges.{IsRange};
 ghost use Rattle.rl_line.specs.LineStarts.{IsTable};
 ghost use Rattle.rl_line.specs.Plan.{StepOutcome, nothing_more};
-ghost use Rattle.rl_line.specs.RoomyLine.{HasRoom, KeepsRoom};
+ghost use Rattle.rl_line.specs.RoomyLine.{HasRoom};
 
 use crate::line_starts::{LineStarts, exchange_starts, fill_starts};
 use crate::roomy_line::RoomyLine;

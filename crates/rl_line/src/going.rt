@@ -6,7 +6,7 @@ ghost use Rattle.rl_line.specs.Change.{entries_to_undo, entry_to_undo, greatest_
 ghost use Rattle.rl_line.specs.Line.{Line, stepped};
 ghost use Rattle.rl_line.specs.LineRanges.{IsRange};
 ghost use Rattle.rl_line.specs.Plan.{NeverRefuses};
-ghost use Rattle.rl_line.specs.Undo.{line_back, listener_back};
+ghost use Rattle.rl_line.specs.Going.{line_back, listener_back};
 
 use crate::change::{Change, Way, nth_on, tell_over};
 use crate::gapped::Gapped;
@@ -89,7 +89,7 @@ fn go_over<T: Steppable>(line: &mut T, change: &Change, way: Way)
 /// Goes over the changes one by one: going back, the last first; going ahead, the first first. The listener is told of
 /// each change once it is gone over. Inlined, so that undo and redo each know their way at compile time.
 #[inline(always)]
-#[tactic(auto, using(crate::proofs::Records::RoomLemmas::back_so_far))]
+#[tactic(auto, using(crate::proofs::Changes::RoomLemmas::back_so_far))]
 pub(crate) fn go_over_each<T: Steppable, L: ChangeListener>(
     line: &mut T,
     changes: &[Change],

@@ -3,7 +3,7 @@ ghost use Rattle.std.specs.Prelude.{◌≡◌, ◌+◌, ◌<◌, ◌++◌, ◌==
 ghost use Rattle.std.specs.Str.{IsUtf8};
 ghost use Rattle.std.specs.String.{string_bytes};
 ghost use Rattle.rl_base.specs.declared.listeners.Refusal.TheVariants.{NoMemory};
-ghost use Rattle.rl_line.specs.Record.{inserted_bytes};
+ghost use Rattle.rl_line.specs.Entry.{inserted_bytes};
 
 use crate::change::seldom;
 use arrayvec::ArrayString;
@@ -12,14 +12,15 @@ use std::alloc::Global;
 
 /// A text that grows at its end. A short one lies in the value itself, so that a typed word asks for no memory.
 #[derive(Drop)]
-pub(crate) enum Inserted {
+pub enum Inserted {
     // As many bytes as make an entry of the record no longer than a deletion does.
     Few(ArrayString<16>),
     Many(String),
 }
 
 impl Inserted {
-    pub(crate) fn of_char(c: char) -> Inserted
+    /// A text of one character.
+    pub fn of_char(c: char) -> Inserted
         ensures { inserted_bytes result ≡ encode_utf8 c }
     {
         let mut text = ArrayString::new();
@@ -30,7 +31,7 @@ impl Inserted {
     }
 
     /// A copy of a text. Refused only if memory is out; a short one is never refused.
-    pub(crate) fn of_str(alloc: Global, text: &str) -> Result<Inserted, Refusal>
+    pub fn of_str(alloc: Global, text: &str) -> Result<Inserted, Refusal>
         ensures ok { IfOk result (λ copy. inserted_bytes copy ≡ text.now) }
         ensures err { IfErr result (λ r. (r ≡ NoMemory) × (16 < length text.now)) }
     {
@@ -40,9 +41,10 @@ impl Inserted {
         }
     }
 
+    /// The text.
     // Inlined, since an undo and a redo ask it of each insertion.
     #[inline(always)]
-    pub(crate) fn as_str(&self) -> &str
+    pub fn as_str(&self) -> &str
         ensures value { result.now ≡ inserted_bytes self.now }
         ensures utf8 { IsUtf8 result.now }
     {
@@ -55,7 +57,7 @@ impl Inserted {
     /// Puts a character at the end of a text that was put in at `at`, if it comes right after it, at `idx`. Answers whether
     /// it does. Refused only if memory is out, and then the text stays.
     #[inline(always)]
-    pub(crate) fn push_at(
+    pub fn push_at(
         &mut self,
         alloc: Global,
         at: usize,

@@ -1,23 +1,16 @@
-//! A line of text with a cursor, whose edits are told to a listener, and the record that undoes them.
+//! A line of text with a cursor, whose edits are told to a listener, and how it goes over the entries of a record.
 #![tactic(auto)]
 
 mod blocks;
-mod change;
-pub mod changeset;
-mod entries;
-mod forgetting;
+pub mod change;
 mod gapped;
 mod going;
-mod inserted;
-pub mod laws;
+pub mod inserted;
 pub mod line_buffer;
 mod line_starts;
 mod patched;
-mod recent;
 mod roomy_line;
 mod swap;
 mod tails;
-mod units;
 
-pub use changeset::{Changeset, UnitStart};
 pub use line_buffer::{LineBuffer, MAX_LINE, can_delete_by, is_by_characters};

@@ -7,9 +7,9 @@ ghost use Rattle.rl_base.specs.Event.{InsertChar, InsertStr};
 ghost use Rattle.rl_base.specs.declared.listeners.Refusal.TheVariants.{NoMemory};
 ghost use Rattle.rl_line.specs.Line.{Line, stepped};
 ghost use Rattle.rl_line.specs.Plan.{AreReplay, NeverRefuses, Step, StepOutcome, Taken, after, room_by_step};
-ghost use Rattle.rl_line.specs.Undo.{LineOutOfRoom, line_back, listener_back, texts_back};
+ghost use Rattle.rl_line.specs.Going.{LineOutOfRoom, line_back, listener_back, texts_back};
 ghost use Rattle.rl_line.specs.Change.{entry_to_undo, entries_to_undo};
-ghost use Rattle.rl_line.specs.Record.{entry_of, is_change};
+ghost use Rattle.rl_line.specs.Entry.{entry_of, is_change};
 ghost use Rattle.rl_line.specs.Edits.{DeletesRange, replace_step};
 ghost use Rattle.rl_line.specs.LineRanges.{IsRange};
 
@@ -293,10 +293,10 @@ impl LineBuffer {
         self.line.deletion_step(range, dir, cursor, listener)
     }
 
-    // Goes over one change alone, as `go_over_all` does over several. Inlined, so that undo and redo each know their
-    // way at compile time.
+    /// Goes over one change alone, as `go_over_all` does over several. Inlined, so that undo and redo each know their
+    /// way at compile time.
     #[inline(always)]
-    pub(crate) fn go_over_one<L: ChangeListener>(
+    pub fn go_over_one<L: ChangeListener>(
         &mut self,
         change: &Change,
         way: Way,
@@ -325,10 +325,10 @@ impl LineBuffer {
         Ok(())
     }
 
-    // Goes over one change alone if the line can, and else leaves the line. Answers whether it can. The change is taken apart
-    // once, for the question and for the way.
+    /// Goes over one change alone if the line can, and else leaves the line. Answers whether it can. The change is taken apart
+    /// once, for the question and for the way.
     #[inline(always)]
-    pub(crate) fn try_over_one(&mut self, change: &Change, way: Way) -> Result<bool, Refusal>
+    pub fn try_over_one(&mut self, change: &Change, way: Way) -> Result<bool, Refusal>
         requires { is_change (entry_of change.now) ≡ true }
         ensures ok { IfOk result (λ fits. fits ≡ true → line_back (entry_to_undo way change.now ∷ []) self.old ≡ Some self.new) }
         ensures no { IfOk result (λ fits. fits ≡ false → (line_back (entry_to_undo way change.now ∷ []) self.old ≡ None) × (self.new ≡ self.old)) }
@@ -352,12 +352,12 @@ impl LineBuffer {
         Ok(true)
     }
 
-    // Goes over the changes: going back, the last first; going ahead, the first first. It finds the room for the
-    // longest text on the way before it changes anything. The listener is told of each change
-    // once it is gone over. Inlined, so that undo and redo each know their way at compile time.
+    /// Goes over the changes: going back, the last first; going ahead, the first first. It finds the room for the
+    /// longest text on the way before it changes anything. The listener is told of each change
+    /// once it is gone over. Inlined, so that undo and redo each know their way at compile time.
     #[inline(always)]
-    #[tactic(auto, using(crate::proofs::Records::RoomLemmas::back_so_far))]
-    pub(crate) fn go_over_all<L: ChangeListener>(
+    #[tactic(auto, using(crate::proofs::Changes::RoomLemmas::back_so_far))]
+    pub fn go_over_all<L: ChangeListener>(
         &mut self,
         changes: &[Change],
         way: Way,

@@ -14,7 +14,7 @@ use std::marker::Model;
 
 /// A text of which one part gave way to another. It copies what lies between the places that are asked for, and no more.
 #[derive(Drop)]
-pub(crate) struct Patched<'t> {
+pub struct Patched<'t> {
     text: &'t str,
     from: usize,
     to: usize,
@@ -57,7 +57,7 @@ impl<'t> Patched<'t> {
     }
 
     /// Replaces a text at a place by another, if it stands there. Answers whether it does.
-    #[tactic(auto, using(crate::proofs::Records::ChangeLemmas::patches))]
+    #[tactic(auto, using(crate::proofs::Changes::ChangeLemmas::patches))]
     pub(crate) fn swap(&mut self, at: usize, going: &str, coming: &str) -> Result<bool, Refusal>
         ensures stands { IfOk result (λ stands. stands ≡ stands_at self.old at going.now) }
         ensures done { IfOk result (λ stands. stands ≡ true → self.new ≡ replace_range self.old at (at + length going.now) coming.now) }
@@ -122,7 +122,7 @@ fn is_boundary_in(text: &str, from: usize, to: usize, part: &Blocks, at: usize) 
 
 // Widens the part that gave way until two places lie in it, if they stand between two characters. Answers whether they do,
 // or they lay there before.
-#[tactic(auto, using(crate::proofs::Records::ReachLemmas::reaches))]
+#[tactic(auto, using(crate::proofs::Changes::ReachLemmas::reaches))]
 fn reach(
     text: &str,
     from: &mut usize,
@@ -157,7 +157,7 @@ fn reach(
 
 // Widens the part that gave way down to a place. If nothing gave way yet, it may be anywhere: it begins there, so that
 // nothing is copied.
-#[tactic(auto, using(crate::proofs::Records::ReachLemmas::widens))]
+#[tactic(auto, using(crate::proofs::Changes::ReachLemmas::widens))]
 fn widen_down(
     text: &str,
     from: &mut usize,
@@ -188,7 +188,7 @@ fn widen_down(
 }
 
 // Widens it up to a place.
-#[tactic(auto, using(crate::proofs::Records::ReachLemmas::widens))]
+#[tactic(auto, using(crate::proofs::Changes::ReachLemmas::widens))]
 fn widen_up(
     text: &str,
     from: usize,
@@ -236,7 +236,7 @@ pub(crate) fn is_boundary_with(text: &str, from: usize, to: usize, part: &str, a
 
 /// Whether a part stands in a text at a byte place. Nothing is compared with an empty one: a comparison is a call.
 #[inline(always)]
-#[tactic(auto, using(crate::proofs::Records::ChangeLemmas::stood))]
+#[tactic(auto, using(crate::proofs::Changes::ChangeLemmas::stood))]
 pub(crate) fn stands_at(text: &str, at: usize, part: &str) -> bool
     ensures { result ≡ stands_at text.now at part.now }
 {

@@ -2,7 +2,8 @@
 use crate::line_buffer::line_of;
 use crate::undo::{Call, Event, Step, goes, make, stands, takes, undo};
 use rl_base::{ChangeListener, Direction, Refusal};
-use rl_line::{Changeset, LineBuffer};
+use rl_line::LineBuffer;
+use rl_record::Changeset;
 use std::alloc::Global;
 use std::process::Abort;
 use std::test::Fail;

@@ -2,7 +2,8 @@
 //! answer, and printed text.
 use crate::undo::stands;
 use rl_base::{NoListener, RepeatCount};
-use rl_line::{Changeset, LineBuffer, MAX_LINE};
+use rl_line::{LineBuffer, MAX_LINE};
+use rl_record::Changeset;
 use std::alloc::Global;
 use std::process::Abort;
 use std::test::Fail;

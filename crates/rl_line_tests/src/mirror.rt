@@ -3,7 +3,8 @@
 use crate::edits::replace;
 use crate::line_buffer::line_of;
 use rl_base::{ChangeListener, DeleteListener, Direction, Refusal, RepeatCount};
-use rl_line::{Changeset, LineBuffer};
+use rl_line::LineBuffer;
+use rl_record::Changeset;
 use std::alloc::Global;
 use std::marker::Model;
 use std::process::Abort;

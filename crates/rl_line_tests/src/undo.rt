@@ -4,7 +4,8 @@ use crate::line_buffer::line_of;
 use rl_base::{
     ChangeListener, DeleteListener, Direction, Movement, NoListener, Refusal, RepeatCount,
 };
-use rl_line::{Changeset, LineBuffer};
+use rl_line::LineBuffer;
+use rl_record::Changeset;
 use std::alloc::Global;
 use std::process::Abort;
 use std::test::Fail;

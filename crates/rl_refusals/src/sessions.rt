@@ -2,7 +2,8 @@
 use crate::checks::{Failed, Tally};
 use crate::watched::{Watched, stands};
 use rl_base::{Direction, Movement, Word, WordAction};
-use rl_line::{Changeset, LineBuffer};
+use rl_line::LineBuffer;
+use rl_record::Changeset;
 use rl_session::{Command, Fault, Reply};
 use std::alloc::{AllocError, Global};
 

@@ -3,7 +3,8 @@ ghost use Rattle.std.specs.Prelude.{◌≡◌, OnOk, OnErr, true, false};
 
 use crate::checks::{Failed, Tally};
 use rl_base::{GraphemeClusterMode, Refusal};
-use rl_line::{Changeset, LineBuffer};
+use rl_line::LineBuffer;
+use rl_record::Changeset;
 use rl_session::{Command, Fault, Reply, Session};
 use std::alloc::Global;
 

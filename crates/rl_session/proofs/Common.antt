@@ -15,8 +15,17 @@ pub use Rattle.std.specs.Io.KnownBytes.{Appends, Consumes, IsAtEnd, Keeps}
 pub use Rattle.std.specs.List.{All, AllByRecursion, prefix_len}
 pub use Rattle.std.specs.Prelude.{MatchOption, OnErr, codes, is_ok, slice_set}
 pub use Rattle.std.specs.declared.ops.Range.{Range}
-pub use Rattle.rl_line.proofs.Common.{All-head, All-weaker, Any, Begin, Bool, Changed, Cursors, Deletion, Done, End, Entry, Event, Halted, HasText, IfErr, IfErr-weaker, IfOk, IfSome, InsertChar, InsertStr, Insertion, IsChange, IsCharBoundary, IsCharBoundary-end, IsCharBoundary-start, IsMatched, IsSome, IsUtf8, IsUtf8-drop, IsUtf8-take, Line, List, NeedsRoom, None, OnOk, Option, Plan, Record, Redone, Redos, Replace, Replacement, Some, Start, Stop, Swap, Taken, Told, Uncopied, Undone, Walks, [], add-one, adds_end, agree, and-false, and_parts, answering, ap, append-nil, append_assoc, apply, ap₂, are_two, arith, begun, between, blanks, bytes_eq-Decides, bytes_in, cases_lt, clusters, clusters_around, cond, cond_both, cursor_after, cursor_told, cursors_of, cut_to_limit, delete_plan, drop, edit_word_plan, encode_ascii, encode_utf8, end_one, end_times, ended, ended_one, entries_after, entries_of, entries_told, eqb, eqb-false, eqb-true, err_from_is_err_and, event_of, events_ahead, events_of, false, first_word, freshness_added, freshness_joined, freshness_of, get_or, has_change, if◌then◌else◌, indent_plan, inl, inr, insert_event, insert_plan, insert_slice, insert_str_plan, inside_one, inverse, is_byte, is_change, kept_of, kept_within, last_of, last_told, last_units, le-ltb, length, length-append, length-between, length-drop, length-map, length-take-le, length_push, level, line_after, line_ahead, line_back, line_plan, lines_plan, listener_after, listener_after_step, map, map-append, max, meeting_place, min, nat_le, nat_lt, nat_tests, nil_from_length, not, only_move, opens, option_and_then, option_map, option_map_or, option_or, or-false, parts, place_after, prev_pos, pulled, pulled_back, pushed, put_spaces, record_step, redo_of, redone, refl, removal, remove_range, repeat, replay, replay_entries, replays_to, respell, respelled, reverse, reverse-append, reverse-reverse, rules, same_Some, second_word, side_of, single, slice_get, slice_range, spaces, stepped, steps_ahead, steps_back, string_bytes, subst, suc, sum, sum_by-cons, swap_plan, sym, take, take-append-drop, take_all, take_at, take_at_read, take_rest, text_in, texts_back, to_place, too_long, transpose_chars_plan, transpose_words_plan, true, truncated, unbounded, undone, unless_empty, unwind, unwrap_or, update_plan, vec_capacity, vec_len, with_closed, with_cursors, word_ahead, yank_plan, yank_pop_plan, zero, ℕ, ◌%◌, ◌&&◌, ◌*◌, ◌++◌, ◌+◌, ◌-◌, ◌<◌, ◌==◌, ◌^◌, ◌∙◌, ◌∷◌, ◌≡◌, ◌≤◌, ◌⊎◌}
-pub use Rattle.rl_line.specs.Calls.{RecordCall, MayCome, after_call, keeps_undone, parts_next, puts_begin, puts_end, puts_ends, reopens, shortens, texts_of_call}
+pub use Rattle.rl_base.proofs.Common.{option_or, prev_pos}
+pub use Rattle.rl_base.specs.Text.{HasText}
+pub use Rattle.rl_line.proofs.Common.{All-head, All-weaker, Any, Begin, Bool, Changed, Cursors, Deletion, Done, End, Entry, Event, Halted, IfOk, IfSome, InsertChar, InsertStr, Insertion, IsChange, IsCharBoundary, IsCharBoundary-end, IsCharBoundary-start, IsSome, IsUtf8, IsUtf8-drop, IsUtf8-take, Line, List, NeedsRoom, None, Option, Plan, Replace, Replacement, Some, Start, Stop, Taken, Told, Uncopied, [], add-one, and_parts, answering, ap, append-nil, append_assoc, apply, ap₂, are_two, arith, between, blanks, bytes_eq-Decides, bytes_in, cases_lt, clusters, clusters_around, cond, cond_both, cursor_after, cursor_told, cut_to_limit, delete_plan, drop, edit_word_plan, encode_ascii, encode_utf8, eqb, eqb-false, eqb-true, err_from_is_err_and, event_of, events_ahead, events_of, false, first_word, get_or, has_change, if◌then◌else◌, indent_plan, inl, inr, insert_event, insert_plan, insert_slice, inside_one, inverse, is_byte, is_change, le-ltb, length, length-append, length-between, length-drop, length-map, length-take-le, length_push, line_after, line_ahead, line_back, line_plan, lines_plan, listener_after, listener_after_step, map, map-append, max, meeting_place, min, nat_le, nat_lt, nat_tests, nil_from_length, not, only_move, option_and_then, option_map, option_map_or, or-false, parts, place_after, pulled, pulled_back, pushed, put_spaces, refl, removal, remove_range, repeat, replay, replay_entries, respell, respelled, reverse, reverse-append, rules, same_Some, second_word, single, slice_get, slice_range, spaces, stepped, steps_ahead, steps_back, string_bytes, subst, suc, sum, sum_by-cons, swap_plan, sym, take, take-append-drop, take_all, take_at, take_rest, text_in, texts_back, to_place, too_long, transpose_chars_plan, transpose_words_plan, true, unwind, unwrap_or, update_plan, vec_len, word_ahead, yank_plan, yank_pop_plan, zero, ℕ, ◌%◌, ◌&&◌, ◌*◌, ◌++◌, ◌+◌, ◌-◌, ◌<◌, ◌==◌, ◌^◌, ◌∙◌, ◌∷◌, ◌≡◌, ◌≤◌, ◌⊎◌}
+pub use Rattle.rl_line.specs.Deletions.{side_of, Between, CanDeleteBy, ToldOutcome, is_by_characters, kill_plan, kill_range_plan, texts_of}
+pub use Rattle.rl_line.specs.Edits.{insert_str_plan, replace_plan}
+pub use Rattle.rl_line.specs.Ranges.{unless_empty}
+pub use Rattle.rl_record.proofs.Common.{IsMatched, Record, Redone, Redos, Swap, Undone, Walks, adds_end, agree, begun, cursors_of, end_one, end_times, ended, ended_one, entries_after, entries_of, entries_told, freshness_added, freshness_joined, freshness_of, kept_of, kept_within, last_of, last_told, last_units, level, opens, record_step, redo_of, redone, replays_to, reverse-reverse, take_at_read, truncated, unbounded, undone, vec_capacity, with_closed, with_cursors}
+pub use Rattle.std.proofs.Math.Bool.{and-false}
+pub use Rattle.std.proofs.lemmas.Result.{IfErr-weaker}
+pub use Rattle.std.specs.Prelude.{IfErr, OnOk}
+pub use Rattle.rl_record.specs.Calls.{RecordCall, MayCome, after_call, keeps_undone, parts_next, puts_begin, puts_end, puts_ends, reopens, shortens, texts_of_call}
 pub use Rattle.memchr.specs.Find.{Nowhere, Passes}
 pub use Rattle.rl_base.specs.Clusters.{next_pos}
 pub use Rattle.rl_base.specs.KillRing.{IsRing, Ring, after_deletion, in_new_slot, join_at, killed_as, next_index, popped_ring, put_at, reset, ring_step, side_mode, turned, yank_pop, yank_popped, yank_size, yanked}
@@ -37,12 +46,10 @@ pub use Rattle.rl_base.specs.declared.motion.Movement.TheVariants.{BackwardChar,
 pub use Rattle.rl_base.specs.declared.motion.Word.{Word}
 pub use Rattle.rl_base.specs.declared.motion.Word.TheVariants.{Emacs}
 pub use Rattle.rl_base.specs.declared.motion.WordAction.{WordAction}
-pub use Rattle.rl_line.specs.Deletions.{Between, CanDeleteBy, ToldOutcome, is_by_characters, kill_plan, kill_range_plan, texts_of}
-pub use Rattle.rl_line.specs.Edits.{replace_plan}
 pub use Rattle.rl_line.specs.Motions.{Moved}
 pub use Rattle.rl_line.specs.Plan.{Cut, Grows, Outcome, Takes, a_copy, nothing_more, or_no_memory, refusal_of, room_by_step}
 pub use Rattle.rl_line.specs.Transpositions.{word_end, word_start}
-pub use Rattle.rl_line.specs.declared.change.Freshness.{Freshness}
+pub use Rattle.rl_record.specs.declared.joining.Freshness.{Freshness}
 pub use Rattle.rl_session.specs.Commands.{Asked, Became, Came, Course, CutShort, Does, Edited, Effect, KeepsRing, Telling, WatchHears, answers, asked, by_steps, course_of, deletion_of, edit, edit_course, edits, effect, goes, hands_out, inserts, is_done, is_vain_yank, lends, lent_plan, never, on_record, other, other_course, popped, popped_plan, pops, puts_again, readied, settled, stays, takes_back, tells, told_as, when, with_changes, gives_up}
 pub use Rattle.rl_session.specs.Forgetting.{HoldsOn, gone, within_bound}
 pub use Rattle.rl_session.specs.Grammar.{AmountMovement, CountAtWord, CountSearch, CountWord, Do, Meaning, Means, Names, NamesAction, NamesAt, NamesDirection, NamesMode, NamesSearch, NamesWord, NewText, RangeDirection, RangeText, Same, Says, Set, ahead, back, back_onto, back_till, backward, bchar, before, begin, big, bob, buf, bword, cap, cased, copy, dedent, del, discbuf, discline, down, emacs, end, endone, eob, eol, fchar, find, first, fword, home, indent, ins, keep, kill, killbuf, killline, killrange, limit, line_place, low, mode, move, nextword, no_text, nonblank, nozwj, part, paste, pastes, pos, prevword, puts_in, range, redo, reopen, abandon, keepundone, rep, replaces, ring, same, start, str, tchars, text, till, to, trunc, twords, undo, unicode, up, update, updates, upper, vi, wcwidth, whole, yankpop, linesdown, linesup}

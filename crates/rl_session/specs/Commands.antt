@@ -21,11 +21,12 @@ use Rattle.rl_line.specs.Edits.{CanInsertStr, CanYankPop, insert_plan, insert_st
 use Rattle.rl_line.specs.Indents.{indent_plan}
 use Rattle.rl_line.specs.Deletions.{copied, delete_plan, kill_plan, kill_range_plan, is_by_characters, Told}
 use Rattle.rl_line.specs.LetterCase.{edit_word_plan}
-use Rattle.rl_line.specs.Calls.{RecordCall, MayCome, after_call, keeps_undone, parts_next, puts_begin, puts_end, puts_ends, reopens, shortens}
-use Rattle.rl_line.specs.Record.{Record, replays_to}
+use Rattle.rl_record.specs.Calls.{RecordCall, MayCome, after_call, keeps_undone, parts_next, puts_begin, puts_end, puts_ends, reopens, shortens}
+use Rattle.rl_record.specs.Record.{Record, replays_to}
 use Rattle.rl_line.specs.Transpositions.{transpose_chars_plan, transpose_words_plan}
-use Rattle.rl_line.specs.Undo.{Abandoned, CopiesBack, Undone, Redone, steps_ahead, steps_back, texts_ahead, texts_back}
-use Rattle.rl_line.specs.Units.{adds_end, ends_in_end, last_of, level, open_group, redo_of, waits}
+use Rattle.rl_line.specs.Going.{steps_ahead, steps_back, texts_ahead, texts_back}
+use Rattle.rl_record.specs.Undo.{Abandoned, CopiesBack, Undone, Redone}
+use Rattle.rl_record.specs.Units.{adds_end, ends_in_end, last_of, level, open_group, redo_of, waits}
 use Rattle.rl_session.specs.Options.{layout_of}
 use Rattle.rl_session.specs.Pair.{pair_step, pair_refused}
 use Rattle.rl_session.specs.declared.session.Command.{Command}

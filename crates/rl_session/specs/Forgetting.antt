@@ -1,8 +1,8 @@
 -- The bound of a session's record and of its ring, and what the session forgets beyond it.
 use Rattle.std.specs.Prelude.{◌≡◌, ◌∷◌, List, ℕ, Some}
 use Rattle.rl_base.specs.KillRing.{within_bytes}
-use Rattle.rl_line.specs.Forgetting.{forgotten, gone_within}
-use Rattle.rl_line.specs.Record.{Entry, replay_entries}
+use Rattle.rl_record.specs.Forgetting.{forgotten, gone_within}
+use Rattle.rl_line.specs.Entry.{Entry, replay_entries}
 use Rattle.rl_session.specs.History.{Holds, StandsAfter}
 use Rattle.rl_session.specs.State.{Ends, State, Replays}
 

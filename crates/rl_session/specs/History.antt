@@ -2,8 +2,9 @@
 use Rattle.std.specs.Prelude.{◌≡◌, ◌⊎◌, ◌<◌, ℕ, suc, List, [], ◌∷◌, ◌++◌, reverse, Some}
 use Rattle.std.specs.Str.{IsUtf8}
 use Rattle.rl_line.specs.Line.{Line}
-use Rattle.rl_line.specs.Record.{Entry, Record, replay_entries}
-use Rattle.rl_line.specs.Units.{BothMatched, level}
+use Rattle.rl_line.specs.Entry.{Entry, replay_entries}
+use Rattle.rl_record.specs.Record.{Record}
+use Rattle.rl_record.specs.Units.{BothMatched, level}
 use Rattle.rl_session.specs.declared.session.Command.{Command}
 use Rattle.rl_session.specs.declared.session.Command.TheVariants.{Abandon, End, EndOne, Kill, Redo, Truncate, Undo, Yank, YankPop, KillRange}
 use Rattle.rl_session.specs.declared.session.Reply.{Reply}

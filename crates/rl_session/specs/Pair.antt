@@ -5,7 +5,7 @@ use Rattle.rl_base.specs.KillRing.{KeepsText, ring_step}
 use Rattle.rl_base.specs.Watch.{watch_step}
 use Rattle.rl_base.specs.declared.listeners.Refusal.{Refusal}
 use Rattle.rl_base.specs.declared.listeners.Refusal.TheVariants.{NoMemory}
-use Rattle.rl_line.specs.Record.{IsRecorded, record_step}
+use Rattle.rl_record.specs.Record.{IsRecorded, record_step}
 use Rattle.rl_session.specs.declared.pair.Pair.{Pair}
 
 -- each hears every event by its own step: an insertion or replacement leaves the ring, the start or end of a kill the record

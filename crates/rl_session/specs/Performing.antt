@@ -13,9 +13,10 @@ use Rattle.rl_line.specs.Line.{Line}
 use Rattle.rl_line.specs.LineRanges.{IsRange}
 use Rattle.rl_line.specs.Plan.{a_copy, longest_by, unbegun}
 use Rattle.rl_line.specs.Transpositions.{transpose_words_plan}
-use Rattle.rl_line.specs.Units.{has_change, last_of, level, makes_group, open_group, redo_of, unit_start, united, units_in_group, adds_end, is_open, still_waiting, waits}
-use Rattle.rl_line.specs.Record.{Entry, parted}
-use Rattle.rl_line.specs.declared.changeset.UnitStart.{UnitStart}
+use Rattle.rl_line.specs.Entry.{has_change, Entry}
+use Rattle.rl_record.specs.Units.{last_of, level, makes_group, open_group, redo_of, unit_start, united, units_in_group, adds_end, is_open, still_waiting, waits}
+use Rattle.rl_record.specs.Record.{parted}
+use Rattle.rl_record.specs.declared.changeset.groups.UnitStart.{UnitStart}
 use Rattle.rl_session.specs.Commands.{Does, StandsYanked, Step, with_changes}
 use Rattle.rl_session.specs.Forgetting.{Forgets}
 use Rattle.rl_session.specs.History.{Holds, MayStandInGroup, StandsAfter, WasRefused}

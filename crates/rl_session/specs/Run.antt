@@ -3,9 +3,9 @@ use Rattle.std.specs.Prelude.{◌≡◌, ℕ, true, false, List, [], ◌∷◌, 
 use mathlib.Core.Logic.{inl, inr}
 use Rattle.rl_base.specs.Event.{Event, Start}
 use Rattle.rl_line.specs.Plan.{Step as PlanStep, events_of}
-use Rattle.rl_line.specs.Calls.{texts_of_call}
-use Rattle.rl_line.specs.Undo.{steps_ahead, steps_back, texts_after}
-use Rattle.rl_line.specs.Units.{last_of, redo_of, open_group}
+use Rattle.rl_record.specs.Calls.{texts_of_call}
+use Rattle.rl_line.specs.Going.{steps_ahead, steps_back, texts_after}
+use Rattle.rl_record.specs.Units.{last_of, redo_of, open_group}
 use Rattle.rl_session.specs.declared.session.Command.{Command}
 use Rattle.rl_session.specs.declared.session.Reply.{Reply}
 use Rattle.rl_session.specs.Pair.{pair_step}

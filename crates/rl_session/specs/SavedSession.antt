@@ -10,8 +10,8 @@ use Rattle.rl_base.specs.declared.layout.GraphemeClusterMode.{GraphemeClusterMod
 use Rattle.rl_base.specs.declared.layout.GraphemeClusterMode.TheVariants.{Unicode, WcWidth, NoZwj}
 use Rattle.rl_base.specs.declared.saving.Width.TheVariants.{Eight}
 use Rattle.rl_line.specs.Line.{Line}
-use Rattle.rl_line.specs.SavedRecord.{FitsEntry, IsSavedRecord, saved_record}
-use Rattle.rl_line.specs.Walk.{Walks}
+use Rattle.rl_record.specs.SavedRecord.{FitsEntry, IsSavedRecord, saved_record}
+use Rattle.rl_record.specs.Undo.{Walks}
 use Rattle.rl_session.specs.State.{State, with_watch}
 use Rattle.rl_session.specs.declared.options.Options.{Options}
 

@@ -7,9 +7,10 @@ use Rattle.rl_base.specs.Reports.{IsLineText}
 use Rattle.rl_base.specs.Splice.{Covers}
 use Rattle.rl_base.specs.Watch.{Watched, ReportsLead, new_watch, watch_step}
 use Rattle.rl_line.specs.Line.{Line, NeedsRoom}
-use Rattle.rl_line.specs.Record.{Record, no_changes, replay_entries, saved_here, unwind}
-use Rattle.rl_line.specs.Undo.{line_ahead, line_back}
-use Rattle.rl_line.specs.Walk.{Walks}
+use Rattle.rl_line.specs.Entry.{replay_entries, unwind}
+use Rattle.rl_record.specs.Record.{Record, no_changes, saved_here}
+use Rattle.rl_line.specs.Going.{line_ahead, line_back}
+use Rattle.rl_record.specs.Undo.{Walks}
 use Rattle.rl_session.specs.declared.options.Options.{Options}
 use Rattle.rl_session.specs.declared.pair.Pair.{Pair}
 use Rattle.rl_session.specs.declared.settings.Settings.{Settings}

@@ -3,10 +3,11 @@
 //! restarted begin one (`record_is_placed`), any other has one (`a_session_has_a_history`), and each run goes on with it.
 //! After `forget` it is that of the texts from the one on with which the record then begins (`what_is_left_replays`).
 ghost use Rattle.std.specs.Prelude.{◌≡◌, ◌≤◌, ◌<◌, ◌+◌, ◌++◌, ◌∷◌, [], ℕ, All, List, IsSome, Some, drop, length, suc, true};
-ghost use Rattle.rl_line.specs.Calls.{keeps_undone};
-ghost use Rattle.rl_line.specs.Record.{Entry, StaysSaved, is_saved, replay_entries};
-ghost use Rattle.rl_line.specs.Undo.{texts_ahead};
-ghost use Rattle.rl_line.specs.Units.{BothMatched, IsMatched, closed_all, has_change, last_of, last_units, level, next_of, opens, undone, units, waits};
+ghost use Rattle.rl_line.specs.Entry.{Entry, replay_entries, has_change};
+ghost use Rattle.rl_record.specs.Calls.{keeps_undone};
+ghost use Rattle.rl_record.specs.Record.{StaysSaved, is_saved};
+ghost use Rattle.rl_line.specs.Going.{texts_ahead};
+ghost use Rattle.rl_record.specs.Units.{BothMatched, IsMatched, closed_all, last_of, last_units, level, next_of, opens, undone, units, waits};
 ghost use Rattle.rl_session.specs.Commands.{Became, on_record};
 ghost use Rattle.rl_session.specs.History.{AllRedone, AllStandInGroup, ClosesGroup, Holds, IsEdit, WasHeld, WasRefused};
 ghost use Rattle.rl_session.specs.Run.{Row, Run, held_by, held_of};

@@ -1,6 +1,6 @@
 //! A kill ring and a record of changes, which hear of a line's changes as one, and a watch beside them.
 use rl_base::{ChangeListener, DeleteListener, Direction, KillRing, Refusal, Watch};
-use rl_line::Changeset;
+use rl_record::Changeset;
 
 /// A kill ring and a record, told together. The ring hears of a deletion first. If one of the two refuses, the
 /// record is as it was; the ring is as it was too, or it heard of that deletion. The watch hears what neither refused.
@@ -21,7 +21,7 @@ impl DeleteListener for Pair {
 
     ghost refused = { pair_refused };
 
-    #[tactic(auto, using(rl_line::proofs::Records::JoinLemmas::alone))]
+    #[tactic(auto, using(rl_record::proofs::Records::JoinLemmas::alone))]
     fn start_killing(&mut self) {
         self.ring.start_killing();
         self.watch.start_killing();
@@ -33,7 +33,7 @@ impl DeleteListener for Pair {
         self.watch.delete(idx, string, dir)
     }
 
-    #[tactic(auto, using(rl_line::proofs::Records::JoinLemmas::alone))]
+    #[tactic(auto, using(rl_record::proofs::Records::JoinLemmas::alone))]
     fn stop_killing(&mut self) {
         self.ring.stop_killing();
         self.watch.stop_killing();

@@ -2,7 +2,8 @@
 ghost use Rattle.std.specs.Prelude.{is_some, ◌≡◌, ◌<◌, ◌++◌, ◌∷◌, [], List, ℕ, length, IsSome, Some, IfOk, IfErr, MatchOption, None, OnErr, OnOk, option_map};
 ghost use Rattle.rl_base.specs.Event.{replay};
 ghost use Rattle.rl_line.specs.Line.{Line};
-ghost use Rattle.rl_line.specs.Record.{Record, replay_entries, unwind};
+ghost use Rattle.rl_line.specs.Entry.{replay_entries, unwind};
+ghost use Rattle.rl_record.specs.Record.{Record};
 ghost use Rattle.rl_base.specs.KillRing.{reset};
 ghost use Rattle.rl_base.specs.Reports.{HasTexts, LacksTexts, Noted, Stand, TellsByTexts, after_numbers, after_texts, new_queue, texts_of};
 ghost use Rattle.rl_base.specs.Splice.{Splices, told, untouched};
@@ -32,7 +33,8 @@ use rl_base::{
     At, CharSearch, Direction, KillRing, Movement, Refusal, RepeatCount, Report, Splice, Unit,
     Watch, WatchFault, Word, WordAction,
 };
-use rl_line::{Changeset, LineBuffer};
+use rl_line::LineBuffer;
+use rl_record::Changeset;
 use std::alloc::Global;
 use std::marker::Model;
 use thiserror::Error;

@@ -1,6 +1,7 @@
 //! What a pair hears of the edits of a line.
 use rl_base::{ChangeListener, DeleteListener, KillRing, Movement, NoListener, Watch};
-use rl_line::{Changeset, LineBuffer};
+use rl_line::LineBuffer;
+use rl_record::Changeset;
 use rl_session::Pair;
 use std::alloc::Global;
 use std::process::Abort;

@@ -29,7 +29,7 @@ pub struct File {
 }
 
 // Of this repository. A module `laws` holds nothing else.
-const LIBRARIES: &str = "rl_base rl_line rl_session";
+const LIBRARIES: &str = "rl_base rl_line rl_record rl_session";
 const FOR_C: &str = "rl_ffi";
 const PROGRAMS: &str = "rl_line_tests rl_refusals rl_script rl_tests";
 // The kit's ports, each with the modules that allocate or read, which are not needed.

@@ -33,7 +33,7 @@
 use crate::keymap::RepeatCount;
 use crate::line_buffer::{answered, ChangeListener, DeleteListener, Direction, LineBuffer};
 use crate::proved::rl_base::{DeleteListener as _, Refusal};
-use crate::proved::rl_line;
+use crate::proved::rl_record;
 use crate::proved::stand_in::alloc::Global;
 use crate::words::Error;
 use alloc::string::String;
@@ -45,7 +45,7 @@ use core::fmt;
 ///
 /// A call that needs memory and gets none panics with "out of memory", but the `try_` calls.
 pub struct Changeset {
-    changes: rl_line::Changeset,
+    changes: rl_record::Changeset,
 }
 
 impl Default for Changeset {
@@ -70,7 +70,7 @@ impl Changeset {
     #[inline]
     pub fn new() -> Self {
         Changeset {
-            changes: rl_line::Changeset::new(Global),
+            changes: rl_record::Changeset::new(Global),
         }
     }
 

@@ -1,11 +1,11 @@
 -- A text in parts: what one part has of it, and what a change of the part changes in it.
-use Rattle.rl_line.proofs.Common.{nat_tests, Bool, true, false, not, ◌&&◌, bytes_eq, bytes_eq-Decides, IsUtf8, is_utf8-from_IsUtf8, drop_all, take_all, ◌≡◌, ℕ, suc, ◌+◌, ◌-◌, ◌<◌, ◌≤◌, List, [], ◌∷◌, ◌++◌, length, length-append, length-take, length-drop, append-nil, append_assoc, take, drop, take-add, take-take, drop-take, drop-drop, take-append-add, drop-append-add, take-append-le, drop-append-le, drop_more, take-append-drop, get_or, get_or-take, get_or-drop, set, insert, insert_slice, remove_range, slice_range, refl, sym, ap, subst, ◌∙◌, arith, take_more_set, drop-set-lt}
-use Rattle.std.specs.List.{flat_map}
-use Rattle.std.specs.Prelude.{slice_index}
-use Rattle.std.proofs.lemmas.List.{set_split, take_more}
-use Rattle.std.proofs.lemmas.List.Concat.{flat_map-append}
+use Rattle.rl_line.proofs.Common.{Bool, IsUtf8, List, [], ap, append-nil, append_assoc, arith, bytes_eq, bytes_eq-Decides, drop, drop-append-add, drop-append-le, drop-drop, drop-set-lt, drop-take, drop_all, drop_more, false, get_or, get_or-drop, get_or-take, insert, insert_slice, is_utf8-from_IsUtf8, length, length-append, length-drop, length-take, nat_tests, not, refl, remove_range, set, slice_range, subst, suc, sym, take, take-add, take-append-add, take-append-drop, take-append-le, take-take, take_all, take_more_set, true, ℕ, ◌&&◌, ◌++◌, ◌+◌, ◌-◌, ◌<◌, ◌∙◌, ◌∷◌, ◌≡◌, ◌≤◌}
 use Rattle.rl_base.specs.Text.{is_boundary, stands_at}
 use Rattle.rl_line.specs.Blocks.{LiesIn, begins_character}
+use Rattle.std.proofs.lemmas.List.{set_split, take_more}
+use Rattle.std.proofs.lemmas.List.Concat.{flat_map-append}
+use Rattle.std.specs.List.{flat_map}
+use Rattle.std.specs.Prelude.{slice_index}
 
 -- ---- a text between two others
 module _ (a b c : List ℕ) (there : ℕ) where

@@ -1,8 +1,8 @@
 -- The first line of a text, and of what stands after a place.
-use Rattle.rl_line.proofs.Common.{◌≡◌, ℕ, zero, suc, ◌+◌, ◌-◌, ◌<◌, Bool, true, false, List, [], ◌∷◌, length, get_or, take, drop, slice_range, refl, sym, ap, ap₂, subst, ◌∙◌, arith, eqb, eqb-true, onto_first, IsCharBoundary, IsCharBoundary-start, IsCharBoundary-before_ascii, IsUtf8, is_newline, lines, line_number, text_of_line, start_of_line, end_of_line}
+use Rattle.rl_line.proofs.Common.{Bool, IsCharBoundary, IsCharBoundary-before_ascii, IsCharBoundary-start, IsUtf8, List, [], ap, ap₂, arith, drop, end_of_line, eqb, eqb-true, false, get_or, is_newline, length, line_number, lines, onto_first, refl, slice_range, start_of_line, subst, suc, sym, take, text_of_line, true, zero, ℕ, ◌+◌, ◌-◌, ◌<◌, ◌∙◌, ◌∷◌, ◌≡◌}
 use Rattle.memchr.specs.Find.{NoneBefore, Nowhere, Passes, is_byte}
-use Rattle.rl_base.proofs.Texts.LineLemmas.{count_of_lines, end-from, lies, lines_some}
 use Rattle.rl_base.proofs.Clusters.ClusterLemmas.{slice_range-front}
+use Rattle.rl_base.proofs.Texts.LineLemmas.{count_of_lines, end-from, lies, lines_some}
 use Rattle.rl_line.proofs.Lines.LineReadLemmas.{EndsAt-start, ends_at}
 use Rattle.std.proofs.lemmas.List.Splits.{slice_split-cons_no, slice_split-cons_yes}
 

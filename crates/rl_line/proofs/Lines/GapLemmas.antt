@@ -1,8 +1,8 @@
 -- Bytes with a gap: what is beside it where it moves, and where a part goes in; and the table of the lines around a part of the text.
-use borrow.Rule.Slice.PartMut.{put_mid}
-use Rattle.rl_line.proofs.Common.{◌≡◌, ℕ, ◌+◌, ◌-◌, ◌≤◌, Bool, true, List, [], ◌++◌, ap, ap₂, sym, subst, ◌∙◌, refl, arith, le_refl, length, max, take, drop, slice_range, length-append, length-drop, length-take-le, copy_within, remove_range, replace_range, append_assoc, append-nil, take-append-drop, take-append-le, take-add, take-take, take_at, take_all, drop_at, drop-put_mid, take-put_mid, drop-drop, drop_all, count_by, is_newline, line_number, IsCharBoundary, IsUtf8, IsUtf8-drop, IsTable, IsTableAround, IsAround, IsGapped}
+use Rattle.rl_line.proofs.Common.{Bool, IsAround, IsCharBoundary, IsGapped, IsTable, IsTableAround, IsUtf8, IsUtf8-drop, List, [], ap, append-nil, append_assoc, ap₂, arith, copy_within, count_by, drop, drop-drop, drop-put_mid, drop_all, drop_at, is_newline, le_refl, length, length-append, length-drop, length-take-le, line_number, max, refl, remove_range, replace_range, slice_range, subst, sym, take, take-add, take-append-drop, take-append-le, take-put_mid, take-take, take_all, take_at, true, ℕ, ◌++◌, ◌+◌, ◌-◌, ◌∙◌, ◌≡◌, ◌≤◌}
 use Rattle.rl_base.proofs.Texts.TextLemmas.{IsUtf8-replaced, removed-is_replaced}
 use Rattle.rl_line.proofs.Lines.RoomyLemmas.{length-swapped}
+use borrow.Rule.Slice.PartMut.{put_mid}
 
 pub length-gapped : (xs : List ℕ) (gap rest : ℕ) → gap ≤ rest → rest ≤ length xs → length (remove_range xs gap rest) ≡ length xs - (rest - gap)
 length-gapped xs gap rest order inside = omega (arith, length-append (take gap xs) (drop rest xs), length-take-le gap xs (omega arith), length-drop rest xs)

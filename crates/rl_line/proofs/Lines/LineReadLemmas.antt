@@ -1,7 +1,7 @@
 -- What the table of line starts says of the lines of its text.
-use Rattle.rl_line.proofs.Common.{◌≡◌, ℕ, zero, suc, ◌+◌, ◌-◌, ◌<◌, ◌≤◌, Bool, true, false, cond, List, [], ◌∷◌, length, get_or, take, drop, min, refl, sym, ap, subst, ◌∙◌, arith, count_by, eqb, ne_eqb, leb, ltb, le_refl, length-append, slice_range, ⊎_elim, Some, None, both_ways, cases_lt, le-leb, lt-leb, le-ltb, lt-ltb, length-take-le, get_or_append_left, get_or-append_right, get_or-take, get_or_default, length-between, get_or-between, All-get_or, IsCharBoundary-before_ascii, IsCharBoundary-after_ascii, slice_get_past, slice_get-get_or, onto_first, option_map, Range, IsPartitionedBy, IsPartitionPoint, IsCharBoundary, IsUtf8, is_newline, lines, last_line, line_number, start_of_line, end_of_line, between, range_of_line, after_newlines, line_starts, from_end, IsTable}
+use Rattle.rl_line.proofs.Common.{All-get_or, Bool, IsCharBoundary, IsCharBoundary-after_ascii, IsCharBoundary-before_ascii, IsPartitionPoint, IsPartitionedBy, IsTable, IsUtf8, List, None, Range, Some, [], after_newlines, ap, arith, between, both_ways, cases_lt, cond, count_by, drop, end_of_line, eqb, false, from_end, get_or, get_or-append_right, get_or-between, get_or-take, get_or_append_left, get_or_default, is_newline, last_line, le-leb, le-ltb, le_refl, leb, length, length-append, length-between, length-take-le, line_number, line_starts, lines, lt-leb, lt-ltb, ltb, min, ne_eqb, onto_first, option_map, range_of_line, refl, slice_get-get_or, slice_get_past, slice_range, start_of_line, subst, suc, sym, take, true, zero, ℕ, ⊎_elim, ◌+◌, ◌-◌, ◌<◌, ◌∙◌, ◌∷◌, ◌≡◌, ◌≤◌}
+use Rattle.rl_base.proofs.Texts.LineLemmas.{count-parts, count_of_lines, end-after, end-last, lines_some, start-before, start-mono, start-next, text-between}
 use Rattle.rl_base.specs.Lines.{bytes_of}
-use Rattle.rl_base.proofs.Texts.LineLemmas.{count-parts, lines_some, count_of_lines, start-before, start-next, end-last, end-after, start-mono, text-between}
 use Rattle.rl_line.proofs.Lines.LineStartLemmas.{IsAfterNewline, after_newlines-cons, all_after_newlines, length-line_starts, length-table, newlines-take, parts, read-before, read-from, read-within}
 
 -- ---- the places where lines begin: the table, with the start of the text before it

@@ -1,7 +1,7 @@
+use Rattle.rl_line.proofs.Common.{All, All-append, All-cons, All-drop, All-get_or, All-head, All-map, All-nil, All-tail, All-take, All-weaker, Bool, IsTable, List, [], after_newlines, and_parts, ap, append-nil, append_assoc, ap₂, arith, common_steps, cond, cond_both, copy_within, count_by, drop, drop-drop, drop-map, drop_all, drop_at, drop_more, encode_ascii, encode_utf8, enumerate_from, eqb-false, eqb-true, false, filter, from_end, get_or, get_or-map, get_or_at, insert, inside_one, is_byte, is_newline, kept_starts, leb-true, length, length-append, length-between, length-drop, length-map, length-replicate, length-take, length-take-le, line_number, line_starts, map, map_push, nat_le, ne_eqb, nil_from_length, places, refl, remove, replace_range, set, set_at, slice_range, starts_from_end, subst, suc, sum_by-append, sum_by-cons, sym, take, take-add, take-append-drop, take-map, take_all, take_at, true, zero, ℕ, ◌&&◌, ◌++◌, ◌+◌, ◌-◌, ◌<◌, ◌==◌, ◌∙◌, ◌∷◌, ◌≡◌, ◌≤◌}
+use Rattle.memchr.specs.Find.{places_from}
 -- The places right after the newlines of a text: of two joined, how many there are, and where they lie; and the table of them with a border: where it lies between two parts of the text, where it moves, and where a range gives way to a part.
 use borrow.Rule.Slice.PartMut.{put_mid}
-use Rattle.rl_line.proofs.Common.{common_steps, ◌≡◌, ℕ, zero, suc, ◌+◌, ◌-◌, ◌<◌, ◌≤◌, ◌&&◌, ◌==◌, nat_le, Bool, true, false, cond, List, [], ◌∷◌, ◌++◌, map, filter, length, get_or, set, take, drop, take-add, append_assoc, append-nil, length-append, length-drop, slice_range, All, count_by, refl, sym, ap, ap₂, subst, ◌∙◌, arith, ne_eqb, and_parts, cond_both, eqb-true, leb-true, nil_from_length, take-append-drop, length-take, length-take-le, length-map, map_push, get_or-map, get_or_at, take-map, take_at, drop-drop, drop-map, drop_at, drop_all, drop_more, set_at, sum_by-cons, sum_by-append, length-between, All-nil, All-cons, All-head, All-tail, All-get_or, All-weaker, All-append, All-map, All-take, All-drop, encode_ascii, inside_one, enumerate_from, replace_range, copy_within, insert, remove, encode_utf8, is_byte, places, is_newline, line_number, after_newlines, line_starts, from_end, starts_from_end, kept_starts, IsTable, take_all, length-replicate, eqb-false}
-use Rattle.memchr.specs.Find.{places_from}
 
 map-cond : {A B : Type 0} (f : A → B) (is : Bool) (x : A) (l : List A) → map f (cond is (x ∷ l) l) ≡ cond is (f x ∷ map f l) (map f l)
 map-cond f true x l = refl

@@ -1,5 +1,5 @@
 -- Texts for which a line has room: one where a part of it gives way, goes in, or moves.
-use Rattle.rl_line.proofs.Common.{common_steps, ◌≡◌, ℕ, ◌+◌, ◌-◌, ◌≤◌, [], List, arith, ap, append-nil, length, slice_range, length-append, length-drop, length-take-le, insert_slice, remove_range, replace_range, HasRoom, Line, RoomyLine}
+use Rattle.rl_line.proofs.Common.{HasRoom, Line, List, RoomyLine, [], ap, append-nil, arith, common_steps, insert_slice, length, length-append, length-drop, length-take-le, remove_range, replace_range, slice_range, ℕ, ◌+◌, ◌-◌, ◌≡◌, ◌≤◌}
 use Rattle.rl_base.proofs.Texts.TextLemmas.{removed-is_replaced}
 
 pub length-swapped : (text part : List ℕ) (i j : ℕ) → i ≤ j → j ≤ length text → length (replace_range text i j part) ≡ length text - (j - i) + length part

@@ -1,13 +1,13 @@
 -- Rows above and below, by the numbers that the code compares.
-use Rattle.rl_line.proofs.Common.{◌≡◌, ℕ, ◌+◌, ◌-◌, ◌<◌, ◌≤◌, ◌==◌, ◌&&◌, Bool, true, false, cond, eqb-true, max, nat_lt, List, [], ◌∷◌, length, length-append, Some, None, Option, IsUtf8, nat_tests, arith, refl, ap, ap₂, sym, subst, ◌∙◌, last_line, start_of_line}
-use Rattle.std.specs.List.{concat}
-use Rattle.rl_base.specs.Clusters.{bytes_in, clusters}
-use Rattle.rl_base.specs.Screen.{after, cell, cells, is_within, last_within, place_at, screen_from, stands}
-use Rattle.rl_base.specs.declared.screen.Screen.{Screen}
+use Rattle.rl_line.proofs.Common.{Bool, IsUtf8, List, None, Option, Some, [], ap, ap₂, arith, cond, eqb-true, false, last_line, length, length-append, max, nat_lt, nat_tests, refl, start_of_line, subst, sym, true, ℕ, ◌&&◌, ◌+◌, ◌-◌, ◌<◌, ◌==◌, ◌∙◌, ◌∷◌, ◌≡◌, ◌≤◌}
 use Rattle.rl_base.proofs.Clusters.ClusterLemmas.{bytes_in-clusters}
 use Rattle.rl_base.proofs.Clusters.RowLemmas.{cell-end, end_cell}
 use Rattle.rl_base.proofs.Texts.TextLemmas.{and_right}
-use Rattle.rl_line.specs.Rows.{Above, Below, cell_after, height, line_end, rest_of_line, stays_above, goes_above, stops_above, stays_below, goes_below, stops_below}
+use Rattle.rl_base.specs.Clusters.{bytes_in, clusters}
+use Rattle.rl_base.specs.Screen.{after, cell, cells, is_within, last_within, place_at, screen_from, stands}
+use Rattle.rl_base.specs.declared.screen.Screen.{Screen}
+use Rattle.rl_line.specs.Rows.{Above, Below, cell_after, goes_above, goes_below, height, line_end, rest_of_line, stays_above, stays_below, stops_above, stops_below}
+use Rattle.std.specs.List.{concat}
 
 module _ (screen : Screen) (text : List ℕ) where
   pub stops-above : (k from row n : ℕ) → k ≡ 0 → row < n → Above screen text k from row n None

@@ -1,5 +1,5 @@
 -- What the two moves of a tail leave of the whole list.
-use Rattle.rl_line.proofs.Common.{common_steps, ℕ, List, [], ◌≡◌, ◌+◌, ◌-◌, ◌≤◌, ◌++◌, ◌∙◌, ap, sym, arith, length, take, drop, length-append, length-take, length-drop, copy_within, replace_range, append_assoc, append-nil, take_all, take-take, drop-drop, drop_at, drop_all, between_is, take-put_mid, take-put_mid_below}
+use Rattle.rl_line.proofs.Common.{List, [], ap, append-nil, append_assoc, arith, between_is, common_steps, copy_within, drop, drop-drop, drop_all, drop_at, length, length-append, length-drop, length-take, replace_range, sym, take, take-put_mid, take-put_mid_below, take-take, take_all, ℕ, ◌++◌, ◌+◌, ◌-◌, ◌∙◌, ◌≡◌, ◌≤◌}
 use borrow.Rule.Slice.PartMut.{put_mid}
 
 from_none : (n : ℕ) → n - 0 ≡ n

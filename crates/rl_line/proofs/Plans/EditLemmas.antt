@@ -1,8 +1,8 @@
 -- The plans of the edits, by their cases. The lemmas name each number of the code by a variable and an
 -- equation, so that they fit what the code computed.
-use Rattle.rl_line.proofs.Common.{◌≡◌, ℕ, ◌+◌, ◌-◌, ◌*◌, ◌<◌, Bool, true, false, List, zero, suc, length, length-append, min, take, slice_range, Some, None, refl, arith, lt-ltb, repeat, remove_range, encode_utf8, ◌==◌, ◌||◌, InsertStr, Delete, Forward, greatest_boundary, Line, stepped, nothing, single, followed_by, too_long, cut_to_limit, insert_event, insert_plan, update_plan, yank_plan, yank_pop_plan}
+use Rattle.rl_line.proofs.Common.{Bool, Delete, Forward, InsertStr, Line, List, None, Some, arith, cut_to_limit, encode_utf8, false, followed_by, greatest_boundary, insert_event, insert_plan, length, length-append, lt-ltb, min, nothing, refl, remove_range, repeat, single, slice_range, stepped, suc, take, too_long, true, update_plan, yank_plan, yank_pop_plan, zero, ℕ, ◌*◌, ◌+◌, ◌-◌, ◌<◌, ◌==◌, ◌||◌, ◌≡◌}
 use Rattle.rl_base.proofs.Clusters.ClusterLemmas.{slice_range-front}
-use Rattle.rl_base.proofs.Texts.TextLemmas.{greatest_boundary-is, IsCharBoundary-past_replacement}
+use Rattle.rl_base.proofs.Texts.TextLemmas.{IsCharBoundary-past_replacement, greatest_boundary-is}
 use Rattle.rl_line.proofs.Plans.PlanLemmas.{Done-followed, Done-nothing, Done-single, Halted-before, Halted-followed, Halted-single}
 
 pub too_long-past : (line : Line) (n : ℕ) → line.grow ≡ false → line.limit < n → too_long line n ≡ true

@@ -1,5 +1,5 @@
 -- What a listener keeps of a text at each change and its cursors, it keeps over the steps of a line.
-use Rattle.rl_line.proofs.Common.{◌≡◌, ℕ, ◌^◌, ◌<◌, ◌≤◌, List, [], ◌∷◌, length, Some, ap, subst, arith, IsCharBoundary, IsUtf8, Event, Cursors, apply, IsChange, Line, stepped, Step, after, listener_after, listener_after_step}
+use Rattle.rl_line.proofs.Common.{Cursors, Event, IsChange, IsCharBoundary, IsUtf8, Line, List, Some, Step, [], after, ap, apply, arith, length, listener_after, listener_after_step, stepped, subst, ℕ, ◌<◌, ◌^◌, ◌∷◌, ◌≡◌, ◌≤◌}
 use Rattle.rl_base.proofs.Texts.SwapLemmas.{apply-IsUtf8}
 use Rattle.rl_line.proofs.Plans.PlanLemmas.{first_step}
 

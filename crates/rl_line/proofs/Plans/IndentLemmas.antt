@@ -1,13 +1,13 @@
 -- The steps of an indent: the parts that spaces go in by, the places after a change at the start of a line, and the
 -- lines that are left.
-use Rattle.rl_line.proofs.Common.{common_steps, Range, NoMemory, or_no_memory, inl, Some, ◌≡◌, ℕ, zero, suc, ◌+◌, ◌-◌, ◌*◌, sum, length-append, ◌/◌, ◌%◌, ◌<◌, ◌≤◌, Bool, true, false, List, [], ◌∷◌, ◌++◌, length, take, drop, slice_range, min, refl, sym, ap, ap₂, subst, ◌∙◌, arith, append_assoc, ltb-true, ltb-false, eqb, eqb-true, drop-cons, if◌then◌else◌, repeat, insert_slice, remove_range, replace_range, is_some, IsAscii, IsCharBoundary, IsUtf8, trim_start, nat_tests, drop-drop, get_or-drop, get_or-take, take-append-drop, take-take, length-drop, sum_by-append, sum_by-cons, length-between, IsCharBoundary-end, IsCharBoundary-from_drop, IsAscii-nil, IsAscii-cons, same_Some, Event, InsertStr, Delete, apply, Direction, lines, last_line, line_number, text_of_line, start_of_line, end_of_line, greatest_boundary, Forward, Refusal, blanks, line_plan, lines_plan, spaces, parts, put_spaces, pushed, pulled, Plan, Step, after, Taken, Completed, Halted, after_steps, single, Line, stepped, length-take-le, length-take, Movement, lt-ltb, nat_lt, max}
-use Rattle.rl_base.proofs.Texts.LineLemmas.{count_of_lines, count-parts, end-from, lies, lines-after, lines_some, newlines-line, start-next, text-between}
-use Rattle.rl_base.proofs.Texts.TextLemmas.{drop-after, removed-is_replaced, greatest_boundary-is}
+use Rattle.rl_line.proofs.Common.{Bool, Completed, Delete, Direction, Event, Forward, Halted, InsertStr, IsAscii, IsAscii-cons, IsAscii-nil, IsCharBoundary, IsCharBoundary-end, IsCharBoundary-from_drop, IsUtf8, Line, List, Movement, NoMemory, Plan, Range, Refusal, Some, Step, Taken, [], after, after_steps, ap, append_assoc, apply, ap₂, arith, blanks, common_steps, drop, drop-cons, drop-drop, end_of_line, eqb, eqb-true, false, get_or-drop, get_or-take, greatest_boundary, if◌then◌else◌, inl, insert_slice, is_some, last_line, length, length-append, length-between, length-drop, length-take, length-take-le, line_number, line_plan, lines, lines_plan, lt-ltb, ltb-false, ltb-true, max, min, nat_lt, nat_tests, or_no_memory, parts, pulled, pushed, put_spaces, refl, remove_range, repeat, replace_range, same_Some, single, slice_range, spaces, start_of_line, stepped, subst, suc, sum, sum_by-append, sum_by-cons, sym, take, take-append-drop, take-take, text_of_line, trim_start, true, zero, ℕ, ◌%◌, ◌*◌, ◌++◌, ◌+◌, ◌-◌, ◌/◌, ◌<◌, ◌∙◌, ◌∷◌, ◌≡◌, ◌≤◌}
+use Rattle.rl_base.proofs.Texts.BlankLemmas.{trim_start-blanks}
 use Rattle.rl_base.proofs.Texts.EventLemmas.{Deletes-from_IsSome, Inserts-from_IsSome}
+use Rattle.rl_base.proofs.Texts.LineLemmas.{count-parts, count_of_lines, end-from, lies, lines-after, lines_some, newlines-line, start-next, text-between}
+use Rattle.rl_base.proofs.Texts.TextLemmas.{drop-after, greatest_boundary-is, removed-is_replaced}
 use Rattle.rl_line.proofs.Lines.LineStartLemmas.{newlines-append, newlines-replaced}
 use Rattle.rl_line.proofs.Plans.EditLemmas.{length-repeat}
-use Rattle.rl_line.proofs.Plans.PlanLemmas.{first_step, Halted-at_first, Halted-back, Halted-front, Taken-append}
-use Rattle.rl_base.proofs.Texts.BlankLemmas.{trim_start-blanks}
+use Rattle.rl_line.proofs.Plans.PlanLemmas.{Halted-at_first, Halted-back, Halted-front, Taken-append, first_step}
 use Rattle.rl_line.specs.Indents.{final_line, first_line, indent_changes, indented_lines, spaces_each}
 use Rattle.rl_line.specs.Plan.{bytes_of}
 use Rattle.rl_line.specs.Ranges.{indented}

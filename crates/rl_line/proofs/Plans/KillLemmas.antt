@@ -1,5 +1,5 @@
 -- The plans of killing and deleting by a movement, by their cases.
-use Rattle.rl_line.proofs.Common.{ToldOutcome, Ok, Err, Refusal, Plan, Done, Halted, Outcome, nothing_more, ◌≡◌, ◌∷◌, [], ℕ, Bool, true, false, List, Some, None, refl, sym, ap, subst, ◌∙◌, same_Some, Option, Result, option_map, Range, Event, Delete, Start, Stop, Direction, Forward, Movement, WholeLine, BeginningOfLine, EndOfLine, BackwardWord, ForwardWord, ViCharSearch, ViFirstPrint, FirstNonBlank, BackwardChar, ForwardChar, LineUp, LineDown, WholeLinesUp, WholeLinesDown, WholeBuffer, BeginningOfBuffer, EndOfBuffer, Line, nothing, single, answering, covered, killed, text_in, Told, delete_plan, is_exact, removal}
+use Rattle.rl_line.proofs.Common.{BackwardChar, BackwardWord, BeginningOfBuffer, BeginningOfLine, Bool, Delete, Direction, Done, EndOfBuffer, EndOfLine, Err, Event, FirstNonBlank, Forward, ForwardChar, ForwardWord, Halted, Line, LineDown, LineUp, List, Movement, None, Ok, Option, Outcome, Plan, Range, Refusal, Result, Some, Start, Stop, Told, ToldOutcome, ViCharSearch, ViFirstPrint, WholeBuffer, WholeLine, WholeLinesDown, WholeLinesUp, [], answering, ap, covered, delete_plan, false, is_exact, killed, nothing, nothing_more, option_map, refl, removal, same_Some, single, subst, sym, text_in, true, ℕ, ◌∙◌, ◌∷◌, ◌≡◌}
 use Rattle.rl_line.proofs.Plans.PlanLemmas.{Done-nothing, Done-single, Halted-at_first}
 
 pub delete_plan-nothing : (line : Line) (n : ℕ) → None ≡ covered line (ForwardChar n) → delete_plan line n ≡ nothing line None

@@ -1,5 +1,8 @@
 -- The plan of an edit of a word, by its cases.
-use Rattle.rl_line.proofs.Common.{common_steps, ◌≡◌, ℕ, ◌+◌, ◌<◌, ◌&&◌, ◌==◌, Bool, not, cond, All, Decides, List, [], ◌∷◌, ◌++◌, drop, length, length-append, map, flat_map, min, take, take-append-drop, true, false, Some, None, chars, encode_utf8_all, IsUtf8, IsCharBoundary, arith, refl, sym, ap, subst, ◌∙◌, suc, Row, by_runs, lowercase_runs, lowercase_strings, uppercase_runs, uppercase_strings, length-map, nil_from_length, All-head, IsCharBoundary-start, IsUtf8-drop, IsUtf8-take, encodes-chars, length-le-encodes, unwrap_or, is_in_word_after, lowercase_before, lowercase_chars, starts_with_cased, is_grapheme_break, bytes_in, clusters, end_of_cluster, nat_tests, IsAscii-cons, IsAscii-nil, is_ascii, to_ascii_lowercase, to_ascii_uppercase, list_all, IsAscii, Range, WordAction, Capitalize, Lowercase, Uppercase, Line, nothing, answering, exchange_plan, edit_word_plan, mapped, recased, respell, respelled, word_ahead, text_in}
+use Rattle.rl_line.proofs.Common.{All, All-head, Bool, Capitalize, Decides, IsAscii, IsAscii-cons, IsAscii-nil, IsCharBoundary, IsCharBoundary-start, IsUtf8, IsUtf8-drop, IsUtf8-take, Line, List, Lowercase, None, Range, Row, Some, Uppercase, WordAction, [], answering, ap, arith, by_runs, bytes_in, chars, clusters, common_steps, cond, drop, edit_word_plan, encode_utf8_all, encodes-chars, end_of_cluster, exchange_plan, false, flat_map, is_ascii, is_grapheme_break, is_in_word_after, length, length-append, length-le-encodes, length-map, list_all, lowercase_before, lowercase_chars, lowercase_runs, lowercase_strings, map, mapped, min, nat_tests, nil_from_length, not, nothing, recased, refl, respell, respelled, starts_with_cased, subst, suc, sym, take, take-append-drop, text_in, to_ascii_lowercase, to_ascii_uppercase, true, unwrap_or, uppercase_runs, uppercase_strings, word_ahead, ℕ, ◌&&◌, ◌++◌, ◌+◌, ◌<◌, ◌==◌, ◌∙◌, ◌∷◌, ◌≡◌}
+use Rattle.rl_base.proofs.Texts.TextLemmas.{IsCharBoundary-before_removal, IsCharBoundary-past_replacement}
+use Rattle.rl_line.proofs.Plans.PlanLemmas.{Done-as, Done-nothing, Done-steps, Stopped-as}
+use Rattle.rl_line.specs.Plan.{bytes_of}
 use Rattle.std.specs.Char.Unicode.Rows.{by_strings}
 use Rattle.std.specs.Char.Unicode.ToLowercase.{to_lowercase}
 use Rattle.std.specs.Char.Unicode.ToUppercase.{to_uppercase}
@@ -7,9 +10,6 @@ use Rattle.std.specs.StrCase.Lower.{str_to_lowercase}
 use Rattle.std.specs.StrCase.Upper.{str_to_uppercase}
 use Rattle.unicode_segmentation.proofs.SegmentsLemmas.{All-IsPieceOf, IsPieceOf}
 use Rattle.unicode_segmentation.specs.Segments.{with_offsets}
-use Rattle.rl_line.specs.Plan.{bytes_of}
-use Rattle.rl_base.proofs.Texts.TextLemmas.{IsCharBoundary-before_removal, IsCharBoundary-past_replacement}
-use Rattle.rl_line.proofs.Plans.PlanLemmas.{Done-as, Done-nothing, Done-steps, Stopped-as}
 
 pub edit_word_plan-nothing : (line : Line) (action : WordAction) → None ≡ word_ahead line → edit_word_plan line action ≡ nothing line false
 edit_word_plan-nothing line action e = ap (respell line action) (sym e)

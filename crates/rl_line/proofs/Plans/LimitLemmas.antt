@@ -1,18 +1,18 @@
 -- How long the text is on the way over steps, and the limit, which stays if the text is never longer.
-use Rattle.rl_line.proofs.Common.{◌≡◌, ◌≤◌, ℕ, ◌+◌, ◌-◌, ◌*◌, max, Bool, true, false, List, [], ◌∷◌, ◌++◌, length, sum, Some, refl, sym, ap, ◌∙◌, arith, map, reverse, encode_utf8, sum_by-cons, IsUtf8, Event, InsertChar, InsertStr, Delete, Replace, Line, Movement, Range, stepped, lines, last_line, slice_range, exchange_plan, indent_plan, leb, le-leb, length-between, line_plan, lines_plan, blanks, start_of_line, parts, pushed, put_spaces, spaces, Step, after, Entry, event_of, inverse, greatest_back_over, line_after, line_ahead, line_back}
+use Rattle.rl_line.proofs.Common.{Bool, Delete, Entry, Event, InsertChar, InsertStr, IsUtf8, Line, List, Movement, Range, Replace, Some, Step, [], after, ap, arith, blanks, encode_utf8, event_of, exchange_plan, false, greatest_back_over, indent_plan, inverse, last_line, le-leb, leb, length, length-between, line_after, line_ahead, line_back, line_plan, lines, lines_plan, map, max, parts, pushed, put_spaces, refl, reverse, slice_range, spaces, start_of_line, stepped, sum, sum_by-cons, sym, true, ℕ, ◌*◌, ◌++◌, ◌+◌, ◌-◌, ◌∙◌, ◌∷◌, ◌≡◌, ◌≤◌}
 use Rattle.rl_base.proofs.Texts.LineLemmas.{count_of_lines}
+use Rattle.rl_base.proofs.Texts.SwapLemmas.{Swaps-Delete, Swaps-InsertChar, Swaps-InsertStr, Swaps-Replace, apply-IsUtf8}
 use Rattle.rl_base.specs.Event.{apply}
-use Rattle.rl_line.specs.Edits.{replace_plan}
-use Rattle.rl_line.specs.Indents.{final_line, first_line, indented_lines}
-use Rattle.rl_line.specs.Ranges.{indented}
-use Rattle.rl_base.proofs.Texts.SwapLemmas.{Swaps-InsertStr, Swaps-Delete, Swaps-Replace, Swaps-InsertChar, apply-IsUtf8}
-use Rattle.rl_line.specs.Change.{greatest_ahead_over}
-use Rattle.rl_line.specs.Plan.{longest, longest_by, resized}
+use Rattle.rl_line.proofs.Changes.BackLemmas.{line_ahead-back, line_back-unwind}
+use Rattle.rl_line.proofs.Changes.InverseLemmas.{through}
+use Rattle.rl_line.proofs.Changes.RoomLemmas.{length-swapped, length_back_over-is}
 use Rattle.rl_line.proofs.Plans.IndentLemmas.{length-spaces, sum-parts}
 use Rattle.rl_line.proofs.Plans.PlanLemmas.{Fits-from, first_step}
-use Rattle.rl_line.proofs.Records.RecordLemmas.{through}
-use Rattle.rl_line.proofs.Records.RoomLemmas.{length-swapped, length_back_over-is}
-use Rattle.rl_line.proofs.Records.UndoLemmas.{line_ahead-back, line_back-unwind}
+use Rattle.rl_line.specs.Change.{greatest_ahead_over}
+use Rattle.rl_line.specs.Edits.{replace_plan}
+use Rattle.rl_line.specs.Indents.{final_line, first_line, indented_lines}
+use Rattle.rl_line.specs.Plan.{longest, longest_by, resized}
+use Rattle.rl_line.specs.Ranges.{indented}
 
 resized-is : (event : Event) (text now : List ℕ) → IsUtf8 text → apply event text ≡ Some now → length now ≡ resized event (length text)
 unfolding apply

@@ -1,8 +1,8 @@
 -- How the steps of a plan are put together.
-use Rattle.rl_line.proofs.Common.{◌≡◌, ◌<◌, ◌⊎◌, inl, inr, ℕ, List, [], ◌∷◌, ◌++◌, Some, refl, sym, ap, subst, append_assoc, append-nil, ◌∙◌, option_and_then, Event, apply, replay, Refusal, IsCharBoundary, is_boundary, Line, stepped, if_standing, after_step, Step, Plan, nothing, single, followed_by, after, events_of, listener_after, listener_after_step, Taken, Completed, Done, Halted, Uncopied, Outcome, StepOutcome, Takes, nothing_more, room_by_step, a_copy, or_no_memory, Result, Ok, Err}
-use Rattle.rl_base.proofs.Texts.TextLemmas.{is_boundary-true, is_boundary-means}
+use Rattle.rl_line.proofs.Common.{Completed, Done, Err, Event, Halted, IsCharBoundary, Line, List, Ok, Outcome, Plan, Refusal, Result, Some, Step, StepOutcome, Taken, Takes, Uncopied, [], a_copy, after, after_step, ap, append-nil, append_assoc, apply, events_of, followed_by, if_standing, inl, inr, is_boundary, listener_after, listener_after_step, nothing, nothing_more, option_and_then, or_no_memory, refl, replay, room_by_step, single, stepped, subst, sym, ℕ, ◌++◌, ◌<◌, ◌∙◌, ◌∷◌, ◌≡◌, ◌⊎◌}
+use Rattle.rl_base.proofs.Texts.TextLemmas.{is_boundary-means, is_boundary-true}
+use Rattle.rl_line.proofs.Changes.InverseLemmas.{if_some, through}
 use Rattle.rl_line.specs.Plan.{bytes_of}
-use Rattle.rl_line.proofs.Records.RecordLemmas.{if_some, through}
 
 -- a line that stands is what the test lets through
 pub standing-is : (line now : Line) → if_standing line ≡ Some now → line ≡ now

@@ -1,9 +1,9 @@
 -- What a kill by a movement takes begins at the cursor, or ends there.
-use Rattle.rl_line.proofs.Common.{◌≡◌, ℕ, ◌≤◌, Bool, true, false, cond, length, Option, Some, None, refl, arith, option_map, IfSome, List, ◌==◌, IsCharBoundary, IsUtf8, Range, HitLies, chosen_hit, prev_word, Direction, Forward, Backward, At, CharSearch, BeginningOfLine, EndOfLine, FirstNonBlank, BackwardWord, ForwardWord, ViCharSearch, BeginningOfBuffer, EndOfBuffer, Word, side_of_place, side_of_search, Line, between, first_nonblank, either_way, from_place, killed, to_hit, to_place}
-use Rattle.rl_base.specs.declared.motion.CharSearch.TheVariants as to
-use Rattle.rl_base.proofs.Texts.LineLemmas.{start-before}
+use Rattle.rl_line.proofs.Common.{At, Backward, BackwardWord, BeginningOfBuffer, BeginningOfLine, Bool, CharSearch, Direction, EndOfBuffer, EndOfLine, FirstNonBlank, Forward, ForwardWord, HitLies, IfSome, IsCharBoundary, IsUtf8, Line, List, None, Option, Range, Some, ViCharSearch, Word, arith, between, chosen_hit, cond, either_way, false, first_nonblank, from_place, killed, length, option_map, prev_word, refl, side_of_place, side_of_search, to_hit, to_place, true, ℕ, ◌==◌, ◌≡◌, ◌≤◌}
 use Rattle.rl_base.proofs.Clusters.SearchLemmas.{IsHitOf, chosen_hit-is}
 use Rattle.rl_base.proofs.Clusters.WordLemmas.{IsBefore-start_before}
+use Rattle.rl_base.proofs.Texts.LineLemmas.{start-before}
+use Rattle.rl_base.specs.declared.motion.CharSearch.TheVariants as to
 
 -- the range lies on that side of the place, and touches it
 abbrev pub LiesOn : Direction → ℕ → Range ℕ → Type 0

@@ -1,9 +1,9 @@
 -- Exchanging two ranges: the plan by its halves, and the places between them.
-use Rattle.rl_line.proofs.Common.{HasRoom, RoomyLine, ◌≡◌, ℕ, ◌+◌, ◌-◌, ◌≤◌, [], ◌∷◌, ◌++◌, List, length, take, drop, append_assoc, None, false, slice_range, sym, ap, ap₂, subst, ◌∙◌, arith, length-between, option_and_then, length-take-le, drop-take, drop-append-le, insert_slice, remove_range, replace_range, IsCharBoundary, IsUtf8, Range, Forward, InsertStr, Delete, Line, Step, nothing, single, followed_by, exchange_plan, text_in, are_two, clusters_around, end_of_cluster, exchanged_text, first_word, meeting_place, second_word, only_move, pull_back_plan, pulled_back, swap_plan, transpose_chars_plan, transpose_words_plan}
-use Rattle.rl_line.proofs.Lines.RoomyLemmas.{length-swapped, HasRoom-moved}
-use Rattle.rl_base.proofs.Texts.TextLemmas.{slice-before, take-before, removed-is_replaced, IsCharBoundary-before, IsCharBoundary-at_removal, IsCharBoundary-past_replacement, IsCharBoundary-after, IsUtf8-replaced}
-use Rattle.rl_line.proofs.Plans.PlanLemmas.{Done-nothing, Done-followed, Done-single, Halted-after, Halted-at_first, Done-steps, Halted-back, Halted-front, Taken-append}
+use Rattle.rl_line.proofs.Common.{Delete, Forward, HasRoom, InsertStr, IsCharBoundary, IsUtf8, Line, List, None, Range, RoomyLine, Step, [], ap, append_assoc, ap₂, are_two, arith, clusters_around, drop, drop-append-le, drop-take, end_of_cluster, exchange_plan, exchanged_text, false, first_word, followed_by, insert_slice, length, length-between, length-take-le, meeting_place, nothing, only_move, option_and_then, pull_back_plan, pulled_back, remove_range, replace_range, second_word, single, slice_range, subst, swap_plan, sym, take, text_in, transpose_chars_plan, transpose_words_plan, ℕ, ◌++◌, ◌+◌, ◌-◌, ◌∙◌, ◌∷◌, ◌≡◌, ◌≤◌}
+use Rattle.rl_base.proofs.Texts.TextLemmas.{IsCharBoundary-after, IsCharBoundary-at_removal, IsCharBoundary-before, IsCharBoundary-past_replacement, IsUtf8-replaced, removed-is_replaced, slice-before, take-before}
+use Rattle.rl_line.proofs.Lines.RoomyLemmas.{HasRoom-moved, length-swapped}
 use Rattle.rl_line.proofs.Plans.EditLemmas.{some_part}
+use Rattle.rl_line.proofs.Plans.PlanLemmas.{Done-followed, Done-nothing, Done-single, Done-steps, Halted-after, Halted-at_first, Halted-back, Halted-front, Taken-append}
 
 -- the steps of the second exchange
 abbrev pub last_steps : Line → Range ℕ → Range ℕ → List Step

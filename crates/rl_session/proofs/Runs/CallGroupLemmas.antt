@@ -1,14 +1,15 @@
 -- A group of performed commands is one unit, whatever was done inside, so that one undo takes it back.
 use Rattle.rl_session.proofs.Common.{◌≡◌, ◌<◌, ◌≤◌, ◌∙◌, ◌||◌, cond_both, length-append, ℕ, suc, arith, Bool, true, false, List, [], ◌∷◌, ◌++◌, length, drop, Some, refl, sym, ap, subst, same_Some, inl, inr, no_bound, within_bound, Begin, Entry, Line, Record, IsMatched, begun, has_change, kept_of, last_of, level, replay_entries, Command, Reply, Row, State, Undo, Holds, ClosesGroup, MayStandInGroup, WasRefused, held, held_of}
 use Rattle.std.proofs.lemmas.List.{drop-append-le}
-use Rattle.rl_line.specs.Record.{parted}
-use Rattle.rl_line.specs.Units.{AtLevel, still_waiting, there_and_back, unit_start, kept_undone}
-use Rattle.rl_line.specs.declared.change.Freshness.TheVariants.{Parted}
-use Rattle.rl_line.specs.declared.changeset.UnitStart.{UnitStart}
-use Rattle.rl_line.proofs.Records.GroupLemmas.{Inside, InsideOf, has_change-append}
-use Rattle.rl_line.proofs.Records.EndLemmas.{level-group}
-use Rattle.rl_line.proofs.Records.RoundLemmas.{AtLevel-round, kept-either}
-use Rattle.rl_line.proofs.Records.UnitingLemmas.{Inside-united, taken-inside}
+use Rattle.rl_record.specs.Record.{parted}
+use Rattle.rl_record.specs.Units.{AtLevel, still_waiting, there_and_back, unit_start, kept_undone}
+use Rattle.rl_record.specs.declared.joining.Freshness.TheVariants.{Parted}
+use Rattle.rl_record.specs.declared.changeset.groups.UnitStart.{UnitStart}
+use Rattle.rl_line.proofs.Changes.InverseLemmas.{has_change-append}
+use Rattle.rl_record.proofs.Records.GroupLemmas.{Inside, InsideOf}
+use Rattle.rl_record.proofs.Records.EndLemmas.{level-group}
+use Rattle.rl_record.proofs.Records.RoundLemmas.{AtLevel-round, kept-either}
+use Rattle.rl_record.proofs.Records.UnitingLemmas.{Inside-united, taken-inside}
 use Rattle.rl_session.specs.Commands.{Step, with_changes}
 use Rattle.rl_session.specs.History.{History}
 use Rattle.rl_session.specs.Performing.{AllCallsStandInGroup, Calls, HasKept, Keeps, Obeyed, Unites, asks_to_keep, call, carried, is_one_unit, keeping, leaves_waiting, no_call, put_in, set_apart, with_waiting, counted_as, Performed}

@@ -1,12 +1,12 @@
 -- What commands keep that obey the options of a session: each is no row, or rows, and then forgets.
 use Rattle.rl_session.proofs.Common.{◌≡◌, ◌&&◌, ℕ, cond_both, not, Bool, false, true, List, [], ◌∷◌, ◌++◌, ap, refl, subst, sym, ◌∙◌, inl, inr, append-nil, append_assoc, no_bound, within_bound, Command, Holds, Leads, Record, Reply, ReportedFrom, ChangedFrom, Row, Run, State, Stands, Undo, Redo, WasHeld, WasRefused, held_of}
 use Rattle.rl_base.proofs.Ring.BoundLemmas.{IsRing-within, killing-within}
-use Rattle.rl_line.specs.Units.{kept_undone, still_waiting, unit_start, united}
+use Rattle.rl_record.specs.Units.{kept_undone, still_waiting, unit_start, united}
 use Rattle.rl_session.specs.Commands.{Step, with_changes}
 use Rattle.rl_session.specs.Performing.{Calls, HasKept, HoldsFrom, IsBarred, leaves_waiting, with_waiting, IsStopped, Keeps, Obeyed, Stops, asks_to_keep, NoneUnites, Unites, call, carried, is_edit_or_mark, is_one_unit, keeping, made_in_group, no_call, put_in, rows_in, rows_of, set_apart, within_group, counted_as}
-use Rattle.rl_line.specs.Record.{parted}
-use Rattle.rl_line.specs.declared.changeset.UnitStart.{UnitStart}
-use Rattle.rl_line.specs.declared.change.Freshness.TheVariants.{Parted}
+use Rattle.rl_record.specs.Record.{parted}
+use Rattle.rl_record.specs.declared.changeset.groups.UnitStart.{UnitStart}
+use Rattle.rl_record.specs.declared.joining.Freshness.TheVariants.{Parted}
 use Rattle.rl_session.specs.History.{History}
 use Rattle.rl_session.specs.declared.session.Command.TheVariants.{Abandon, Begin, Copy, EditWord, End, EndOne, Indent, Keep, KeepUndone, LinePlace, Move, Part, Reopen, SetPos, TransposeChars, TransposeWords, Truncate, Update, YankPop}
 use Rattle.rl_session.specs.declared.session.Fault.TheVariants.{NoMemory}

@@ -1,12 +1,13 @@
 -- A save point, which no performed command leaves with other changes before it.
 use Rattle.rl_session.proofs.Common.{◌≡◌, ◌++◌, ◌∷◌, ◌∙◌, [], List, true, false, Bool, ℕ, cond_both, refl, sym, ap, subst, same_Some, inl, inr, no_bound, Entry, Command, Reply, Row, State, Holds, Leads, held_of}
-use Rattle.rl_line.specs.Record.{StaysSaved, changes_of, is_saved, parted}
-use Rattle.rl_line.specs.Units.{still_waiting, unit_start}
-use Rattle.rl_line.specs.declared.change.Freshness.TheVariants.{Parted}
-use Rattle.rl_line.specs.declared.changeset.UnitStart.{UnitStart}
-use Rattle.rl_line.proofs.Records.SavedLemmas.{saved-marked, saved-parted, saved-replays, saved-waiting}
-use Rattle.rl_line.proofs.Records.UnitingLemmas.{saved-united}
-use Rattle.rl_line.proofs.Records.WaitingLemmas.{changes-moved}
+use Rattle.rl_line.specs.Entry.{changes_of}
+use Rattle.rl_record.specs.Record.{StaysSaved, is_saved, parted}
+use Rattle.rl_record.specs.Units.{still_waiting, unit_start}
+use Rattle.rl_record.specs.declared.joining.Freshness.TheVariants.{Parted}
+use Rattle.rl_record.specs.declared.changeset.groups.UnitStart.{UnitStart}
+use Rattle.rl_record.proofs.Records.SavePointLemmas.{saved-marked, saved-parted, saved-replays, saved-waiting}
+use Rattle.rl_record.proofs.Records.UnitingLemmas.{saved-united}
+use Rattle.rl_record.proofs.Records.WaitingLemmas.{changes-moved}
 use Rattle.rl_session.specs.Commands.{with_changes}
 use Rattle.rl_session.specs.History.{History}
 use Rattle.rl_session.specs.Performing.{Calls, Carried, Obeyed, Unites, asks_to_keep, call, carried, is_one_unit, keeping, leaves_waiting, no_call, put_in, set_apart, counted_as}

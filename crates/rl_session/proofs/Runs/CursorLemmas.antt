@@ -2,14 +2,15 @@
 use Rattle.rl_session.proofs.Common.{◌≡◌, ℕ, ◌+◌, ◌<◌, ◌≤◌, ◌⊎◌, inl, inr, List, [], ◌∷◌, ◌++◌, length, length-append, append-nil, Option, Some, None, refl, sym, ap, subst, ◌∙◌, arith, same_Some, length-encode, len_utf8_bounds, option_map_or, encode_utf8, IsUtf8, Direction, Event, InsertChar, InsertStr, Replace, Start, Stop, Cursors, apply, Freshness, Line, stepped, listener_after, listener_after_step, Insertion, Deletion, Replacement, Swap, Entry, Begin, End, Changed, Record, cursors_of, entries_after, entries_of, entries_told, event_of, freshness_added, freshness_joined, freshness_of, last_told, unwind, with_cursors}
 use Rattle.rl_base.specs.Event.{Delete}
 use Rattle.rl_base.proofs.Texts.SwapLemmas.{apply-IsUtf8}
-use Rattle.rl_line.specs.declared.change.Freshness.TheVariants as is
+use Rattle.rl_record.specs.declared.joining.Freshness.TheVariants as is
 use Rattle.rl_line.specs.Plan.{Step, after}
-use Rattle.rl_line.specs.Record.{joined, joined_in, record_step}
-use Rattle.rl_line.proofs.Records.JoinLemmas.{fresh-Delete-nothing}
+use Rattle.rl_record.specs.Record.{joined, joined_in, record_step}
+use Rattle.rl_record.proofs.Records.JoinLemmas.{fresh-Delete-nothing}
 use Rattle.rl_line.proofs.Plans.PlanLemmas.{first_step}
-use Rattle.rl_line.proofs.Records.RecordLemmas.{char-joined, deletion-joined, entries_of-undo, joins, none_or_one, redone-joined, replacement-joined, undoes-inverse}
-use Rattle.rl_line.proofs.Records.ToldLemmas.{same-event, told-cases}
-use Rattle.rl_line.proofs.Records.LastLemmas.{IsApart, after-cases, ends_in, joined_in-joined, told-added, told-none, told-past}
+use Rattle.rl_line.proofs.Changes.InverseLemmas.{undoes-inverse}
+use Rattle.rl_record.proofs.Records.RecordLemmas.{char-joined, deletion-joined, entries_of-undo, joins, none_or_one, redone-joined, replacement-joined}
+use Rattle.rl_record.proofs.Records.ToldLemmas.{same-event, told-cases}
+use Rattle.rl_record.proofs.Records.LastLemmas.{IsApart, after-cases, ends_in, joined_in-joined, told-added, told-none, told-past}
 
 -- an event of a text, which is the last one where it is a replacement
 abbrev pub IsLone : Event → List Step → Type 0

@@ -1,12 +1,12 @@
 -- A group that stays empty leaves the record and what waits to be redone as they were.
 use Rattle.rl_session.proofs.Common.{◌≡◌, ◌&&◌, ◌||◌, ◌∙◌, ℕ, suc, min, arith, ap, cond_both, refl, subst, sym, inl, inr, not, true, false, List, [], ◌∷◌, ◌++◌, no_bound, within_bound, Entry, Record, Reply, Command, State, WasRefused, end_times, level}
 use Rattle.std.proofs.lemmas.Bool.{and_from, ne_eqb}
-use Rattle.rl_line.specs.Record.{Begin as AddsBegin}
-use Rattle.rl_line.specs.Units.{adds_end, end_one, is_open, still_waiting, unit_start, waits}
-use Rattle.rl_line.proofs.Records.GroupLemmas.{ends_in_begin-begin}
-use Rattle.rl_line.proofs.Records.LastLemmas.{end_one-begin}
-use Rattle.rl_line.proofs.Records.LevelLemmas.{level-begin}
-use Rattle.rl_line.proofs.Records.WaitingLemmas.{given_up}
+use Rattle.rl_line.specs.Entry.{Begin as AddsBegin}
+use Rattle.rl_record.specs.Units.{adds_end, end_one, is_open, still_waiting, unit_start, waits}
+use Rattle.rl_record.proofs.Records.GroupLemmas.{ends_in_begin-begin}
+use Rattle.rl_record.proofs.Records.LastLemmas.{end_one-begin}
+use Rattle.rl_record.proofs.Records.LevelLemmas.{level-begin}
+use Rattle.rl_record.proofs.Records.WaitingLemmas.{given_up}
 use Rattle.rl_session.specs.Commands.{with_changes}
 use Rattle.rl_session.specs.Performing.{EndsLast, Obeyed, is_empty_group, is_one_unit, leaves_waiting, put_in, with_waiting, Performed}
 use Rattle.rl_session.specs.declared.options.Options.{Options}

@@ -1,9 +1,9 @@
 -- An undo right after an edit that added one entry gives back text and cursor from before the edit, and a redo those from after it.
 use Rattle.rl_session.proofs.Common.{◌≡◌, ℕ, true, List, [], ◌∷◌, ◌++◌, Some, refl, sym, ap, subst, ◌∙◌, arith, same_Some, option_map, IsCharBoundary, IsUtf8, apply, Line, Entry, Changed, Record, cursors_of, event_of, inverse, cursor_told, line_after, line_ahead, line_back, Redone, Undone, is_change, last_of, redo_of, asked, readied, Command, Reply, IsEdit, WasRefused, Leads, Row, Run, Stands, State}
 use Rattle.rl_line.proofs.Plans.PlanLemmas.{Fits-from}
-use Rattle.rl_line.proofs.Records.RecordLemmas.{inverse-undoes, then_some}
-use Rattle.rl_line.proofs.Records.UnitLemmas.{last_of-change}
-use Rattle.rl_line.proofs.Records.WalkLemmas.{cursor_told-back}
+use Rattle.rl_line.proofs.Changes.InverseLemmas.{inverse-undoes, then_some}
+use Rattle.rl_record.proofs.Records.UnitLemmas.{last_of-change}
+use Rattle.rl_record.proofs.Records.WalkLemmas.{cursor_told-back}
 use Rattle.rl_session.proofs.Runs.HistoryLemmas.{redo-row, undo-row}
 use Rattle.rl_session.proofs.Runs.RowLemmas.{Leads-keeps, Leads-split}
 use Rattle.rl_session.specs.declared.session.Command.TheVariants as asks

@@ -2,19 +2,20 @@
 use Rattle.rl_session.proofs.Common.{AllRedone, Redos, end_times, same_Some, ◌+◌, ◌<◌, ◌≤◌, length, true, rules, unwind, last_of, IsMatched, Undo, Command, Does, Line, Record, Reply, Row, Run, WasRefused, held, held_of, ◌≡◌, ◌∙◌, ℕ, List, [], ◌∷◌, ◌++◌, All, Ends, Entry, Begin, End, Changed, IsUtf8, Some, WasHeld, Placed, Holds, State, append-nil, append_assoc, ap, end_one, event_of, inl, inr, inverse, level, line_ahead, line_back, option_and_then, origin, refl, replay_entries, subst, sym}
 use Rattle.rl_base.proofs.Common.{All-cons, All-nil}
 use Rattle.rl_base.specs.Event.{apply}
-use Rattle.rl_line.specs.Record.{flipped, turned_all}
-use Rattle.rl_line.specs.Undo.{texts_ahead}
-use Rattle.rl_line.specs.Units.{BothMatched, closed_all, kept_undone, next_of, there_and_back, units, waits}
+use Rattle.rl_line.specs.Entry.{flipped}
+use Rattle.rl_record.specs.Record.{turned_all}
+use Rattle.rl_line.specs.Going.{texts_ahead}
+use Rattle.rl_record.specs.Units.{BothMatched, closed_all, kept_undone, next_of, there_and_back, units, waits}
 use Rattle.rl_session.specs.declared.session.Command.TheVariants.{KeepUndone}
 use Rattle.rl_session.specs.declared.session.Reply.TheVariants as says
-use Rattle.rl_line.proofs.Records.LastLemmas.{end_one-cases, end_times-keeps}
-use Rattle.rl_line.proofs.Records.MarkLemmas.{replay-end, replay-end_one}
-use Rattle.rl_line.proofs.Records.RecordLemmas.{inverse-undoes, replay-IsUtf8, replay-append, replay-unwind, through, unwind-IsUtf8, value_of}
-use Rattle.rl_line.proofs.Records.RedoLemmas.{Redos-lead}
-use Rattle.rl_line.proofs.Records.RoomLemmas.{texts_after-more}
-use Rattle.rl_line.proofs.Records.RoundLemmas.{undos-lead_above}
-use Rattle.rl_line.proofs.Records.UndoLemmas.{line_ahead-replay, line_back-unwind}
-use Rattle.rl_line.proofs.Records.UnitLemmas.{turned-append}
+use Rattle.rl_record.proofs.Records.LastLemmas.{end_one-cases, end_times-keeps}
+use Rattle.rl_record.proofs.Records.MarkLemmas.{replay-end, replay-end_one}
+use Rattle.rl_line.proofs.Changes.InverseLemmas.{inverse-undoes, replay-IsUtf8, replay-append, replay-unwind, through, unwind-IsUtf8, value_of}
+use Rattle.rl_record.proofs.Records.RedoLemmas.{Redos-lead}
+use Rattle.rl_line.proofs.Changes.RoomLemmas.{texts_after-more}
+use Rattle.rl_record.proofs.Records.RoundLemmas.{undos-lead_above}
+use Rattle.rl_line.proofs.Changes.BackLemmas.{line_ahead-replay, line_back-unwind}
+use Rattle.rl_record.proofs.Records.UnitLemmas.{turned-append}
 use Rattle.rl_session.proofs.Runs.HistoryLemmas.{Holds-Leads, Holds-row, done_as, redo-rows, row_at, undo-row}
 use Rattle.rl_session.proofs.Runs.RowLemmas.{Leads-split}
 use Rattle.rl_session.proofs.Runs.PlaceLemmas.{Placed-ahead, Placed-front, Placed-held, Placed-mark, pending-leads}

@@ -2,20 +2,21 @@
 use Rattle.rl_session.specs.Commands.{gives_up, keeps, on_record}
 use Rattle.rl_session.proofs.Common.{texts_of_call, ◌≡◌, ◌∙◌, inr, same_Some, true, Cursors, Entry, rules, ℕ, Bool, List, [], ◌∷◌, ◌++◌, length, arith, sym, ap, subst, append-nil, append_assoc, Line, listener_after, Record, record_step, Undone, Redone, Redos, last_of, last_units, opens, redo_of, undone, Effect, by_steps, takes_back, puts_again, Became, effect, Does, readied, with_changes, AllRedone, History, Holds, WasHeld, WasRefused, Row, Leads, Run, held, held_by, held_of, steps_in, texts_of_steps, State, Command, Undo, Redo, Reply, inl}
 use Rattle.rl_line.specs.Plan.{Step as PlanStep}
-use Rattle.rl_line.proofs.Records.RoundLemmas.{saved-call}
-use Rattle.rl_line.proofs.Records.RecordLemmas.{replay-IsUtf8}
-use Rattle.rl_line.proofs.Records.RedoLemmas.{redos-give-back}
-use Rattle.rl_line.proofs.Records.UndoLemmas.{line_ahead-replay, line_back-unwind}
-use Rattle.rl_line.proofs.Records.UnitLemmas.{kept-last}
-use Rattle.rl_line.specs.Record.{StaysSaved, changes_of, is_saved}
-use Rattle.rl_line.proofs.Records.SavedLemmas.{saved-marked, saved-redone, saved-replays, saved-step, saved-undone}
+use Rattle.rl_record.proofs.Records.RoundLemmas.{saved-call}
+use Rattle.rl_line.proofs.Changes.InverseLemmas.{replay-IsUtf8}
+use Rattle.rl_record.proofs.Records.RedoLemmas.{redos-give-back}
+use Rattle.rl_line.proofs.Changes.BackLemmas.{line_ahead-replay, line_back-unwind}
+use Rattle.rl_record.proofs.Records.UnitLemmas.{kept-last}
+use Rattle.rl_line.specs.Entry.{changes_of}
+use Rattle.rl_record.specs.Record.{StaysSaved, is_saved}
+use Rattle.rl_record.proofs.Records.SavePointLemmas.{saved-marked, saved-redone, saved-replays, saved-step, saved-undone}
 use Rattle.rl_session.specs.State.{Begins, saved_now}
 use Rattle.rl_session.specs.declared.session.Reply.TheVariants as says
 use Rattle.rl_session.proofs.Sessions.CourseLemmas.{Heard, Heard-Came}
 use Rattle.rl_session.proofs.Runs.RowLemmas.{Leads-split}
 use Rattle.rl_session.proofs.Runs.PlaceLemmas.{History-call, History-more, History-steps, History-undone, History-redone, undo-held, History-dropped}
-use Rattle.rl_line.proofs.Records.AbandonLemmas.{abandoned-as, saved-abandoned}
-use Rattle.rl_line.specs.Undo.{Abandoned}
+use Rattle.rl_record.proofs.Records.AbandonLemmas.{abandoned-as, saved-abandoned}
+use Rattle.rl_record.specs.Undo.{Abandoned}
 
 -- ---- the history
 History-Heard : (start : List ℕ) (held : List (List ℕ)) (steps : List PlanStep) (old : Line) (r : Record) (text : List ℕ) (now : Record) → History start held old.text r

@@ -1,9 +1,9 @@
 -- An undo stays in the group that was opened last and is open, and leaves it open.
 use Rattle.rl_session.proofs.Common.{◌≡◌, ◌==◌, ◌<◌, ◌-◌, ◌∙◌, ℕ, zero, suc, min, max, arith, ap, cond, refl, subst, sym, inl, inr, ◌⊎◌, Bool, true, false, not, List, [], ◌∷◌, take, drop, take-append-drop, append-nil, Some, None, eqb-true, Entry, IsMatched, Record, kept_of, level, opens, undone, Reply, State, Undo}
-use Rattle.rl_line.specs.Units.{BothMatched, Open, UndoUnit, Whole, is_open, open_size, size_to_open, units, units_in_group}
-use Rattle.rl_line.proofs.Records.ForgettingLemmas.{level-kept}
-use Rattle.rl_line.proofs.Records.MatchLemmas.{BothMatched-undone}
-use Rattle.rl_line.proofs.Records.UnitLemmas.{AllGood, AllGood-right, good_cuts, units-good}
+use Rattle.rl_record.specs.Units.{BothMatched, Open, UndoUnit, Whole, is_open, open_size, size_to_open, units, units_in_group}
+use Rattle.rl_record.proofs.Records.ForgettingLemmas.{level-kept}
+use Rattle.rl_record.proofs.Records.MatchLemmas.{BothMatched-undone}
+use Rattle.rl_record.proofs.Records.UnitLemmas.{AllGood, AllGood-right, good_cuts, units-good}
 use Rattle.rl_session.specs.Commands.{Step}
 use Rattle.rl_session.specs.Performing.{Obeyed, within_group}
 use Rattle.rl_session.specs.Forgetting.{within_bound}

@@ -3,25 +3,26 @@ use Rattle.rl_session.proofs.Common.{RecordCall, MayCome, after_call, keeps_undo
 use Rattle.rl_base.specs.Event.{apply}
 use Rattle.rl_base.proofs.Texts.SwapLemmas.{apply-IsUtf8}
 use Rattle.rl_line.specs.Plan.{Step, after}
-use Rattle.rl_line.specs.Record.{record_step}
-use Rattle.rl_line.specs.Units.{BothMatched, ends_in_end, grouped_from, redo_dropped, there_and_back, united, IsMatched, adds_end, ends_in_begin, still_waiting}
-use Rattle.rl_line.specs.declared.changeset.UnitStart.{UnitStart}
-use Rattle.rl_line.proofs.Records.WaitingLemmas.{MarksMoved}
-use Rattle.rl_line.proofs.Records.UnitingLemmas.{BothMatched-united, replay-united, united-cases}
-use Rattle.rl_line.proofs.Records.MarkLemmas.{replay-begin, replay-end, replay-end_one}
-use Rattle.rl_line.proofs.Records.JoinLemmas.{heard, step-cases}
-use Rattle.rl_line.proofs.Records.LastLemmas.{after-cases, end_one-cases, ends-past, end_times-keeps, map-reverse}
-use Rattle.rl_line.proofs.Records.MatchLemmas.{IsMatched-after, BothMatched-begun, BothMatched-closed, BothMatched-undone, BothMatched-redone, BothMatched-truncated, Redoes-of, BothMatched-step}
-use Rattle.rl_line.proofs.Records.RecordLemmas.{none_or_one, through, replay-append, replay-IsUtf8, replay-unwind, unwind-replay, entries_after-unwind}
-use Rattle.rl_line.proofs.Records.UnitLemmas.{kept-last}
-use Rattle.rl_line.proofs.Records.ForgettingLemmas.{IsMatched-kept, gone-kept}
-use Rattle.rl_line.proofs.Records.RoomLemmas.{texts_after-more}
+use Rattle.rl_record.specs.Record.{record_step}
+use Rattle.rl_record.specs.Units.{BothMatched, ends_in_end, grouped_from, redo_dropped, there_and_back, united, IsMatched, adds_end, ends_in_begin, still_waiting}
+use Rattle.rl_record.specs.declared.changeset.groups.UnitStart.{UnitStart}
+use Rattle.rl_record.proofs.Records.WaitingLemmas.{MarksMoved}
+use Rattle.rl_record.proofs.Records.UnitingLemmas.{BothMatched-united, replay-united, united-cases}
+use Rattle.rl_record.proofs.Records.MarkLemmas.{replay-begin, replay-end, replay-end_one}
+use Rattle.rl_record.proofs.Records.JoinLemmas.{heard, step-cases}
+use Rattle.rl_line.proofs.Changes.InverseLemmas.{map-reverse, through, replay-append, replay-IsUtf8, replay-unwind, unwind-replay}
+use Rattle.rl_record.proofs.Records.LastLemmas.{after-cases, end_one-cases, ends-past, end_times-keeps}
+use Rattle.rl_record.proofs.Records.MatchLemmas.{IsMatched-after, BothMatched-begun, BothMatched-closed, BothMatched-undone, BothMatched-redone, BothMatched-truncated, Redoes-of, BothMatched-step}
+use Rattle.rl_record.proofs.Records.RecordLemmas.{none_or_one, entries_after-unwind}
+use Rattle.rl_record.proofs.Records.UnitLemmas.{kept-last}
+use Rattle.rl_record.proofs.Records.ForgettingLemmas.{IsMatched-kept, gone-kept}
+use Rattle.rl_line.proofs.Changes.RoomLemmas.{texts_after-more}
 use Rattle.rl_line.proofs.Plans.PlanLemmas.{first_step}
-use Rattle.rl_line.proofs.Records.ToldLemmas.{same-event, told-cases}
+use Rattle.rl_record.proofs.Records.ToldLemmas.{same-event, told-cases}
 use Rattle.std.proofs.lemmas.Grind.{common_steps}
 use Rattle.rl_session.proofs.Common.{rules}
-use Rattle.rl_line.specs.Undo.{texts_ahead}
-use Rattle.rl_line.proofs.Records.RoundLemmas.{BothMatched-round, kept-either, replays-round, unwind-call}
+use Rattle.rl_line.specs.Going.{texts_ahead}
+use Rattle.rl_record.proofs.Records.RoundLemmas.{BothMatched-round, kept-either, replays-round, unwind-call}
 
 extend : (start : List ℕ) (es : List Entry) (held more : List (List ℕ)) → PlacedBack start es held → PlacedBack start es (held ++ more)
 extend start [] held more p = grind (arith, append_assoc)

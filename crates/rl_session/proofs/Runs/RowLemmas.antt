@@ -5,11 +5,11 @@ use Rattle.rl_base.proofs.Ring.KillGroupLemmas.{killed_as-lasts, lasts, lent-las
 use Rattle.rl_base.specs.KillRing.{yank}
 use Rattle.rl_base.specs.declared.kill_ring.NewKill.{NewKill}
 use Rattle.rl_line.specs.Plan.{Step as PlanStep}
-use Rattle.rl_line.proofs.Records.ForgettingLemmas.{fitting-stay}
-use Rattle.rl_line.proofs.Records.RoundLemmas.{unwind-call}
-use Rattle.rl_line.proofs.Records.MarkLemmas.{Kept-Redone}
-use Rattle.rl_line.proofs.Records.OriginLemmas.{Kept, Kept-Taken, Kept-Undone}
-use Rattle.rl_line.proofs.Records.RecordLemmas.{unwind-replay, replay-unwind, replay-IsUtf8, value_of}
+use Rattle.rl_record.proofs.Records.ForgettingLemmas.{fitting-stay}
+use Rattle.rl_record.proofs.Records.RoundLemmas.{unwind-call}
+use Rattle.rl_record.proofs.Records.MarkLemmas.{Kept-Redone}
+use Rattle.rl_record.proofs.Records.OriginLemmas.{Kept, Kept-Taken, Kept-Undone}
+use Rattle.rl_line.proofs.Changes.InverseLemmas.{unwind-replay, replay-unwind, replay-IsUtf8, value_of}
 use Rattle.rl_session.specs.Commands.{stops, lent, Step, keeps, on_record, gives_up}
 use Rattle.rl_session.proofs.Sessions.CommandLemmas.{Changes, EffectChanges, effect-changes}
 use Rattle.rl_session.proofs.Sessions.CourseLemmas.{Heard, Heard-Came}
@@ -17,7 +17,7 @@ use Rattle.rl_session.proofs.Sessions.IdleLemmas.{ring-Done, ring-Halted}
 use Rattle.rl_session.proofs.Sessions.PairLemmas.{Halted-own}
 use Rattle.rl_session.specs.declared.options.Options.{Options}
 use Rattle.rl_session.proofs.Common.{arith}
-use Rattle.rl_line.proofs.Records.AbandonLemmas.{Kept-Abandoned}
+use Rattle.rl_record.proofs.Records.AbandonLemmas.{Kept-Abandoned}
 
 -- the record leads back to the same text
 abbrev KeepsOrigin : State → State → Type 0

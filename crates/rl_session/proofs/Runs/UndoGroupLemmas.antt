@@ -2,23 +2,25 @@
 use Rattle.rl_session.specs.Commands.{gives_up, keeps, on_record, puts_again, readied, takes_back}
 use Rattle.rl_session.proofs.Common.{keeps_undone, parts_next, puts_begin, puts_end, puts_ends, reopens, shortens, Bool, rules, ◌≡◌, ◌<◌, ◌+◌, ℕ, inl, inr, zero, suc, true, List, [], ◌∷◌, ◌++◌, length, drop, take, max, Some, refl, sym, ap, subst, ◌∙◌, arith, or-false, min, listener_after, listener_after_step, Begin, End, Entry, Record, record_step, replay_entries, IsMatched, begun, end_one, end_times, ended, ended_one, has_change, kept_of, last_of, level, opens, with_closed, Effect, by_steps, Became, effect, Does, with_changes, AllStandInGroup, ClosesGroup, Holds, MayStandInGroup, WasRefused, Leads, Row, Run, held, held_of, steps_in, State, with_ring, reset, Append, Command, Reply, Cursors, cond, same_Some}
 use Rattle.rl_line.specs.Plan.{Step}
-use Rattle.rl_line.proofs.Records.GroupLemmas.{has_change-append, Inside, InsideOf, Inside-event, Inside-begun, Inside-reopened, past_begin}
-use Rattle.rl_line.proofs.Records.LastLemmas.{end_one-begin, end_one-cases, end_one-past, end_times-keeps}
-use Rattle.rl_line.proofs.Records.EndLemmas.{closed_alone, closed_group, level-group}
-use Rattle.rl_line.proofs.Records.MatchLemmas.{Lower-end_one, Lower-end_times}
-use Rattle.rl_line.proofs.Records.UndoLemmas.{line_back-unwind}
+use Rattle.rl_line.proofs.Changes.InverseLemmas.{has_change-append}
+use Rattle.rl_record.proofs.Records.GroupLemmas.{Inside, InsideOf, Inside-event, Inside-begun, Inside-reopened, past_begin}
+use Rattle.rl_record.proofs.Records.LastLemmas.{end_one-begin, end_one-cases, end_one-past, end_times-keeps}
+use Rattle.rl_record.proofs.Records.EndLemmas.{closed_alone, closed_group, level-group}
+use Rattle.rl_record.proofs.Records.MatchLemmas.{Lower-end_one, Lower-end_times}
+use Rattle.rl_line.proofs.Changes.BackLemmas.{line_back-unwind}
 use Rattle.rl_base.specs.KillRing.{killed}
-use Rattle.rl_line.specs.Record.{parted}
-use Rattle.rl_line.specs.Units.{reopened, open_size, redo_dropped, together, undone, kept_undone}
+use Rattle.rl_record.specs.Record.{parted}
+use Rattle.rl_record.specs.Units.{reopened, open_size, redo_dropped, together, undone, kept_undone}
 use Rattle.rl_session.specs.declared.session.Command.TheVariants as asks
 use Rattle.rl_session.specs.declared.session.Reply.TheVariants as says
 use Rattle.rl_session.proofs.Runs.RowLemmas.{Leads-split}
 use Rattle.rl_session.proofs.Sessions.CourseLemmas.{Heard-Came}
 use Rattle.rl_session.proofs.Runs.HistoryLemmas.{Holds-Leads, Holds-row, done_as, row_at, undo-row}
 use Rattle.rl_session.proofs.Runs.PlaceLemmas.{kept-leads}
-use Rattle.rl_line.proofs.Records.AbandonLemmas.{GroupOpen, Inside-Abandoned, Inside-redone, Inside-undone, open_after}
-use Rattle.rl_line.specs.Undo.{Abandoned, line_back}
-use Rattle.rl_line.proofs.Records.RoundLemmas.{Inside-kept}
+use Rattle.rl_record.proofs.Records.AbandonLemmas.{GroupOpen, Inside-Abandoned, Inside-redone, Inside-undone, open_after}
+use Rattle.rl_line.specs.Going.{line_back}
+use Rattle.rl_record.specs.Undo.{Abandoned}
+use Rattle.rl_record.proofs.Records.RoundLemmas.{Inside-kept}
 
 -- ---- the end of a group
 -- the ends of the groups inside, then the end of the group itself

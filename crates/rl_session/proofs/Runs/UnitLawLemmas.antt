@@ -1,13 +1,14 @@
 -- What a command of several steps changed is one unit, and an undo right after it takes that back.
 use Rattle.rl_session.proofs.Common.{◌≡◌, ◌-◌, ◌==◌, ℕ, arith, suc, zero, false, true, cond, not, List, [], ◌∷◌, ◌++◌, length, take, Option, None, Some, ap, refl, subst, sym, same_Some, ◌∙◌, inl, inr, listener_after, Record, record_step, replay_entries, last_of, kept_of, unwind, Line, take_all, Came, Course, Does, Command, Reply, State, Undo, Holds, Row, WasRefused, held, held_of, steps_in}
 use Rattle.rl_line.specs.Plan.{Step as PlanStep}
-use Rattle.rl_line.specs.Record.{parted}
-use Rattle.rl_line.specs.Units.{Open, UndoUnit, Whole, has_change, opens, size_to_open, together, unit_start, united, units}
-use Rattle.rl_line.specs.declared.change.Freshness.TheVariants.{Parted}
-use Rattle.rl_line.specs.declared.changeset.UnitStart.{UnitStart}
-use Rattle.rl_line.proofs.Records.RecordLemmas.{if_some}
-use Rattle.rl_line.proofs.Records.UndoLemmas.{line_back-unwind}
-use Rattle.rl_line.proofs.Records.UnitLawLemmas.{HeardApart, IsUnit, unit-heard}
+use Rattle.rl_record.specs.Record.{parted}
+use Rattle.rl_line.specs.Entry.{has_change}
+use Rattle.rl_record.specs.Units.{Open, UndoUnit, Whole, opens, size_to_open, together, unit_start, united, units}
+use Rattle.rl_record.specs.declared.joining.Freshness.TheVariants.{Parted}
+use Rattle.rl_record.specs.declared.changeset.groups.UnitStart.{UnitStart}
+use Rattle.rl_line.proofs.Changes.InverseLemmas.{if_some}
+use Rattle.rl_line.proofs.Changes.BackLemmas.{line_back-unwind}
+use Rattle.rl_record.proofs.Records.UnitLawLemmas.{HeardApart, IsUnit, unit-heard}
 use Rattle.rl_session.specs.Commands.{Step, asked, course_of, readied, with_changes}
 use Rattle.rl_session.specs.Forgetting.{within_bound}
 use Rattle.rl_session.specs.Performing.{MadeUnit, Obeyed, Stops, asks_to_keep, before_unit, is_one_unit, keeping, made_in_group, put_in, set_apart, within_group}

@@ -8,9 +8,9 @@ use Rattle.rl_session.specs.Commands.{stops, lent}
 use Rattle.rl_session.specs.declared.session.Fault.TheVariants.{NoMemory}
 use Rattle.rl_session.proofs.Sessions.IdleLemmas.{NoneStarts-edit_word, NoneStarts-indent, NoneStarts-insert, NoneStarts-kill, NoneStarts-removal, NoneStarts-transpose_chars, NoneStarts-transpose_words, NoneStarts-yank, NoneStarts-lent, NoneStarts-popped}
 use Rattle.rl_base.specs.Event.{Delete}
-use Rattle.rl_line.specs.Record.{record_step}
-use Rattle.rl_line.proofs.Records.JoinLemmas.{after-Delete-nothing, after-InsertStr-nothing, fresh-Delete-nothing, fresh-InsertStr-nothing}
-use Rattle.rl_line.proofs.Records.LastLemmas.{told-none}
+use Rattle.rl_record.specs.Record.{record_step}
+use Rattle.rl_record.proofs.Records.JoinLemmas.{after-Delete-nothing, after-InsertStr-nothing, fresh-Delete-nothing, fresh-InsertStr-nothing}
+use Rattle.rl_record.proofs.Records.LastLemmas.{told-none}
 use Rattle.rl_line.proofs.Plans.LetterCaseLemmas.{respelled-none}
 use Rattle.rl_session.proofs.Runs.CursorLemmas.{AddedAlone, IsLone, Quiet, added-alone, ends_at, next, recorded-next}
 use Rattle.rl_session.proofs.Sessions.PairLemmas.{Done-changes}

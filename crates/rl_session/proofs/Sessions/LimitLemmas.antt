@@ -13,7 +13,7 @@ use Rattle.rl_session.specs.declared.session.Fault.TheVariants.{NoMemory, BadPla
 use Rattle.rl_session.specs.declared.session.Command.TheVariants as asks
 use Rattle.rl_session.specs.declared.session.Reply.TheVariants as says
 use Rattle.rl_line.proofs.Plans.EditLemmas.{length-repeat}
-use Rattle.rl_line.specs.Units.{open_group}
+use Rattle.rl_record.specs.Units.{open_group}
 
 -- ---- a plan that makes the text no longer than the limit
 abbrev pub Fits : {A : Type 0} → Line → Plan A → Type 0

@@ -13,11 +13,11 @@ use Rattle.rl_session.specs.declared.session.Reply.TheVariants as says
 use Rattle.rl_session.proofs.Sessions.StepLemmas.{step_done}
 use Rattle.rl_session.specs.Forgetting.{Forgets}
 use Rattle.rl_session.specs.Performing.{Bars, HasKept, IsBarred, IsStopped, Keeps, Obeyed, Stops, Unites, asks_to_keep, carried, is_one_unit, is_within, leaves_waiting, made_in_group, put_in, set_apart, with_waiting, within_group, counted_as, Performed}
-use Rattle.rl_line.specs.Record.{parted}
-use Rattle.rl_line.specs.Trying.{DoneWithin}
-use Rattle.rl_line.specs.Undo.{OutOfRoom}
-use Rattle.rl_line.specs.Units.{still_waiting, unit_start}
-use Rattle.rl_line.specs.declared.changeset.UnitStart.{UnitStart}
+use Rattle.rl_record.specs.Record.{parted}
+use Rattle.rl_record.specs.Trying.{DoneWithin}
+use Rattle.rl_record.specs.Undo.{OutOfRoom}
+use Rattle.rl_record.specs.Units.{still_waiting, unit_start}
+use Rattle.rl_record.specs.declared.changeset.groups.UnitStart.{UnitStart}
 use Rattle.rl_session.specs.declared.session.Fault.TheVariants.{NoMemory, TooLong}
 
 -- ---- what was undone is kept, if that is asked for

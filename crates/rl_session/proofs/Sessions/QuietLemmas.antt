@@ -6,13 +6,13 @@ use Rattle.rl_line.proofs.Plans.EditLemmas.{length-repeat}
 use Rattle.rl_session.proofs.Runs.CursorLemmas.{IsLone, Quiet, ends_at}
 use Rattle.rl_line.specs.Plan.{Step, nothing}
 use Rattle.rl_line.specs.Ranges.{killed}
-use Rattle.rl_line.specs.Record.{entries_of}
+use Rattle.rl_record.specs.Record.{entries_of}
 use Rattle.rl_base.specs.Words.{stops}
 use Rattle.rl_base.specs.declared.motion.At.TheVariants as stop_at
 use Rattle.rl_base.proofs.Texts.LineLemmas.{few-from_none, IsCharBoundary-nth, place-of_nth}
 use Rattle.rl_base.proofs.Clusters.ClusterLemmas.{bytes_in-append, bytes_in-clusters}
 use Rattle.rl_base.proofs.Clusters.WordLemmas.{All-reverse, All-stops, IsCharBoundary-member, IsCharBoundary-stop, nth-is_or, prev_word-some, start_before}
-use Rattle.rl_line.proofs.Records.RecordLemmas.{through}
+use Rattle.rl_line.proofs.Changes.InverseLemmas.{through}
 use Rattle.std.proofs.lemmas.Grind.{common_steps}
 
 -- the plan's steps are quiet, and it ends where its last step leaves the cursor

@@ -5,7 +5,7 @@ use Rattle.rl_base.specs.SavedRing.{saved_ring}
 use Rattle.rl_base.specs.Saving.{numbers}
 use Rattle.rl_base.specs.declared.saving.Width.TheVariants.{Eight}
 use Rattle.rl_base.proofs.Texts.SavingLemmas.{length-numbers}
-use Rattle.rl_line.specs.SavedRecord.{saved_record}
+use Rattle.rl_record.specs.SavedRecord.{saved_record}
 use Rattle.rl_session.specs.SavedSession.{checksum, heading, line_numbers, option_numbers, saved_line, saved_session, saved_state, sealed, state_numbers}
 use Rattle.rl_session.specs.State.{State}
 

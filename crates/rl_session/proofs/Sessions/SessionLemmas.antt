@@ -2,21 +2,21 @@
 use Rattle.rl_session.proofs.Common.{OnOk, IfErr, ToldOutcome, Outcome, Entry, ◌∷◌, event_of, inverse, line_after, map, reverse, stepped, Cut, replay_entries, Bool, false, true, inr, List, [], Result, Ok, Err, ◌≡◌, ◌∙◌, ap, arith, refl, subst, sym, append-nil, inl, ◌≤◌, ℕ, length, take_all, IsCharBoundary-start, IsUtf8-nil, Option, None, max, IsSome, Some, IsUtf8, Event, Start, Stop, Refusal, Line, Moved, Plan, Done, Halted, or_no_memory, Takes, nothing_more, a_copy, insert_str_plan, Told, Record, agree, replays_to, unwind, AtRest, Follows, pair_step, pair_refused, Pair, IsCharBoundary, Walks, line_back, bytes_eq-Decides, same_Some}
 use Rattle.rl_base.proofs.Ring.BoundLemmas.{killing-within}
 use Rattle.rl_base.proofs.Texts.EventLemmas.{apply-InsertStr}
-use Rattle.rl_line.proofs.Records.JoinLemmas.{record_step-Start, record_step-Stop}
+use Rattle.rl_record.proofs.Records.JoinLemmas.{record_step-Start, record_step-Stop}
 use Rattle.rl_line.specs.Plan.{Step, after}
-use Rattle.rl_line.specs.Undo.{Abandoned, Redone, Undone}
-use Rattle.rl_line.specs.Units.{last_of, open_group, redo_of}
+use Rattle.rl_record.specs.Undo.{Abandoned, Redone, Undone}
+use Rattle.rl_record.specs.Units.{last_of, open_group, redo_of}
 use Rattle.rl_line.proofs.Plans.PlanLemmas.{Fits-from, first_step}
-use Rattle.rl_line.proofs.Records.ForgettingLemmas.{Walks-forgotten}
+use Rattle.rl_record.proofs.Records.ForgettingLemmas.{Walks-forgotten}
 use Rattle.rl_line.proofs.Lines.LineReadLemmas.{range-before, range-some}
 use Rattle.rl_session.proofs.Sessions.IdleLemmas.{NoneStarts, NoneStarts-edit_word, NoneStarts-insert, NoneStarts-kill, NoneStarts-removal, NoneStarts-transpose_chars, NoneStarts-yank, IsIdle, idle-step, idle-Told, ring-Done, ring-Halted}
 use Rattle.rl_session.proofs.Sessions.PairLemmas.{Halted-own, Done-changes, Halted-changes, keeps_changes}
-use Rattle.rl_line.proofs.Records.RecordLemmas.{through, value_of}
-use Rattle.rl_line.proofs.Records.UndoLemmas.{line_ahead-back, line_ahead-replay, line_back-unwind}
-use Rattle.rl_line.proofs.Records.UnitingLemmas.{Walks-parted, Walks-united}
-use Rattle.rl_line.proofs.Records.WaitingLemmas.{Walks-dropped, Walks-opened}
-use Rattle.rl_line.proofs.Records.WalkLemmas.{Walks-truncated, Walks-Done, Walks-Halted, Walks-ahead, Walks-back, Walks-begun, Walks-closed, Walks-reopened}
-use Rattle.rl_line.proofs.Records.RoundLemmas.{Walks-kept}
+use Rattle.rl_line.proofs.Changes.InverseLemmas.{through, value_of}
+use Rattle.rl_line.proofs.Changes.BackLemmas.{line_ahead-back, line_ahead-replay, line_back-unwind}
+use Rattle.rl_record.proofs.Records.UnitingLemmas.{Walks-parted, Walks-united}
+use Rattle.rl_record.proofs.Records.WaitingLemmas.{Walks-dropped, Walks-opened}
+use Rattle.rl_record.proofs.Records.WalkLemmas.{Walks-truncated, Walks-Done, Walks-Halted, Walks-ahead, Walks-back, Walks-begun, Walks-closed, Walks-reopened}
+use Rattle.rl_record.proofs.Records.RoundLemmas.{Walks-kept}
 
 -- a text that goes into an empty line
 pub put_first : {L : Type 0} (step : L → Event → L) (line new : Line) (limit : ℕ) (text : List ℕ) (b n : L) (a : Bool) → IsUtf8 text

@@ -5,11 +5,12 @@ use Rattle.std.specs.Prelude.{IsSome}
 use Rattle.std.specs.Str.{IsCharBoundary}
 use Rattle.rl_base.specs.Watch.{watch_step}
 use Rattle.rl_line.specs.Plan.{listener_after}
-use Rattle.rl_line.specs.Undo.{Abandoned, line_ahead, line_back, steps_back}
-use Rattle.rl_line.specs.Units.{abandoned, adds_end, ended, ended_one, is_open, open_group, still_waiting, unit_start, waits}
-use Rattle.rl_line.specs.Record.{Begin as AddsBegin}
-use Rattle.rl_line.proofs.Records.WaitingLemmas.{MarksMoved, back-begin, given_up}
-use Rattle.rl_line.proofs.Records.UndoLemmas.{line_back-unwind}
+use Rattle.rl_line.specs.Going.{line_ahead, line_back, steps_back}
+use Rattle.rl_record.specs.Undo.{Abandoned}
+use Rattle.rl_record.specs.Units.{abandoned, adds_end, ended, ended_one, is_open, open_group, still_waiting, unit_start, waits}
+use Rattle.rl_line.specs.Entry.{Begin as AddsBegin}
+use Rattle.rl_record.proofs.Records.WaitingLemmas.{MarksMoved, back-begin, given_up}
+use Rattle.rl_line.proofs.Changes.BackLemmas.{line_back-unwind}
 use Rattle.rl_base.specs.Event.{apply}
 use Rattle.std.proofs.Math.Bool.{and-false}
 use Rattle.rl_session.specs.Commands.{Step, readied, settled, with_changes}

@@ -5,7 +5,7 @@ use Rattle.rl_base.proofs.Queue.LeadLemmas.{marked, nothing, placed, whole, with
 use Rattle.rl_base.specs.declared.listeners.Refusal.TheVariants as why
 use Rattle.rl_base.proofs.Texts.SpliceLemmas.{Covers-apply}
 use Rattle.rl_line.specs.Plan.{Step as PlanStep, after}
-use Rattle.rl_line.proofs.Records.HeardLemmas.{after-steps_ahead, after-steps_back}
+use Rattle.rl_line.proofs.Changes.GoingLemmas.{after-steps_ahead, after-steps_back}
 use Rattle.rl_line.proofs.Plans.HearingLemmas.{AreChanges, Keeps-after}
 use Rattle.rl_session.specs.Commands.{Step, stops, lent, keeps, gives_up}
 use Rattle.rl_session.proofs.Sessions.CommandLemmas.{Changes, EffectChanges, effect-changes}
@@ -14,7 +14,7 @@ use Rattle.rl_session.proofs.Sessions.IdleLemmas.{NoneStarts-ahead, NoneStarts-f
 use Rattle.rl_session.proofs.Sessions.PairLemmas.{cause-watch, listener_after-watch, own}
 use Rattle.rl_session.proofs.Sessions.RestartLemmas.{apply-all}
 use Rattle.rl_session.proofs.Runs.RowLemmas.{Leads-keeps}
-use Rattle.rl_line.specs.Units.{open_group}
+use Rattle.rl_record.specs.Units.{open_group}
 
 -- what is known of a line before a command and after it
 pub record Texts (old new : Line) : Type 0 where

@@ -9,8 +9,8 @@ ghost use Rattle.rl_line.specs.Deletions.{CanDeleteBy};
 ghost use Rattle.rl_session.specs.Commands.{deletion_of, with_changes};
 ghost use Rattle.rl_session.specs.Performing.{BarsWith, HasKept, Keeps, Obeyed, Performed, PerformedWith, Unites, carried, leaves_waiting, made_in_group, put_in};
 ghost use Rattle.rl_session.specs.State.{Ends};
-ghost use Rattle.rl_line.specs.Record.{freshness_told, parted};
-ghost use Rattle.rl_line.specs.Units.{end_times, still_waiting, unit_start};
+ghost use Rattle.rl_record.specs.Record.{freshness_told, parted};
+ghost use Rattle.rl_record.specs.Units.{end_times, still_waiting, unit_start};
 ghost use Rattle.rl_session.specs.Replies.{replied};
 ghost use Rattle.rl_session.specs.declared.session.Command.{Command};
 ghost use Rattle.rl_session.specs.declared.session.Reply.{Reply};
@@ -18,7 +18,7 @@ ghost use Rattle.rl_session.specs.declared.session.Reply.{Reply};
 use crate::session::replies::{answered, done, handed_out, inserted, marked};
 use crate::session::{Command, Fault, Reply, Session};
 use rl_base::{Direction, Movement, RepeatCount, WordAction};
-use rl_line::UnitStart;
+use rl_record::UnitStart;
 
 // Does a command that goes on from what the ring did last, or leaves it, and then forgets what is beyond the bounds.
 macro_rules! goes_on {

@@ -1,7 +1,8 @@
 //! Groups of changes, undo, redo, and truncation of the record, and what can be asked about them.
 ghost use Rattle.std.specs.Prelude.{◌≡◌, List, ℕ, ◌≤◌, ◌&&◌, ◌++◌, ◌∷◌, [], IfErr, IfOk, false, length, not, true};
-ghost use Rattle.rl_line.specs.Record.{is_saved, Begin};
-ghost use Rattle.rl_line.specs.Units.{has_change, last_of, level, redo_of, adds_end, end_times, still_waiting, waits};
+ghost use Rattle.rl_line.specs.Entry.{Begin, has_change};
+ghost use Rattle.rl_record.specs.Record.{is_saved};
+ghost use Rattle.rl_record.specs.Units.{last_of, level, redo_of, adds_end, end_times, still_waiting, waits};
 ghost use Rattle.rl_session.specs.Commands.{Does, with_changes};
 ghost use Rattle.rl_session.specs.Performing.{DoesWithin};
 ghost use Rattle.rl_session.specs.Replies.{replied};

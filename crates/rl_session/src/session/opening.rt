@@ -11,7 +11,8 @@ use crate::pair::Pair;
 use crate::session::{Fault, Session};
 use crate::settings::Settings;
 use rl_base::{GraphemeClusterMode, KillRing, NoListener, Watch};
-use rl_line::{Changeset, LineBuffer};
+use rl_line::LineBuffer;
+use rl_record::Changeset;
 use std::alloc::Global;
 
 // Puts a text into an empty line, with the cursor at a place.

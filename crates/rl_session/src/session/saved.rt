@@ -18,7 +18,8 @@ use crate::session::opening::filled;
 use rl_base::checksum::xxh64;
 use rl_base::saving::put_numbers;
 use rl_base::{GraphemeClusterMode, KillRing, LoadFault, SaveFault, Unread, Watch, Width};
-use rl_line::{Changeset, LineBuffer};
+use rl_line::LineBuffer;
+use rl_record::Changeset;
 use std::alloc::Global;
 
 // The name of the format, and its version.

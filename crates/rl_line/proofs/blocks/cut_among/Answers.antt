@@ -1,4 +1,4 @@
-use Rattle.rl_line.proofs.Common.{◌≡◌, ◌≤◌, ◌+◌, length, remove_range, subst, sym}
+use Rattle.rl_line.proofs.Common.{length, remove_range, subst, sym, ◌+◌, ◌≡◌, ◌≤◌}
 use Rattle.rl_line.proofs.Lines.BlockLemmas.{cut_part, within_part}
 use Rattle.rl_line.proofs.blocks.cut_among.Goals as goal
 

@@ -1,7 +1,7 @@
-use Rattle.rl_line.proofs.Common.{◌≡◌, ◌++◌, [], ◌∙◌, ap, subst, sym, get_or, insert_slice, option_map_or}
-use Rattle.std.specs.List.{flat_map}
-use Rattle.rl_line.specs.Blocks.{LiesIn}
+use Rattle.rl_line.proofs.Common.{[], ap, get_or, insert_slice, option_map_or, subst, sym, ◌++◌, ◌∙◌, ◌≡◌}
 use Rattle.rl_line.proofs.Lines.BlockLemmas.{put_part, put_two}
+use Rattle.rl_line.specs.Blocks.{LiesIn}
+use Rattle.std.specs.List.{flat_map}
 use Rattle.rl_line.proofs.blocks.put_among.Goals as goal
 
 pub returns-in_default-clause-ok : goal.returns-in_default-clause-ok

@@ -1,6 +1,6 @@
-use Rattle.rl_line.proofs.Common.{arith, ap, length, length-append, take, ◌≡◌, ◌+◌}
-use Rattle.std.specs.List.{flat_map}
+use Rattle.rl_line.proofs.Common.{ap, arith, length, length-append, take, ◌+◌, ◌≡◌}
 use Rattle.rl_line.proofs.Lines.BlockLemmas.{length_all, one_more}
+use Rattle.std.specs.List.{flat_map}
 use Rattle.rl_line.proofs.blocks.total.Goals as goal
 
 pub overflow_add-total : goal.overflow_add-total

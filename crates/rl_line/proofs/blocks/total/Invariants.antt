@@ -1,4 +1,4 @@
-use Rattle.rl_line.proofs.Common.{◌≡◌, length, take}
+use Rattle.rl_line.proofs.Common.{length, take, ◌≡◌}
 use Rattle.std.specs.List.{flat_map}
 use Rattle.rl_line.proofs.blocks.total.Given as goal
 

@@ -1,4 +1,4 @@
-use Rattle.rl_line.proofs.Common.{◌+◌, ◌-◌, ◌∙◌, arith, take_rest}
+use Rattle.rl_line.proofs.Common.{arith, take_rest, ◌+◌, ◌-◌, ◌∙◌}
 use Rattle.rl_line.proofs.Lines.GapLemmas.{drop-gapped}
 use Rattle.rl_line.proofs.gapped.beside.Goals as goal
 

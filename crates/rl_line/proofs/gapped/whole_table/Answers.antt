@@ -1,4 +1,4 @@
-use Rattle.rl_line.proofs.Common.{◌-◌, ◌∙◌, sym, subst, length, arith, IsTable, remove_range}
+use Rattle.rl_line.proofs.Common.{IsTable, arith, length, remove_range, subst, sym, ◌-◌, ◌∙◌}
 use Rattle.rl_line.proofs.Lines.GapLemmas.{around-number, around-whole, length-gapped}
 use Rattle.rl_line.proofs.gapped.whole_table.Goals as goal
 

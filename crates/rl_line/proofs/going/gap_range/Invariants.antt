@@ -1,4 +1,4 @@
-use Rattle.rl_line.proofs.Common.{◌≤◌, length}
+use Rattle.rl_line.proofs.Common.{length, ◌≤◌}
 use Rattle.rl_line.proofs.going.gap_range.Given as goal
 
 abbrev pub invariant-loop-left : goal.invariant-loop-left

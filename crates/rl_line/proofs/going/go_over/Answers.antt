@@ -1,10 +1,10 @@
-use Rattle.rl_line.proofs.Common.{◌≡◌, ◌+◌, ◌∙◌, List, ℕ, ap, arith, length, sym, unwrap_or, inverse, cursor_after, entry_to_undo}
-use Rattle.rl_line.proofs.Records.ChangeLemmas.{place-entry_to_undo}
-use Rattle.rl_line.proofs.Records.GoingLemmas.{GoesOver, goes_over, over-mark}
-use Rattle.rl_line.proofs.Records.RoomLemmas.{length_back-is}
+use Rattle.rl_line.proofs.Common.{List, ap, arith, cursor_after, entry_to_undo, inverse, length, sym, unwrap_or, ℕ, ◌+◌, ◌∙◌, ◌≡◌}
+use Rattle.rl_line.proofs.Changes.ChangeLemmas.{place-entry_to_undo}
+use Rattle.rl_line.proofs.Changes.GoingLemmas.{GoesOver, goes_over, over-mark}
+use Rattle.rl_line.proofs.Changes.RoomLemmas.{length_back-is}
 use Rattle.rl_line.proofs.going.go_over.Given.{Over}
-use Rattle.rl_line.proofs.going.go_over.Goals as goal
 use Rattle.rl_line.proofs.going.go_over.Goals.{After-texts, After-unwrap_or-after}
+use Rattle.rl_line.proofs.going.go_over.Goals as goal
 
 pub returns-in_default-clause-line : goal.returns-in_default-clause-line
 returns-in_default-clause-line g c =

@@ -1,11 +1,11 @@
-use Rattle.rl_line.proofs.Common.{arith, ◌≡◌, ◌+◌, ◌-◌, ◌<◌, [], ◌∷◌, length, map, drop, sym, ap, subst, ◌∙◌, IsUtf8, Line, listener_after, inverse, steps_ahead, steps_back, entry_to_undo, length_back_over, length_back, order, drop-map}
-use Rattle.rl_line.proofs.Records.ChangeLemmas.{length-order}
-use Rattle.rl_line.proofs.Records.HeardLemmas.{back-one_more}
-use Rattle.rl_line.proofs.Records.UndoLemmas.{IsBack, IsBack-next, entries_from, line_back-unwind, length_back_over-within}
-use Rattle.rl_line.proofs.Records.RoomLemmas.{length_back_over-is}
+use Rattle.rl_line.proofs.Common.{IsUtf8, Line, [], ap, arith, drop, drop-map, entry_to_undo, inverse, length, length_back, length_back_over, listener_after, map, order, steps_ahead, steps_back, subst, sym, ◌+◌, ◌-◌, ◌<◌, ◌∙◌, ◌∷◌, ◌≡◌}
+use Rattle.rl_line.proofs.Changes.BackLemmas.{IsBack, IsBack-next, entries_from, length_back_over-within, line_back-unwind}
+use Rattle.rl_line.proofs.Changes.ChangeLemmas.{length-order}
+use Rattle.rl_line.proofs.Changes.GoingLemmas.{back-one_more}
+use Rattle.rl_line.proofs.Changes.RoomLemmas.{length_back_over-is}
 use Rattle.rl_line.proofs.going.go_over_each.Given.{Over}
-use Rattle.rl_line.proofs.going.go_over_each.Goals as goal
 use Rattle.rl_line.proofs.going.go_over_each.Goals.{After-nth_on-change}
+use Rattle.rl_line.proofs.going.go_over_each.Goals as goal
 
 -- the line as it stands when a change is taken back
 abbrev now : (g : Over) → After-nth_on-change g → Line

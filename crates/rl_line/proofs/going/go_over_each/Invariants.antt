@@ -1,5 +1,5 @@
-use Rattle.rl_line.proofs.Common.{◌≡◌, ◌≤◌, length, map, drop, listener_after, steps_back, entry_to_undo, greatest_back_over, order}
-use Rattle.rl_line.proofs.Records.UndoLemmas.{IsBack}
+use Rattle.rl_line.proofs.Common.{drop, entry_to_undo, greatest_back_over, length, listener_after, map, order, steps_back, ◌≡◌, ◌≤◌}
+use Rattle.rl_line.proofs.Changes.BackLemmas.{IsBack}
 use Rattle.rl_line.proofs.going.go_over_each.Given as goal
 
 abbrev pub invariant-loop-left : goal.invariant-loop-left

@@ -1,7 +1,7 @@
-use Rattle.rl_line.proofs.Common.{◌≡◌, ◌≤◌, ◌+◌, ◌-◌, ◌++◌, take, drop, count_by, slice_range, vec_len, ap₂, subst, ◌∙◌, arith, is_newline, after_newlines, IsTable, List, ℕ}
+use Rattle.rl_line.proofs.Common.{IsTable, List, after_newlines, ap₂, arith, count_by, drop, is_newline, slice_range, subst, take, vec_len, ℕ, ◌++◌, ◌+◌, ◌-◌, ◌∙◌, ◌≡◌, ◌≤◌}
 use Rattle.rl_line.proofs.Lines.LineStartLemmas.{IsTable-replaced, length-table, newlines-front, newlines-take}
-use Rattle.rl_line.proofs.line_starts.exchange_starts.Goals as goal
 use Rattle.rl_line.proofs.line_starts.exchange_starts.Goals.{After-line_number}
+use Rattle.rl_line.proofs.line_starts.exchange_starts.Goals as goal
 
 -- the starts that go with the range
 gone : (c : After-line_number) → c.line_number.result ≡ c.line_number-first.result + count_by is_newline (slice_range c.args.text.now c.args.from c.args.to)

@@ -1,4 +1,4 @@
-use Rattle.rl_line.proofs.Common.{◌≡◌, take, count_by, is_newline}
+use Rattle.rl_line.proofs.Common.{count_by, is_newline, take, ◌≡◌}
 use Rattle.rl_line.proofs.line_starts.few_newlines.Given as goal
 
 abbrev pub invariant-loop-b : goal.invariant-loop-b

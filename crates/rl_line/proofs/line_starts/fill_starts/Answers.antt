@@ -1,4 +1,4 @@
-use Rattle.rl_line.proofs.Common.{ap, ◌∙◌, ◌+◌, count_by, is_newline, slice_range, ◌≡◌, rules, le_refl}
+use Rattle.rl_line.proofs.Common.{ap, count_by, is_newline, le_refl, rules, slice_range, ◌+◌, ◌∙◌, ◌≡◌}
 use Rattle.rl_line.proofs.Lines.LineStartLemmas.{IsTable-replaced}
 use Rattle.rl_line.proofs.line_starts.fill_starts.Goals as goal
 

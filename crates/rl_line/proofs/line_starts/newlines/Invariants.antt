@@ -1,4 +1,4 @@
-use Rattle.rl_line.proofs.Common.{◌≡◌, ◌-◌, ◌≤◌, take, length, count_by, is_newline}
+use Rattle.rl_line.proofs.Common.{count_by, is_newline, length, take, ◌-◌, ◌≡◌, ◌≤◌}
 use Rattle.rl_line.proofs.line_starts.newlines.Given as goal
 
 abbrev pub invariant-loop-at : goal.invariant-loop-at

@@ -1,4 +1,4 @@
-use Rattle.rl_line.proofs.Common.{ap, ◌∙◌, sym, ◌++◌}
+use Rattle.rl_line.proofs.Common.{ap, sym, ◌++◌, ◌∙◌}
 use Rattle.rl_line.proofs.Lines.LineStartLemmas.{found-nth}
 use Rattle.rl_line.proofs.line_starts.nth_start.Goals as goal
 

@@ -1,4 +1,4 @@
-use Rattle.rl_line.proofs.Common.{◌≡◌, ◌≤◌, ◌++◌, length, is_byte, places}
+use Rattle.rl_line.proofs.Common.{is_byte, length, places, ◌++◌, ◌≡◌, ◌≤◌}
 use Rattle.rl_line.proofs.line_starts.nth_start.Given as goal
 
 abbrev pub invariant-loop-newline : goal.invariant-loop-newline

@@ -1,7 +1,7 @@
-use Rattle.rl_line.proofs.Common.{◌≡◌, ◌<◌, ◌+◌, ◌++◌, ◌∷◌, [], length, length-append, ap, sym, ◌∙◌, arith, append_assoc, length_push, is_byte, places}
+use Rattle.rl_line.proofs.Common.{[], ap, append_assoc, arith, is_byte, length, length-append, length_push, places, sym, ◌++◌, ◌+◌, ◌<◌, ◌∙◌, ◌∷◌, ◌≡◌}
 use Rattle.rl_line.proofs.Lines.LineStartLemmas.{length-found, put_more}
-use Rattle.rl_line.proofs.line_starts.put_after_newlines.Goals as goal
 use Rattle.rl_line.proofs.line_starts.put_after_newlines.Goals.{In-Some}
+use Rattle.rl_line.proofs.line_starts.put_after_newlines.Goals as goal
 
 -- the newline that comes, between those that were put and those to come
 split : (c : In-Some) → c.loop-newline.yielded ++ c.in-Some.newline ∷ c.next.new.self ≡ places (is_byte 10) c.args.part.now

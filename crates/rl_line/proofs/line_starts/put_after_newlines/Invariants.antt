@@ -1,4 +1,4 @@
-use Rattle.rl_line.proofs.Common.{◌≡◌, ◌+◌, ◌++◌, map, drop, length, is_byte, places}
+use Rattle.rl_line.proofs.Common.{drop, is_byte, length, map, places, ◌++◌, ◌+◌, ◌≡◌}
 use Rattle.rl_line.proofs.line_starts.put_after_newlines.Given as goal
 
 abbrev pub invariant-loop-newline : goal.invariant-loop-newline

@@ -1,4 +1,4 @@
-use Rattle.rl_line.proofs.Common.{◌≡◌, ◌≤◌, ◌+◌, ◌-◌, ◌++◌, length, take, drop, count_by, is_newline, sym, ap, ap₂, ◌∙◌, arith, take_rest, length-drop, drop-drop, after_newlines}
+use Rattle.rl_line.proofs.Common.{after_newlines, ap, ap₂, arith, count_by, drop, drop-drop, is_newline, length, length-drop, sym, take, take_rest, ◌++◌, ◌+◌, ◌-◌, ◌∙◌, ◌≡◌, ◌≤◌}
 use Rattle.rl_line.proofs.Lines.LineStartLemmas.{written-after}
 use Rattle.rl_line.proofs.line_starts.put_starts.Goals as goal
 

@@ -1,4 +1,4 @@
-use Rattle.rl_line.proofs.Common.{◌∙◌, ap, count_by, is_newline, sym}
+use Rattle.rl_line.proofs.Common.{ap, count_by, is_newline, sym, ◌∙◌}
 use Rattle.rl_line.proofs.Lines.LineStartLemmas.{IsTable-stays}
 use Rattle.rl_line.proofs.line_starts.swap_starts.Goals as goal
 

@@ -1,4 +1,4 @@
-use Rattle.rl_line.proofs.Common.{rules, get_or_default, map_over_more, from_end}
+use Rattle.rl_line.proofs.Common.{from_end, get_or_default, map_over_more, rules}
 use Rattle.rl_line.proofs.line_starts.turn.Goals as goal
 
 pub loop-place-preserved : goal.loop-place-preserved

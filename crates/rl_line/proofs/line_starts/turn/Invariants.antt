@@ -1,4 +1,4 @@
-use Rattle.rl_line.proofs.Common.{◌≡◌, ◌++◌, take, drop, map, from_end}
+use Rattle.rl_line.proofs.Common.{drop, from_end, map, take, ◌++◌, ◌≡◌}
 use Rattle.rl_line.proofs.line_starts.turn.Given as goal
 
 abbrev pub invariant-loop-place : goal.invariant-loop-place

@@ -1,5 +1,5 @@
-use Rattle.rl_line.proofs.Common.{arith, ◌+◌, ◌-◌, ap, length, sym, ◌∙◌, is_boundary}
-use Rattle.rl_line.proofs.Records.PatchLemmas.{boundary-beyond, is_boundary-tested, patched-after, patched-before, patched-within}
+use Rattle.rl_line.proofs.Common.{ap, arith, is_boundary, length, sym, ◌+◌, ◌-◌, ◌∙◌}
+use Rattle.rl_line.proofs.Changes.PatchLemmas.{boundary-beyond, is_boundary-tested, patched-after, patched-before, patched-within}
 use Rattle.rl_line.proofs.patched.is_boundary_with.Goals as goal
 
 pub returns-then-at-from : goal.returns-then-at-from

@@ -1,7 +1,7 @@
 use Rattle.rl_line.proofs.Common.{arith, sym, ◌∙◌}
 use Rattle.rl_base.proofs.Texts.TextLemmas.{StandsAt, stands_at-means}
-use Rattle.rl_line.proofs.patched.leads_by.Goals as goal
 use Rattle.rl_line.proofs.patched.leads_by.Goals.{In-Some}
+use Rattle.rl_line.proofs.patched.leads_by.Goals as goal
 
 stands : (c : In-Some) → StandsAt c.args.text.now c.args.at c.args.going.now
 stands c = stands_at-means _ _ _ (sym c.stands_at.ensures ∙ c.if-not-stands_at.false)

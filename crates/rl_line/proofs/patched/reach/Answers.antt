@@ -1,5 +1,5 @@
-use Rattle.rl_line.proofs.Common.{subst, sym, replace_range, IsCharBoundary}
-use Rattle.rl_line.proofs.Records.ReachLemmas.{stands_when}
+use Rattle.rl_line.proofs.Common.{IsCharBoundary, replace_range, subst, sym}
+use Rattle.rl_line.proofs.Changes.ReachLemmas.{stands_when}
 use Rattle.rl_line.proofs.patched.reach.Goals as goal
 
 pub widen_down-requires-clause-at : goal.widen_down-requires-clause-at

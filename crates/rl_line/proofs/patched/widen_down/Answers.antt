@@ -1,4 +1,4 @@
-use Rattle.rl_line.proofs.Common.{subst, sym, IsUtf8, IsUtf8-append}
+use Rattle.rl_line.proofs.Common.{IsUtf8, IsUtf8-append, subst, sym}
 use Rattle.rl_line.proofs.patched.widen_down.Goals as goal
 
 pub returns-clause-utf8 : goal.returns-clause-utf8

@@ -1,5 +1,5 @@
-use Rattle.rl_line.proofs.Common.{subst, sym, ◌∙◌, IsUtf8, IsUtf8-append}
-use Rattle.rl_line.proofs.Records.ReachLemmas.{put_last}
+use Rattle.rl_line.proofs.Common.{IsUtf8, IsUtf8-append, subst, sym, ◌∙◌}
+use Rattle.rl_line.proofs.Changes.ReachLemmas.{put_last}
 use Rattle.rl_line.proofs.patched.widen_up.Goals as goal
 
 pub returns-clause-utf8 : goal.returns-clause-utf8

@@ -1,4 +1,4 @@
-use Rattle.rl_line.proofs.Common.{ℕ, List, ◌≡◌, ◌∙◌, ap, subst, sym, IsUtf8-string_bytes, replace_range, IsUtf8, string_bytes}
+use Rattle.rl_line.proofs.Common.{IsUtf8, IsUtf8-string_bytes, List, ap, replace_range, string_bytes, subst, sym, ℕ, ◌∙◌, ◌≡◌}
 use Rattle.rl_base.proofs.Texts.TextLemmas.{IsUtf8-replaced}
 use Rattle.rl_line.proofs.swap.swap_within.Goals as goal
 

@@ -1,4 +1,4 @@
-use Rattle.rl_line.proofs.Common.{ap, sym, ◌++◌, ◌∙◌, append_assoc, length, take, take-add}
+use Rattle.rl_line.proofs.Common.{ap, append_assoc, length, sym, take, take-add, ◌++◌, ◌∙◌}
 use Rattle.rl_line.proofs.Lines.BlockLemmas.{run-within}
 use Rattle.rl_line.proofs.blocks.Row.copy_to.Goals as goal
 

@@ -1,4 +1,4 @@
-use Rattle.rl_line.proofs.Common.{◌≡◌, ◌-◌, ◌≤◌, ◌++◌, length, take}
+use Rattle.rl_line.proofs.Common.{length, take, ◌++◌, ◌-◌, ◌≡◌, ◌≤◌}
 use Rattle.rl_line.proofs.blocks.Row.copy_to.Given as goal
 
 -- so many are copied

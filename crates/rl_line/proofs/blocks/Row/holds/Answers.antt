@@ -1,4 +1,4 @@
-use Rattle.rl_line.proofs.Common.{arith, ◌≤◌, ◌+◌, ◌∙◌, sym, length, take, slice_range}
+use Rattle.rl_line.proofs.Common.{arith, length, slice_range, sym, take, ◌+◌, ◌∙◌, ◌≤◌}
 use Rattle.rl_line.proofs.Lines.BlockLemmas.{all_same, held_all, held_more, not_same, other_bytes, run-take, same_bytes}
 use Rattle.rl_line.proofs.blocks.Row.holds.Goals as goal
 

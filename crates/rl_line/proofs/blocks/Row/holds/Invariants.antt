@@ -1,4 +1,4 @@
-use Rattle.rl_line.proofs.Common.{◌≡◌, ◌+◌, ◌-◌, ◌≤◌, length, take, slice_range}
+use Rattle.rl_line.proofs.Common.{length, slice_range, take, ◌+◌, ◌-◌, ◌≡◌, ◌≤◌}
 use Rattle.rl_line.proofs.blocks.Row.holds.Given as goal
 
 -- so much of it was compared

@@ -1,4 +1,4 @@
-use Rattle.rl_line.proofs.Common.{arith, ap, sym, ◌≤◌, ◌∙◌, insert_slice, length, drop, drop_split, slice_range}
+use Rattle.rl_line.proofs.Common.{ap, arith, drop, drop_split, insert_slice, length, slice_range, sym, ◌∙◌, ◌≤◌}
 use Rattle.rl_line.proofs.Lines.BlockLemmas.{inserted_before, inserted_none, length-inserted}
 use Rattle.rl_line.proofs.blocks.Row.insert.Goals as goal
 

@@ -1,4 +1,4 @@
-use Rattle.rl_line.proofs.Common.{◌≡◌, ◌≤◌, length, drop, insert_slice}
+use Rattle.rl_line.proofs.Common.{drop, insert_slice, length, ◌≡◌, ◌≤◌}
 use Rattle.rl_line.proofs.blocks.Row.insert.Given as goal
 
 -- the others are put in

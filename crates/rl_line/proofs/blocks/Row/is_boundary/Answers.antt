@@ -1,4 +1,4 @@
-use Rattle.rl_line.proofs.Common.{arith, ap, length, ◌∙◌}
+use Rattle.rl_line.proofs.Common.{ap, arith, length, ◌∙◌}
 use Rattle.rl_line.proofs.Lines.BlockLemmas.{run-starts}
 use Rattle.rl_line.proofs.blocks.Row.is_boundary.Goals as goal
 

@@ -1,4 +1,4 @@
-use Rattle.rl_line.proofs.Common.{arith, ap, ◌≡◌, ◌≤◌, ◌+◌, ◌-◌, ◌∙◌, remove_range, length}
+use Rattle.rl_line.proofs.Common.{ap, arith, length, remove_range, ◌+◌, ◌-◌, ◌∙◌, ◌≡◌, ◌≤◌}
 use Rattle.rl_line.proofs.Lines.BlockLemmas.{length-removed, removed_more}
 use Rattle.rl_line.proofs.blocks.Row.remove.Goals as goal
 

@@ -1,4 +1,4 @@
-use Rattle.rl_line.proofs.Common.{◌≡◌, ◌+◌, ◌≤◌, length, remove_range}
+use Rattle.rl_line.proofs.Common.{length, remove_range, ◌+◌, ◌≡◌, ◌≤◌}
 use Rattle.rl_line.proofs.blocks.Row.remove.Given as goal
 
 -- so many are left to take out

@@ -1,7 +1,7 @@
-use Rattle.rl_line.proofs.Common.{arith, ap, length, sym, ◌≡◌, ◌∙◌}
+use Rattle.rl_line.proofs.Common.{ap, arith, length, sym, ◌∙◌, ◌≡◌}
 use Rattle.rl_base.proofs.Texts.TextLemmas.{is_boundary-means}
+use Rattle.rl_line.proofs.Changes.ChangeLemmas.{stands_at-nothing}
 use Rattle.rl_line.proofs.Lines.BlockLemmas.{boundary-end, run-stands, stands-parts}
-use Rattle.rl_line.proofs.Records.ChangeLemmas.{stands_at-nothing}
 use Rattle.rl_line.proofs.blocks.Row.stands_at.Goals as goal
 
 pub returns-then-at-self : goal.returns-then-at-self

@@ -1,6 +1,6 @@
-use Rattle.rl_line.proofs.Common.{◌≡◌, ◌∙◌, ap, subst, sym, get_or, length, take, drop}
-use Rattle.rl_line.specs.Blocks.{LiesIn}
+use Rattle.rl_line.proofs.Common.{ap, drop, get_or, length, subst, sym, take, ◌∙◌, ◌≡◌}
 use Rattle.rl_line.proofs.Lines.BlockLemmas.{run_part}
+use Rattle.rl_line.specs.Blocks.{LiesIn}
 use Rattle.rl_line.proofs.blocks.RowPart.run.Goals as goal
 
 pub returns-clause-stands : goal.returns-clause-stands

@@ -1,5 +1,5 @@
-use Rattle.rl_line.proofs.Common.{ap, ap₂, ◌∙◌, ◌-◌, leb, length, entry_to_undo, new_text, old_text}
-use Rattle.rl_line.proofs.Records.RoomLemmas.{within-one}
+use Rattle.rl_line.proofs.Common.{ap, ap₂, entry_to_undo, leb, length, new_text, old_text, ◌-◌, ◌∙◌}
+use Rattle.rl_line.proofs.Changes.RoomLemmas.{within-one}
 use Rattle.rl_line.proofs.change.Change.keeps_to.Goals as goal
 
 pub returns : goal.returns

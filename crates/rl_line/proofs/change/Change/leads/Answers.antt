@@ -1,5 +1,5 @@
-use Rattle.rl_line.proofs.Common.{subst, sym, ◌∙◌, IsUtf8, entry_to_undo}
-use Rattle.rl_line.proofs.Records.ChangeLemmas.{leads-by, place-entry_to_undo}
+use Rattle.rl_line.proofs.Common.{IsUtf8, entry_to_undo, subst, sym, ◌∙◌}
+use Rattle.rl_line.proofs.Changes.ChangeLemmas.{leads-by, place-entry_to_undo}
 use Rattle.rl_line.proofs.change.Change.leads.Goals as goal
 
 pub returns-in-Some : goal.returns-in-Some

@@ -1,7 +1,7 @@
-use Rattle.rl_line.proofs.Common.{◌≡◌, Some, subst, sym, ◌∙◌, IsUtf8, entry_to_undo, place}
-use Rattle.rl_line.proofs.Records.ChangeLemmas.{patch-makes, place-entry_to_undo}
-use Rattle.rl_line.proofs.change.Change.patch.Goals as goal
+use Rattle.rl_line.proofs.Common.{IsUtf8, Some, entry_to_undo, place, subst, sym, ◌∙◌, ◌≡◌}
+use Rattle.rl_line.proofs.Changes.ChangeLemmas.{patch-makes, place-entry_to_undo}
 use Rattle.rl_line.proofs.change.Change.patch.Goals.{After-swap}
+use Rattle.rl_line.proofs.change.Change.patch.Goals as goal
 
 at_place : (c : After-swap) → place (entry_to_undo c.args.way c.args.self.now) ≡ Some c.in-Some.at
 at_place c = place-entry_to_undo c.args.way c.args.self.now ∙ sym c.place.ensures ∙ c.in-Some.is

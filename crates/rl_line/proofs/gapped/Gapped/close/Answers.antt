@@ -1,8 +1,8 @@
-use Rattle.rl_line.proofs.Common.{List, ℕ, ◌≡◌, ◌≤◌, ◌∙◌, ap, sym, subst, length, remove_range, string_bytes, IsCharBoundary, IsTable, take}
+use Rattle.rl_line.proofs.Common.{IsCharBoundary, IsTable, List, ap, length, remove_range, string_bytes, subst, sym, take, ℕ, ◌∙◌, ◌≡◌, ◌≤◌}
 use Rattle.rl_line.proofs.Lines.GapLemmas.{closed}
+use Rattle.rl_line.proofs.gapped.Gapped.close.Goals.{After-truncate}
 use Rattle.rl_line.specs.Gapped.{Gapped}
 use Rattle.rl_line.proofs.gapped.Gapped.close.Goals as goal
-use Rattle.rl_line.proofs.gapped.Gapped.close.Goals.{After-truncate}
 
 -- the bytes that are left are the text
 text-is : (c : After-truncate) → c.truncate.new.self.items ≡ remove_range c.gapped.inside.bytes.items c.gapped.inside.gap c.gapped.inside.rest

@@ -1,4 +1,4 @@
-use Rattle.rl_line.proofs.Common.{List, ℕ, ◌∙◌, ap, text_of_line}
+use Rattle.rl_line.proofs.Common.{List, ap, text_of_line, ℕ, ◌∙◌}
 use Rattle.rl_line.proofs.Lines.FirstLineLemmas.{first_line-at}
 use Rattle.rl_line.proofs.gapped.Gapped.line_from.Goals as goal
 

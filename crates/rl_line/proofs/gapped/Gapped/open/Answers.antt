@@ -1,4 +1,4 @@
-use Rattle.rl_line.proofs.Common.{List, ℕ, true, ◌≡◌, ◌+◌, ◌-◌, ◌++◌, ◌∙◌, ap, sym, subst, arith, length, take, replicate, length-replicate, string_bytes, IsAround, IsTableAround, IsUtf8-string_bytes}
+use Rattle.rl_line.proofs.Common.{IsAround, IsTableAround, IsUtf8-string_bytes, List, ap, arith, length, length-replicate, replicate, string_bytes, subst, sym, take, true, ℕ, ◌++◌, ◌+◌, ◌-◌, ◌∙◌, ◌≡◌}
 use Rattle.rl_line.proofs.Lines.GapLemmas.{opened}
 use Rattle.rl_line.proofs.gapped.Gapped.open.Goals as goal
 

@@ -1,12 +1,12 @@
-use Rattle.rl_line.proofs.Common.{rules, refl, ℕ, ◌≡◌, ◌-◌, ◌<◌, ◌++◌, ◌∷◌, [], List, min, length, ap, sym, subst, ◌∙◌, arith, append_assoc, append-nil, insert_slice, IsCharBoundary, err_from_is_err_and, IsCharBoundary-from_ascii, InsertStr, parts, pushed, put_spaces, spaces, Line, Step, Taken}
+use Rattle.rl_line.proofs.Common.{InsertStr, IsCharBoundary, IsCharBoundary-from_ascii, Line, List, Step, Taken, [], ap, append-nil, append_assoc, arith, err_from_is_err_and, insert_slice, length, min, parts, pushed, put_spaces, refl, rules, spaces, subst, sym, ℕ, ◌++◌, ◌-◌, ◌<◌, ◌∙◌, ◌∷◌, ◌≡◌}
 use Rattle.rl_base.proofs.Clusters.ClusterLemmas.{slice_range-front}
 use Rattle.rl_base.proofs.Texts.TextLemmas.{IsCharBoundary-before}
 use Rattle.rl_line.proofs.Lines.RoomyLemmas.{HasRoom-inserted, length-inserted}
 use Rattle.rl_line.proofs.Plans.IndentLemmas.{IsAscii-spaces, IsCharBoundary-pushed, length-spaces, pushed-none, pushed-pushed, put_spaces-next, take-spaces}
 use Rattle.rl_line.proofs.Plans.PlanLemmas.{Halted-after, Taken-append, Taken-nil}
 use Rattle.rl_line.proofs.gapped.Gapped.put_spaces.Given.{Over}
-use Rattle.rl_line.proofs.gapped.Gapped.put_spaces.Goals as goal
 use Rattle.rl_line.proofs.gapped.Gapped.put_spaces.Goals.{After-range-part}
+use Rattle.rl_line.proofs.gapped.Gapped.put_spaces.Goals as goal
 
 pub range-part-requires-clause-end_boundary : goal.range-part-requires-clause-end_boundary
 range-part-requires-clause-end_boundary g c = IsCharBoundary-from_ascii (spaces 32) c.min.result (IsAscii-spaces 32) (search rules)

@@ -1,4 +1,4 @@
-use Rattle.rl_line.proofs.Common.{◌≡◌, ◌≤◌, ◌+◌, length, List, ◌++◌, IsCharBoundary, parts, pushed, put_spaces, Step, Taken}
+use Rattle.rl_line.proofs.Common.{IsCharBoundary, List, Step, Taken, length, parts, pushed, put_spaces, ◌++◌, ◌+◌, ◌≡◌, ◌≤◌}
 use Rattle.rl_line.proofs.gapped.Gapped.put_spaces.Given as goal
 
 -- the steps so far with those that are left are the whole plan's

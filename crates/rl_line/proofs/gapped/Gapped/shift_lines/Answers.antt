@@ -1,11 +1,11 @@
-use Rattle.rl_line.proofs.Common.{ℕ, ◌+◌, ◌<◌, ◌∙◌, ap, arith, drop, length, lines, err_from_is_err_and, text_of_line}
-use Rattle.rl_line.specs.Indents.{spaces_each}
+use Rattle.rl_line.proofs.Common.{ap, arith, drop, err_from_is_err_and, length, lines, text_of_line, ℕ, ◌+◌, ◌<◌, ◌∙◌}
 use Rattle.rl_base.proofs.Texts.LineLemmas.{count_of_lines}
 use Rattle.rl_line.proofs.Lines.FirstLineLemmas.{IsCharBoundary-start_of_line, first-of_line}
 use Rattle.rl_line.proofs.Plans.IndentLemmas.{LinesDone-halted, LinesDone-more, LinesDone-next, one-more}
 use Rattle.rl_line.proofs.gapped.Gapped.shift_lines.Given.{Over}
-use Rattle.rl_line.proofs.gapped.Gapped.shift_lines.Goals as goal
 use Rattle.rl_line.proofs.gapped.Gapped.shift_lines.Goals.{After-pos-cursor}
+use Rattle.rl_line.specs.Indents.{spaces_each}
+use Rattle.rl_line.proofs.gapped.Gapped.shift_lines.Goals as goal
 
 within : (g : Over) (c : After-pos-cursor g) → c.loop-k.k < length (lines c.loop-k.self.roomy.line.text)
 within g c = omega (arith, c.loop-k-test.true, c.loop-k.invariant.done.count, c.requires.within, count_of_lines c.loop-k.self.roomy.line.text)

@@ -1,6 +1,6 @@
-use Rattle.rl_line.proofs.Common.{◌≡◌, ◌≤◌, ◌+◌, ◌-◌, ◌*◌, length, start_of_line}
-use Rattle.rl_line.specs.Indents.{shift_lines_plan, spaces_each}
+use Rattle.rl_line.proofs.Common.{length, start_of_line, ◌*◌, ◌+◌, ◌-◌, ◌≡◌, ◌≤◌}
 use Rattle.rl_line.proofs.Plans.IndentLemmas.{LinesDone}
+use Rattle.rl_line.specs.Indents.{shift_lines_plan, spaces_each}
 use Rattle.rl_line.proofs.gapped.Gapped.shift_lines.Given as goal
 
 abbrev pub invariant-loop-k : goal.invariant-loop-k

@@ -1,9 +1,9 @@
-use Rattle.rl_line.proofs.Common.{List, ℕ, ◌≡◌, ◌≤◌, ◌+◌, ◌-◌, ◌++◌, ◌∙◌, ap, ap₂, sym, subst, arith, length, take, drop, max, take_at, remove_range, replace_range, line_of, IsAround}
-use Rattle.rl_line.proofs.Lines.RoomyLemmas.{length-swapped}
+use Rattle.rl_line.proofs.Common.{IsAround, List, ap, ap₂, arith, drop, length, line_of, max, remove_range, replace_range, subst, sym, take, take_at, ℕ, ◌++◌, ◌+◌, ◌-◌, ◌∙◌, ◌≡◌, ◌≤◌}
 use Rattle.rl_line.proofs.Lines.GapLemmas.{IsAround-stepped, length-gapped}
+use Rattle.rl_line.proofs.Lines.RoomyLemmas.{length-swapped}
+use Rattle.rl_line.proofs.gapped.Gapped.swap_in.Goals.{After-max-limit}
 use Rattle.rl_line.specs.Gapped.{Gapped}
 use Rattle.rl_line.proofs.gapped.Gapped.swap_in.Goals as goal
-use Rattle.rl_line.proofs.gapped.Gapped.swap_in.Goals.{After-max-limit}
 
 -- the bytes after the part went in
 abbrev bytes : After-max-limit → List ℕ

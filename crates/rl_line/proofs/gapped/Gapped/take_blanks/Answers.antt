@@ -1,9 +1,9 @@
-use Rattle.rl_line.proofs.Common.{List, ℕ, ◌≡◌, ◌+◌, ◌-◌, ◌∙◌, ap, sym, drop, length, slice_range, true, err_from_is_err_and, text_of_line, Delete, Forward, Line, line_plan, pulled, single}
+use Rattle.rl_line.proofs.Common.{Delete, Forward, Line, List, ap, drop, err_from_is_err_and, length, line_plan, pulled, single, slice_range, sym, text_of_line, true, ℕ, ◌+◌, ◌-◌, ◌∙◌, ◌≡◌}
 use Rattle.rl_line.proofs.Plans.IndentLemmas.{line_plan-dedent}
 use Rattle.rl_line.proofs.Plans.PlanLemmas.{Completed-single, Halted-single}
 use Rattle.rl_line.proofs.gapped.Gapped.take_blanks.Given.{Over}
-use Rattle.rl_line.proofs.gapped.Gapped.take_blanks.Goals as goal
 use Rattle.rl_line.proofs.gapped.Gapped.take_blanks.Goals.{After-pulled-cursor}
+use Rattle.rl_line.proofs.gapped.Gapped.take_blanks.Goals as goal
 
 -- the one step of the plan
 planned : (g : Over) (c : After-pulled-cursor g) → line_plan true c.args.amount (text_of_line (drop c.args.at c.args.self.now.roomy.line.text) 0) c.args.at c.args.self.now.roomy.line.cursor

@@ -1,4 +1,4 @@
-use Rattle.rl_line.proofs.Common.{ap, rules, subst, IsUtf8}
+use Rattle.rl_line.proofs.Common.{IsUtf8, ap, rules, subst}
 use Rattle.rl_base.proofs.Texts.EventLemmas.{apply-Delete}
 use Rattle.rl_line.proofs.Plans.PlanLemmas.{Taken-one}
 use Rattle.rl_line.specs.Gapped.{Gapped}

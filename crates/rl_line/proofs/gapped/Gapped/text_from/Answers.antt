@@ -1,7 +1,7 @@
-use Rattle.rl_line.proofs.Common.{◌≡◌, ◌∙◌, ap, sym, subst, drop, remove_range, IsUtf8, IsUtf8-drop}
+use Rattle.rl_line.proofs.Common.{IsUtf8, IsUtf8-drop, ap, drop, remove_range, subst, sym, ◌∙◌, ◌≡◌}
+use Rattle.rl_line.proofs.gapped.Gapped.text_from.Goals.{After-beside-bytes}
 use Rattle.rl_line.specs.Gapped.{Gapped}
 use Rattle.rl_line.proofs.gapped.Gapped.text_from.Goals as goal
-use Rattle.rl_line.proofs.gapped.Gapped.text_from.Goals.{After-beside-bytes}
 
 is : (c : After-beside-bytes) → c.beside-bytes.result.now ≡ drop c.args.at c.args.self.now.roomy.line.text
 is c =

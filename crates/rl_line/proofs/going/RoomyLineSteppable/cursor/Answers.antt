@@ -1,4 +1,4 @@
-use Rattle.rl_line.proofs.Common.{◌≤◌, ap, subst, length, IsUtf8, IsUtf8-string_bytes, RoomyLine, arith}
+use Rattle.rl_line.proofs.Common.{IsUtf8, IsUtf8-string_bytes, RoomyLine, ap, arith, length, subst, ◌≤◌}
 use Rattle.rl_line.proofs.going.RoomyLineSteppable.cursor.Goals as goal
 
 pub returns-clause-utf8 : goal.returns-clause-utf8

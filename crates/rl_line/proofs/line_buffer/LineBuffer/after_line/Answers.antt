@@ -1,7 +1,7 @@
-use Rattle.rl_line.proofs.Common.{◌≡◌, arith, last_line}
-use Rattle.rl_line.proofs.Lines.LineReadLemmas.{EndsAt, ends_at, last-ends, EndsAt-start, EndsAt-after}
-use Rattle.rl_line.proofs.line_buffer.LineBuffer.after_line.Goals as goal
+use Rattle.rl_line.proofs.Common.{arith, last_line, ◌≡◌}
+use Rattle.rl_line.proofs.Lines.LineReadLemmas.{EndsAt, EndsAt-after, EndsAt-start, ends_at, last-ends}
 use Rattle.rl_line.proofs.line_buffer.LineBuffer.after_line.Goals.{After-start}
+use Rattle.rl_line.proofs.line_buffer.LineBuffer.after_line.Goals as goal
 
 -- the newline at its end
 next : (c : After-start) → EndsAt c.args.self.now.text c.args.k c.start.result

@@ -1,4 +1,4 @@
-use Rattle.rl_line.proofs.Common.{rules, IsCharBoundary-start}
+use Rattle.rl_line.proofs.Common.{IsCharBoundary-start, rules}
 use Rattle.rl_line.proofs.line_buffer.LineBuffer.covered.Goals as goal
 
 pub unless_empty-requires-in-WholeBuffer-clause-start :

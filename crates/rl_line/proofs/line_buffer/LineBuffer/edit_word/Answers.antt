@@ -1,4 +1,4 @@
-use Rattle.rl_line.proofs.Common.{rules, ◌+◌, true, slice_range, refl, ap, ◌∙◌, err_from_is_err_and, exchange_plan, edit_word_plan, Plan, answering}
+use Rattle.rl_line.proofs.Common.{Plan, answering, ap, edit_word_plan, err_from_is_err_and, exchange_plan, refl, rules, slice_range, true, ◌+◌, ◌∙◌}
 use Rattle.rl_line.proofs.Plans.LetterCaseLemmas.{edit_word_plan-some}
 use Rattle.rl_line.proofs.Plans.PlanLemmas.{Done-as, Done-steps, Stopped-as}
 use Rattle.rl_line.proofs.line_buffer.LineBuffer.edit_word.Goals as goal

@@ -1,7 +1,7 @@
-use Rattle.rl_line.proofs.Common.{refl, sym, ap, arith, ◌∙◌, ◌+◌, leb, le-leb, length, slice_range}
-use Rattle.rl_line.specs.Plan.{longest_by}
+use Rattle.rl_line.proofs.Common.{ap, arith, le-leb, leb, length, refl, slice_range, sym, ◌+◌, ◌∙◌}
 use Rattle.rl_line.proofs.Plans.LetterCaseLemmas.{edit_word_plan-nothing, edit_word_plan-some}
 use Rattle.rl_line.proofs.Plans.LimitLemmas.{longest-exchange}
+use Rattle.rl_line.specs.Plan.{longest_by}
 use Rattle.rl_line.proofs.line_buffer.LineBuffer.edit_word_fits.Goals as goal
 
 pub returns-in_default-clause-ok : goal.returns-in_default-clause-ok

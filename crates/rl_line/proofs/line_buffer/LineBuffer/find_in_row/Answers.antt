@@ -1,6 +1,6 @@
-use Rattle.std.proofs.Common.{ap, ◌≡◌, ◌+◌, ℕ, ◌∙◌}
 use Rattle.rl_base.specs.Screen.{place_at, screen_from}
 use Rattle.rl_line.proofs.Lines.RowLemmas.{within-height}
+use Rattle.std.proofs.Common.{ap, ℕ, ◌+◌, ◌∙◌, ◌≡◌}
 use Rattle.rl_line.proofs.line_buffer.LineBuffer.find_in_row.Goals as goal
 
 pub returns-then-place-rest-clause-ok : goal.returns-then-place-rest-clause-ok

@@ -1,10 +1,10 @@
-use Rattle.rl_line.proofs.Common.{arith, ◌≡◌, ◌+◌, [], ◌∷◌, Some, unwrap_or, List, ℕ, length, sym, ap, subst, ◌∙◌, err_from_is_err_and, Any, IsUtf8, entry_to_undo, place, Line, NeedsRoom, inverse, new_text, old_text, cursor_after, line_back, texts_back, HasRoom, replace_range}
-use Rattle.rl_line.proofs.Records.ChangeLemmas.{place-entry_to_undo}
-use Rattle.rl_line.proofs.Records.GoingLemmas.{GoesOver, goes_over}
-use Rattle.rl_line.proofs.Records.RoomLemmas.{NeedsRoom-one}
+use Rattle.rl_line.proofs.Common.{Any, HasRoom, IsUtf8, Line, List, NeedsRoom, Some, [], ap, arith, cursor_after, entry_to_undo, err_from_is_err_and, inverse, length, line_back, new_text, old_text, place, replace_range, subst, sym, texts_back, unwrap_or, ℕ, ◌+◌, ◌∙◌, ◌∷◌, ◌≡◌}
+use Rattle.rl_line.proofs.Changes.ChangeLemmas.{place-entry_to_undo}
+use Rattle.rl_line.proofs.Changes.GoingLemmas.{GoesOver, goes_over}
+use Rattle.rl_line.proofs.Changes.RoomLemmas.{NeedsRoom-one}
 use Rattle.rl_line.proofs.line_buffer.LineBuffer.go_over_one.Given.{Over}
-use Rattle.rl_line.proofs.line_buffer.LineBuffer.go_over_one.Goals as goal
 use Rattle.rl_line.proofs.line_buffer.LineBuffer.go_over_one.Goals.{After-texts, After-unwrap_or-after}
+use Rattle.rl_line.proofs.line_buffer.LineBuffer.go_over_one.Goals as goal
 
 at_place : (g : Over) (c : After-texts g) → place (entry_to_undo c.args.way c.args.change.now) ≡ Some c.in-Some.at
 at_place g c = place-entry_to_undo c.args.way c.args.change.now ∙ sym c.place.ensures ∙ c.in-Some.is

@@ -1,9 +1,9 @@
-use Rattle.rl_line.proofs.Common.{ℕ, ◌≡◌, ◌∙◌, ◌+◌, ◌<◌, List, ap, arith, drop, length, lines, lt-ltb, nat_lt, sym, subst, slice_range, text_of_line, IsCharBoundary, IsUtf8}
+use Rattle.rl_line.proofs.Common.{IsCharBoundary, IsUtf8, List, ap, arith, drop, length, lines, lt-ltb, nat_lt, slice_range, subst, sym, text_of_line, ℕ, ◌+◌, ◌<◌, ◌∙◌, ◌≡◌}
 use Rattle.rl_base.proofs.Texts.LineLemmas.{count_of_lines, start-next}
 use Rattle.rl_line.proofs.Lines.FirstLineLemmas.{IsCharBoundary-start_of_line, first-of_line}
 use Rattle.rl_line.proofs.Plans.IndentLemmas.{blanks_of, blanks_of-next, blanks_of-none, dedents-change}
-use Rattle.rl_line.proofs.line_buffer.LineBuffer.has_blanks.Goals as goal
 use Rattle.rl_line.proofs.line_buffer.LineBuffer.has_blanks.Goals.{After-as_str, After-blanks}
+use Rattle.rl_line.proofs.line_buffer.LineBuffer.has_blanks.Goals as goal
 
 pub loop-k-init : goal.loop-k-init
 loop-k-init c = record {

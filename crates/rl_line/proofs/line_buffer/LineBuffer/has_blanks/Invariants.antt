@@ -1,6 +1,6 @@
-use Rattle.rl_line.proofs.Common.{◌≡◌, lines, nat_lt, slice_range, start_of_line, true}
-use Rattle.rl_line.specs.Indents.{indent_changes}
+use Rattle.rl_line.proofs.Common.{lines, nat_lt, slice_range, start_of_line, true, ◌≡◌}
 use Rattle.rl_line.proofs.Plans.IndentLemmas.{blanks_of}
+use Rattle.rl_line.specs.Indents.{indent_changes}
 use Rattle.rl_line.proofs.line_buffer.LineBuffer.has_blanks.Given as goal
 
 -- the lines so far have no blanks that would go

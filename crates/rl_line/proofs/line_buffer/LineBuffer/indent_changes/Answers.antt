@@ -1,6 +1,6 @@
-use Rattle.rl_line.proofs.Common.{◌∙◌, ap, sym}
-use Rattle.rl_line.specs.Indents.{indent_changes}
+use Rattle.rl_line.proofs.Common.{ap, sym, ◌∙◌}
 use Rattle.rl_line.proofs.Plans.IndentLemmas.{indents-change}
+use Rattle.rl_line.specs.Indents.{indent_changes}
 use Rattle.rl_line.proofs.line_buffer.LineBuffer.indent_changes.Goals as goal
 
 pub returns-then-not-dedent : goal.returns-then-not-dedent

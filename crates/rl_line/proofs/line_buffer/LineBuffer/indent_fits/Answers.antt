@@ -1,4 +1,4 @@
-use Rattle.rl_line.proofs.Common.{◌∙◌, subst, ◌≤◌, length}
+use Rattle.rl_line.proofs.Common.{length, subst, ◌∙◌, ◌≤◌}
 use Rattle.rl_line.proofs.Plans.LimitLemmas.{dedents-fit}
 use Rattle.rl_line.proofs.line_buffer.LineBuffer.indent_fits.Goals as goal
 

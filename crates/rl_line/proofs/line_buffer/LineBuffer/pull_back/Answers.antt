@@ -1,4 +1,4 @@
-use Rattle.rl_line.proofs.Common.{rules, refl, ℕ, ◌+◌, ◌≡◌, ap, ap₂, length, sym, ◌∙◌, remove_range, Line, text_in, end_of_cluster, pull_back_plan}
+use Rattle.rl_line.proofs.Common.{Line, ap, ap₂, end_of_cluster, length, pull_back_plan, refl, remove_range, rules, sym, text_in, ℕ, ◌+◌, ◌∙◌, ◌≡◌}
 use Rattle.rl_line.proofs.Lines.RoomyLemmas.{HasRoom-moved}
 use Rattle.rl_line.proofs.Plans.PlanLemmas.{Done-followed, Done-single}
 use Rattle.rl_line.proofs.Plans.TranspositionLemmas.{pull_back_plan-is}

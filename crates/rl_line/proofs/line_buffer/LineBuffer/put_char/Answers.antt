@@ -1,4 +1,4 @@
-use Rattle.rl_line.proofs.Common.{arith, ap, length, encode_utf8, Line}
+use Rattle.rl_line.proofs.Common.{Line, ap, arith, encode_utf8, length}
 use Rattle.rl_line.proofs.Lines.RoomyLemmas.{HasRoom-inserted}
 use Rattle.rl_line.proofs.line_buffer.LineBuffer.put_char.Goals as goal
 

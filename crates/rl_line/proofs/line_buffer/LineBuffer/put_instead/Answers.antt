@@ -1,4 +1,4 @@
-use Rattle.rl_line.proofs.Common.{rules, ap, subst, ◌∙◌, IsUtf8, Line}
+use Rattle.rl_line.proofs.Common.{IsUtf8, Line, ap, rules, subst, ◌∙◌}
 use Rattle.rl_base.proofs.Texts.EventLemmas.{apply-Replace}
 use Rattle.rl_base.proofs.Texts.TextLemmas.{IsCharBoundary-past_replacement}
 use Rattle.rl_line.proofs.Plans.PlanLemmas.{Taken-one}

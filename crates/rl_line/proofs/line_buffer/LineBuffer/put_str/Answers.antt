@@ -1,4 +1,4 @@
-use Rattle.rl_line.proofs.Common.{arith, ◌∙◌, ap, length, Line, refl, inl, err_from_is_err_and}
+use Rattle.rl_line.proofs.Common.{Line, ap, arith, err_from_is_err_and, inl, length, refl, ◌∙◌}
 use Rattle.rl_line.proofs.Lines.RoomyLemmas.{HasRoom-inserted}
 use Rattle.rl_line.proofs.Plans.PlanLemmas.{StepOutcome-with_room}
 use Rattle.rl_line.proofs.line_buffer.LineBuffer.put_str.Goals as goal

@@ -1,7 +1,7 @@
-use Rattle.std.proofs.Common.{rules, arith, None, Some, ◌≡◌, ◌+◌, ◌-◌, ℕ, unwrap_or, ap, ◌∙◌}
 use Rattle.rl_base.specs.Lines.{line_number}
-use Rattle.rl_line.specs.Rows.{cell_after, near_above, place_in_row}
 use Rattle.rl_line.proofs.Lines.RowLemmas.{above-own, comes-above, goes-above, own-cell, stops-above}
+use Rattle.rl_line.specs.Rows.{cell_after, near_above, place_in_row}
+use Rattle.std.proofs.Common.{None, Some, ap, arith, rules, unwrap_or, ℕ, ◌+◌, ◌-◌, ◌∙◌, ◌≡◌}
 use Rattle.rl_line.proofs.line_buffer.LineBuffer.row_above.Goals as goal
 
 pub loop-row-init : goal.loop-row-init

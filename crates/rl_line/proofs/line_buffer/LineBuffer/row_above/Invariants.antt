@@ -1,7 +1,7 @@
-use Rattle.std.proofs.Common.{◌≤◌, ℕ, Option}
-use Rattle.std.specs.Str.{IsCharBoundary}
 use Rattle.rl_base.specs.Lines.{end_of_line, last_line, line_number}
 use Rattle.rl_line.specs.Rows.{Above, cell_after, near_above}
+use Rattle.std.proofs.Common.{Option, ℕ, ◌≤◌}
+use Rattle.std.specs.Str.{IsCharBoundary}
 use Rattle.rl_line.proofs.line_buffer.LineBuffer.row_above.Given as goal
 
 -- what lies so many rows above the row that was come to lies n rows above the cursor's

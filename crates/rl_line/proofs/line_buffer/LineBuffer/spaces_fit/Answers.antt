@@ -1,8 +1,8 @@
-use Rattle.rl_line.proofs.Common.{◌≡◌, ◌<◌, ◌≤◌, ◌+◌, ◌-◌, ◌*◌, ◌^◌, ◌∙◌, ℕ, ap, ap₂, sym, arith, leb, nat_tests, length, lt-leb, indent_plan, false}
-use Rattle.rl_line.specs.Plan.{longest_by}
+use Rattle.rl_line.proofs.Common.{ap, ap₂, arith, false, indent_plan, leb, length, lt-leb, nat_tests, sym, ℕ, ◌*◌, ◌+◌, ◌-◌, ◌<◌, ◌^◌, ◌∙◌, ◌≡◌, ◌≤◌}
 use Rattle.rl_line.proofs.Plans.LimitLemmas.{spaces-longest}
-use Rattle.rl_line.proofs.line_buffer.LineBuffer.spaces_fit.Goals as goal
 use Rattle.rl_line.proofs.line_buffer.LineBuffer.spaces_fit.Goals.{After-from}
+use Rattle.rl_line.specs.Plan.{longest_by}
+use Rattle.rl_line.proofs.line_buffer.LineBuffer.spaces_fit.Goals as goal
 
 grown : (c : After-from) → longest_by c.args.self.now (indent_plan c.args.self.now c.args.mvt.now c.args.amount false)
     ≡ length c.args.self.now.text + c.args.amount * (c.indented_lines-lines.result.end - c.indented_lines-lines.result.start)

@@ -1,7 +1,7 @@
-use Rattle.rl_line.proofs.Common.{◌≡◌, ◌-◌, ◌+◌, ap, ◌∙◌, arith, IsCharBoundary-start, start_of_line}
-use Rattle.rl_line.proofs.Lines.LineReadLemmas.{EndsAt, ends_at, EndsAt-start, EndsAt-stop}
-use Rattle.rl_line.proofs.line_buffer.LineBuffer.start_of_line.Goals as goal
+use Rattle.rl_line.proofs.Common.{IsCharBoundary-start, ap, arith, start_of_line, ◌+◌, ◌-◌, ◌∙◌, ◌≡◌}
+use Rattle.rl_line.proofs.Lines.LineReadLemmas.{EndsAt, EndsAt-start, EndsAt-stop, ends_at}
 use Rattle.rl_line.proofs.line_buffer.LineBuffer.start_of_line.Goals.{After-start}
+use Rattle.rl_line.proofs.line_buffer.LineBuffer.start_of_line.Goals as goal
 
 -- the newline above the line
 above : (c : After-start) → EndsAt c.args.self.now.text (c.args.k - 1) c.start.result

@@ -1,9 +1,9 @@
-use Rattle.rl_line.proofs.Common.{◌≡◌, inl, ap, subst, ◌∙◌, err_from_is_err_and, replace_range, IsUtf8, exchange_plan, Line, Taken, swap_plan, HasRoom}
-use Rattle.rl_line.proofs.Plans.PlanLemmas.{Done-steps, Taken-append, Halted-front, Halted-back}
-use Rattle.rl_line.proofs.Plans.TranspositionLemmas.{HalfSwapped, HasRoom-swapped, last_steps, swap-front, swap-halves, places}
+use Rattle.rl_line.proofs.Common.{HasRoom, IsUtf8, Line, Taken, ap, err_from_is_err_and, exchange_plan, inl, replace_range, subst, swap_plan, ◌∙◌, ◌≡◌}
+use Rattle.rl_line.proofs.Plans.PlanLemmas.{Done-steps, Halted-back, Halted-front, Taken-append}
+use Rattle.rl_line.proofs.Plans.TranspositionLemmas.{HalfSwapped, HasRoom-swapped, last_steps, places, swap-front, swap-halves}
 use Rattle.rl_line.proofs.line_buffer.LineBuffer.swap.Given.{Over}
-use Rattle.rl_line.proofs.line_buffer.LineBuffer.swap.Goals as goal
 use Rattle.rl_line.proofs.line_buffer.LineBuffer.swap.Goals.{After-as_str-3, After-find_room_instead}
+use Rattle.rl_line.proofs.line_buffer.LineBuffer.swap.Goals as goal
 
 -- finding room leaves the line as it is
 kept : (g : Over) (c : After-find_room_instead g)

@@ -1,6 +1,6 @@
-use Rattle.rl_line.proofs.Common.{rules, sym, ap, arith, le-leb}
-use Rattle.rl_line.specs.Plan.{longest_by}
+use Rattle.rl_line.proofs.Common.{ap, arith, le-leb, rules, sym}
 use Rattle.rl_line.proofs.Plans.TranspositionLemmas.{transpose-stays}
+use Rattle.rl_line.specs.Plan.{longest_by}
 use Rattle.rl_line.proofs.line_buffer.LineBuffer.transpose_words_fits.Goals as goal
 
 pub returns-then-not-are_two : goal.returns-then-not-are_two

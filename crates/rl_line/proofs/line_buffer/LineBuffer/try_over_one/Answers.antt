@@ -1,10 +1,10 @@
-use Rattle.rl_line.proofs.Common.{arith, ◌≡◌, ◌+◌, [], ◌∷◌, Some, true, is_some, unwrap_or, List, ℕ, length, refl, sym, ap, subst, ◌∙◌, err_from_is_err_and, Any, IsCharBoundary, IsUtf8, entry_to_undo, place, Line, NeedsRoom, inverse, new_text, old_text, cursor_after, line_back, text_after, texts_back, HasRoom, replace_range}
-use Rattle.rl_line.proofs.Records.ChangeLemmas.{leads-by, none-reached, place-entry_to_undo}
-use Rattle.rl_line.proofs.Records.GoingLemmas.{GoesOver, goes_over}
-use Rattle.rl_line.proofs.Records.RoomLemmas.{NeedsRoom-one}
-use Rattle.rl_line.proofs.Records.UndoLemmas.{line_back-is_some}
-use Rattle.rl_line.proofs.line_buffer.LineBuffer.try_over_one.Goals as goal
+use Rattle.rl_line.proofs.Common.{Any, HasRoom, IsCharBoundary, IsUtf8, Line, List, NeedsRoom, Some, [], ap, arith, cursor_after, entry_to_undo, err_from_is_err_and, inverse, is_some, length, line_back, new_text, old_text, place, refl, replace_range, subst, sym, text_after, texts_back, true, unwrap_or, ℕ, ◌+◌, ◌∙◌, ◌∷◌, ◌≡◌}
+use Rattle.rl_line.proofs.Changes.BackLemmas.{line_back-is_some}
+use Rattle.rl_line.proofs.Changes.ChangeLemmas.{leads-by, none-reached, place-entry_to_undo}
+use Rattle.rl_line.proofs.Changes.GoingLemmas.{GoesOver, goes_over}
+use Rattle.rl_line.proofs.Changes.RoomLemmas.{NeedsRoom-one}
 use Rattle.rl_line.proofs.line_buffer.LineBuffer.try_over_one.Goals.{After-leads_by, After-unwrap_or-after}
+use Rattle.rl_line.proofs.line_buffer.LineBuffer.try_over_one.Goals as goal
 
 at_place : (c : After-leads_by) → place (entry_to_undo c.args.way c.args.change.now) ≡ Some c.in-Some.at
 at_place c = place-entry_to_undo c.args.way c.args.change.now ∙ sym c.place.ensures ∙ c.in-Some.is

@@ -1,4 +1,4 @@
-use Rattle.rl_line.proofs.Common.{arith, rules, refl, inr, ap, length, err_from_is_err_and, IsCharBoundary-start, Line}
+use Rattle.rl_line.proofs.Common.{IsCharBoundary-start, Line, ap, arith, err_from_is_err_and, inr, length, refl, rules}
 use Rattle.rl_line.proofs.Plans.EditLemmas.{update_plan-is}
 use Rattle.rl_line.proofs.Plans.PlanLemmas.{Done-followed, Done-single, Halted-before}
 use Rattle.rl_line.proofs.line_buffer.LineBuffer.update.Goals as goal

@@ -1,4 +1,4 @@
-use Rattle.rl_line.proofs.Common.{rules, refl, err_from_is_err_and}
+use Rattle.rl_line.proofs.Common.{err_from_is_err_and, refl, rules}
 use Rattle.rl_line.proofs.Plans.EditLemmas.{yank_plan-some}
 use Rattle.rl_line.proofs.Plans.PlanLemmas.{Halted-single}
 use Rattle.rl_line.proofs.line_buffer.LineBuffer.yank.Goals as goal

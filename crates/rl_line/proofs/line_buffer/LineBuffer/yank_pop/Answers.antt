@@ -1,6 +1,6 @@
-use Rattle.rl_line.proofs.Common.{rules, refl, inr, err_from_is_err_and}
+use Rattle.rl_line.proofs.Common.{err_from_is_err_and, inr, refl, rules}
 use Rattle.rl_line.proofs.Plans.EditLemmas.{yank_pop_plan-is}
-use Rattle.rl_line.proofs.Plans.PlanLemmas.{Outcome-followed, Halted-before}
+use Rattle.rl_line.proofs.Plans.PlanLemmas.{Halted-before, Outcome-followed}
 use Rattle.rl_line.proofs.line_buffer.LineBuffer.yank_pop.Goals as goal
 
 pub returns-in_err-take_out : goal.returns-in_err-take_out

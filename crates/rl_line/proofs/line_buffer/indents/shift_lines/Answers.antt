@@ -1,4 +1,4 @@
-use Rattle.rl_line.proofs.Common.{◌∙◌, ap, arith, length, lines, err_from_is_err_and, length-between, Line}
+use Rattle.rl_line.proofs.Common.{Line, ap, arith, err_from_is_err_and, length, length-between, lines, ◌∙◌}
 use Rattle.rl_base.proofs.Texts.LineLemmas.{count_of_lines, lies}
 use Rattle.rl_line.proofs.Plans.IndentLemmas.{Halted-no_memory}
 use Rattle.rl_line.proofs.line_buffer.indents.shift_lines.Goals as goal

@@ -1,4 +1,4 @@
-use Rattle.rl_line.proofs.Common.{◌++◌, ap, ◌∙◌, string_bytes}
+use Rattle.rl_line.proofs.Common.{ap, string_bytes, ◌++◌, ◌∙◌}
 use Rattle.rl_base.proofs.Clusters.ClusterLemmas.{slice_range-front}
 use Rattle.rl_line.proofs.Plans.LetterCaseLemmas.{capitalized-ascii}
 use Rattle.rl_line.proofs.line_buffer.letter_case.capitalized.Goals as goal

@@ -1,7 +1,7 @@
-use Rattle.rl_line.proofs.Common.{Some, None, slice_get, sym, ap, ◌∙◌, arith, nth_from_yields_List, take_all, clusters, bytes_in}
-use Rattle.unicode_segmentation.proofs.SegmentsLemmas.{YieldsList-from_gives}
+use Rattle.rl_line.proofs.Common.{None, Some, ap, arith, bytes_in, clusters, nth_from_yields_List, slice_get, sym, take_all, ◌∙◌}
 use Rattle.rl_base.proofs.Clusters.ClusterLemmas.{bytes_in-clusters}
-use Rattle.rl_base.proofs.Texts.LineLemmas.{place-of_nth, few-from_none, IsCharBoundary-nth}
+use Rattle.rl_base.proofs.Texts.LineLemmas.{IsCharBoundary-nth, few-from_none, place-of_nth}
+use Rattle.unicode_segmentation.proofs.SegmentsLemmas.{YieldsList-from_gives}
 use Rattle.rl_line.proofs.line_buffer.line_motions.place_of_column.Goals as goal
 
 pub returns-in-Some-clause-value : goal.returns-in-Some-clause-value

@@ -1,4 +1,4 @@
-use Rattle.rl_line.proofs.Common.{◌-◌, length, leb, leb-true, leb-false, subst, sym, ◌∙◌, rules, IsPartitionPoint-from_clause, IsTable}
+use Rattle.rl_line.proofs.Common.{IsPartitionPoint-from_clause, IsTable, leb, leb-false, leb-true, length, rules, subst, sym, ◌-◌, ◌∙◌}
 use Rattle.rl_line.proofs.Lines.LineReadLemmas.{IsPartitionedBy-before, IsPartitionedBy-from, number-before, number-from}
 use Rattle.rl_line.proofs.line_starts.LineStarts.line_number.Goals as goal
 

@@ -1,4 +1,4 @@
-use Rattle.rl_line.proofs.Common.{◌<◌, length, arith, get_or_read}
+use Rattle.rl_line.proofs.Common.{arith, get_or_read, length, ◌<◌}
 use Rattle.rl_line.proofs.Lines.LineStartLemmas.{read-from, read-within}
 use Rattle.rl_line.proofs.line_starts.LineStarts.start.Goals as goal
 

@@ -1,9 +1,9 @@
-use Rattle.rl_line.proofs.Common.{arith, ◌≡◌, ◌≤◌, ◌+◌, ◌-◌, ap, length, insert_slice, subst, sym, ◌∙◌, replace_range, IsUtf8, stands_at}
+use Rattle.rl_line.proofs.Common.{IsUtf8, ap, arith, insert_slice, length, replace_range, stands_at, subst, sym, ◌+◌, ◌-◌, ◌∙◌, ◌≡◌, ◌≤◌}
 use Rattle.rl_base.proofs.Texts.TextLemmas.{IsUtf8-replaced, stands_at-means}
-use Rattle.rl_line.proofs.Records.PatchLemmas.{patched-stands, patched-swap}
-use Rattle.rl_line.proofs.Records.ReachLemmas.{put_instead}
-use Rattle.rl_line.proofs.patched.Patched.swap.Goals as goal
+use Rattle.rl_line.proofs.Changes.ReachLemmas.{put_instead}
+use Rattle.rl_line.proofs.Changes.PatchLemmas.{patched-stands, patched-swap}
 use Rattle.rl_line.proofs.patched.Patched.swap.Goals.{After-stands_at, In_ok-insert}
+use Rattle.rl_line.proofs.patched.Patched.swap.Goals as goal
 
 -- the text is as it was once the part reaches both places
 same : (c : After-stands_at) → replace_range c.self.inside.text.now c.reach.new.from c.reach.new.to c.reach.new.part ≡ c.args.self.now

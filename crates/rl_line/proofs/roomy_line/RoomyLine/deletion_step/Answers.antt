@@ -1,4 +1,4 @@
-use Rattle.rl_line.proofs.Common.{ap, rules, subst, IsUtf8, IsUtf8-string_bytes, RoomyLine}
+use Rattle.rl_line.proofs.Common.{IsUtf8, IsUtf8-string_bytes, RoomyLine, ap, rules, subst}
 use Rattle.rl_base.proofs.Texts.EventLemmas.{apply-Delete}
 use Rattle.rl_line.proofs.Plans.PlanLemmas.{Taken-one}
 use Rattle.rl_line.proofs.roomy_line.RoomyLine.deletion_step.Goals as goal

@@ -1,4 +1,4 @@
-use Rattle.rl_line.proofs.Records.WaitingLemmas.{Walks-dropped}
+use Rattle.rl_record.proofs.Records.WaitingLemmas.{Walks-dropped}
 use Rattle.rl_session.proofs.Sessions.SessionLemmas.{AtRest-tried}
 use Rattle.rl_session.proofs.session.Session.close_empty.Goals as goal
 

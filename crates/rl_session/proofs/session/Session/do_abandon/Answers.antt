@@ -1,6 +1,6 @@
 use Rattle.rl_session.proofs.Common.{◌∙◌}
-use Rattle.rl_line.proofs.Records.AbandonLemmas.{abandon-fits, abandoned-walks}
-use Rattle.rl_line.proofs.Records.WalkLemmas.{Walks-back}
+use Rattle.rl_record.proofs.Records.AbandonLemmas.{abandon-fits, abandoned-walks}
+use Rattle.rl_record.proofs.Records.WalkLemmas.{Walks-back}
 use Rattle.rl_session.proofs.Sessions.SessionLemmas.{grow-Abandoned}
 use Rattle.rl_session.proofs.session.Session.do_abandon.Goals as goal
 

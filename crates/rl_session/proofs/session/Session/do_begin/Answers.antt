@@ -1,4 +1,4 @@
-use Rattle.rl_line.proofs.Records.WalkLemmas.{Walks-begun}
+use Rattle.rl_record.proofs.Records.WalkLemmas.{Walks-begun}
 use Rattle.rl_session.proofs.Sessions.SessionLemmas.{AtRest-changed}
 use Rattle.rl_session.proofs.session.Session.do_begin.Goals as goal
 

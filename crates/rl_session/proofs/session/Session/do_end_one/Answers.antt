@@ -1,6 +1,6 @@
 use Rattle.rl_session.proofs.Common.{min}
-use Rattle.rl_line.specs.Units.{level}
-use Rattle.rl_line.proofs.Records.WalkLemmas.{Walks-closed}
+use Rattle.rl_record.specs.Units.{level}
+use Rattle.rl_record.proofs.Records.WalkLemmas.{Walks-closed}
 use Rattle.rl_session.proofs.Sessions.SessionLemmas.{AtRest-changed}
 use Rattle.rl_session.proofs.session.Session.do_end_one.Goals as goal
 

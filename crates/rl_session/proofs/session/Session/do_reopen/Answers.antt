@@ -1,4 +1,4 @@
-use Rattle.rl_line.proofs.Records.WalkLemmas.{Walks-reopened}
+use Rattle.rl_record.proofs.Records.WalkLemmas.{Walks-reopened}
 use Rattle.rl_session.proofs.Sessions.SessionLemmas.{AtRest-changed}
 use Rattle.rl_session.proofs.session.Session.do_reopen.Goals as goal
 

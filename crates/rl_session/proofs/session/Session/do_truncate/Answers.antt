@@ -1,5 +1,5 @@
 use Rattle.rl_session.proofs.Common.{◌≡◌, ◌≤◌, length, replays_to, rules, true}
-use Rattle.rl_line.proofs.Records.WalkLemmas.{Walks-truncated}
+use Rattle.rl_record.proofs.Records.WalkLemmas.{Walks-truncated}
 use Rattle.rl_session.proofs.Sessions.SessionLemmas.{AtRest-changed, replays-all}
 use Rattle.rl_session.proofs.session.Session.do_truncate.Goals as goal
 

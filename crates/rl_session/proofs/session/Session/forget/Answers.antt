@@ -1,6 +1,6 @@
 use Rattle.rl_session.proofs.Common.{Record, Ring, Walks, ap, subst, sym, ◌∙◌}
 use Rattle.rl_base.proofs.Ring.BoundLemmas.{killing-within}
-use Rattle.rl_line.proofs.Records.ForgettingLemmas.{Walks-forgotten}
+use Rattle.rl_record.proofs.Records.ForgettingLemmas.{Walks-forgotten}
 use Rattle.rl_session.proofs.session.Session.forget.Goals as goal
 
 pub invariant_of-self : goal.invariant_of-self

@@ -1,4 +1,4 @@
-use Rattle.rl_line.proofs.Records.WaitingLemmas.{Walks-opened}
+use Rattle.rl_record.proofs.Records.WaitingLemmas.{Walks-opened}
 use Rattle.rl_session.proofs.Sessions.SessionLemmas.{AtRest-changed}
 use Rattle.rl_session.proofs.session.Session.open_waiting.Goals as goal
 

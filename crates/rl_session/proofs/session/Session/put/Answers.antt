@@ -1,5 +1,5 @@
 use Rattle.rl_session.proofs.Common.{◌++◌, All, err_from_is_err_and, subst, sym}
-use Rattle.rl_line.specs.SavedRecord.{FitsEntry}
+use Rattle.rl_record.specs.SavedRecord.{FitsEntry}
 use Rattle.rl_session.specs.State.{State}
 use Rattle.rl_session.proofs.session.Session.put.Goals as goal
 

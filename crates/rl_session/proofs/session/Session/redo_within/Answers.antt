@@ -1,6 +1,6 @@
 use Rattle.rl_session.proofs.Common.{◌≡◌, ◌∙◌, false, Line, Walks}
-use Rattle.rl_line.proofs.Records.MoveLemmas.{redo-fits}
-use Rattle.rl_line.proofs.Records.WalkLemmas.{Walks-Redone, Walks-ahead}
+use Rattle.rl_record.proofs.Records.MoveLemmas.{redo-fits}
+use Rattle.rl_record.proofs.Records.WalkLemmas.{Walks-Redone, Walks-ahead}
 use Rattle.rl_session.proofs.Sessions.PerformLemmas.{within-keeps}
 use Rattle.rl_session.proofs.Sessions.SessionLemmas.{grow-Redone}
 use Rattle.rl_session.proofs.session.Session.redo_within.Goals as goal

@@ -1,6 +1,6 @@
 use Rattle.rl_session.proofs.Common.{◌≡◌, ◌∙◌, false, Line, Walks}
-use Rattle.rl_line.proofs.Records.MoveLemmas.{undo-fits}
-use Rattle.rl_line.proofs.Records.WalkLemmas.{Walks-Undone, Walks-back}
+use Rattle.rl_record.proofs.Records.MoveLemmas.{undo-fits}
+use Rattle.rl_record.proofs.Records.WalkLemmas.{Walks-Undone, Walks-back}
 use Rattle.rl_session.proofs.Sessions.PerformLemmas.{within-keeps}
 use Rattle.rl_session.proofs.Sessions.SessionLemmas.{grow-Undone}
 use Rattle.rl_session.proofs.session.Session.undo_within.Goals as goal

@@ -1,4 +1,4 @@
-use Rattle.rl_line.proofs.Records.UnitingLemmas.{Walks-united}
+use Rattle.rl_record.proofs.Records.UnitingLemmas.{Walks-united}
 use Rattle.rl_session.proofs.Sessions.SessionLemmas.{AtRest-kept}
 use Rattle.rl_session.proofs.session.Session.unite.Goals as goal
 

@@ -1,5 +1,5 @@
 use Rattle.rl_session.proofs.Common.{ap, refl, ◌∙◌}
-use Rattle.rl_line.specs.Units.{unit_start}
+use Rattle.rl_record.specs.Units.{unit_start}
 use Rattle.rl_session.proofs.Sessions.PerformLemmas.{done_as_unit}
 use Rattle.rl_session.specs.declared.session.Command.TheVariants.{YankPop}
 use Rattle.rl_session.proofs.session.Session.yank_pop.Goals as goal

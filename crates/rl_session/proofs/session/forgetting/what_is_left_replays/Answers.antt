@@ -1,5 +1,5 @@
-use Rattle.rl_line.proofs.Records.ForgettingLemmas.{left-replays}
-use Rattle.rl_line.proofs.Records.RecordLemmas.{replay-IsUtf8}
+use Rattle.rl_record.proofs.Records.ForgettingLemmas.{left-replays}
+use Rattle.rl_line.proofs.Changes.InverseLemmas.{replay-IsUtf8}
 use Rattle.rl_session.proofs.Common.{gone}
 use Rattle.rl_session.proofs.Runs.CallLemmas.{changed-forgets, reported-forgets}
 use Rattle.rl_session.proofs.session.forgetting.what_is_left_replays.Goals as goal

@@ -1,5 +1,0 @@
-use Rattle.rl_line.proofs.Common.{rules}
-use Rattle.rl_line.proofs.change.Change.join_replacement.Goals as goal
-
-pub returns-in-Ok-clause-ok : goal.returns-in-Ok-clause-ok
-returns-in-Ok-clause-ok c = search rules

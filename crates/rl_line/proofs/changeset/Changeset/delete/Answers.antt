@@ -1,6 +1,0 @@
-use Rattle.rl_line.proofs.Common.{Delete, Forward}
-use Rattle.rl_line.proofs.Records.LevelLemmas.{AtLevel-heard}
-use Rattle.rl_line.proofs.changeset.Changeset.delete.Goals as goal
-
-pub invariant_of-self-2 : goal.invariant_of-self-2
-invariant_of-self-2 c = AtLevel-heard (Delete c.args.idx c.args.string.now Forward) _ _ _ c.in_ok-delete.ensures.done c.self.invariant

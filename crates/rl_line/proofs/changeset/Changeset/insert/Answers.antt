@@ -1,6 +1,0 @@
-use Rattle.rl_line.proofs.Common.{InsertChar}
-use Rattle.rl_line.proofs.Records.LevelLemmas.{AtLevel-heard}
-use Rattle.rl_line.proofs.changeset.Changeset.insert.Goals as goal
-
-pub invariant_of-self-2 : goal.invariant_of-self-2
-invariant_of-self-2 c = AtLevel-heard (InsertChar c.args.idx c.args.c) _ _ _ c.in_ok-insert_char.ensures.done c.self.invariant

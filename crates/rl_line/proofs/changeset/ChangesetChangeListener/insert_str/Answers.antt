@@ -1,4 +1,0 @@
-use Rattle.rl_line.proofs.changeset.ChangesetChangeListener.insert_str.Goals as goal
-
-pub returns-clause-done : goal.returns-clause-done
-returns-clause-done c = c.insert_str.ensures.done

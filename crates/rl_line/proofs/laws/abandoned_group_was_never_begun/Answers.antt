@@ -1,5 +1,0 @@
-use Rattle.rl_line.proofs.Records.AbandonLemmas.{never_begun}
-use Rattle.rl_line.proofs.laws.abandoned_group_was_never_begun.Goals as goal
-
-pub returns : goal.returns
-returns c = never_begun

@@ -1,8 +1,0 @@
-use Rattle.rl_line.proofs.Records.TallyLemmas.{parted-leaves}
-use Rattle.rl_line.proofs.recent.Recent.part.Goals as goal
-
-pub invariant_of-self : goal.invariant_of-self
-invariant_of-self c = (parted-leaves c.self.inside.gone c.self.inside.tally _ _ _ c.self.invariant c.self.view_is c.part.ensures).gone
-
-pub returns : goal.returns
-returns c = (parted-leaves c.self.inside.gone c.self.inside.tally _ _ _ c.self.invariant c.self.view_is c.part.ensures).view

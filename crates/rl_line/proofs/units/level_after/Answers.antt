@@ -1,5 +1,0 @@
-use Rattle.rl_line.proofs.Common.{rules}
-use Rattle.rl_line.proofs.units.level_after.Goals as goal
-
-pub returns-in-End-clause-level : goal.returns-in-End-clause-level
-returns-in-End-clause-level c = search rules

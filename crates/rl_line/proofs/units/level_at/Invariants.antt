@@ -1,9 +1,0 @@
-use Rattle.rl_line.proofs.Common.{◌-◌}
-use Rattle.rl_line.proofs.Records.LevelLemmas.{LevelAt}
-use Rattle.rl_line.proofs.units.level_at.Given as goal
-
-abbrev pub invariant-loop-at : goal.invariant-loop-at
-invariant-loop-at l = LevelAt l.entries l.len l.at l.level
-
-abbrev pub decreases-loop-at : goal.decreases-loop-at
-decreases-loop-at l = l.at - l.len

@@ -1,9 +1,0 @@
-use Rattle.rl_line.proofs.Common.{length-take-le, sym}
-use Rattle.rl_line.proofs.Records.MoveLemmas.{next-part}
-use Rattle.rl_line.proofs.units.next_unit.Goals as goal
-
-pub slice_bounds-result-end : goal.slice_bounds-result-end
-slice_bounds-result-end c = sym (length-take-le c.next_len-len.result c.args.entries.now (next-part c.next_len-len.result c.args.entries.now c.requires c.next_len-len.ensures).0)
-
-pub returns : goal.returns
-returns c = (next-part c.next_len-len.result c.args.entries.now c.requires c.next_len-len.ensures).1

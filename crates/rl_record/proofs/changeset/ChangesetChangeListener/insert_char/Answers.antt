@@ -1,0 +1,4 @@
+use Rattle.rl_record.proofs.changeset.ChangesetChangeListener.insert_char.Goals as goal
+
+pub returns-clause-done : goal.returns-clause-done
+returns-clause-done c = c.insert.ensures.done
