@@ -64,7 +64,7 @@ DIFFERENT = {
     "test::vi_cmd::e": "a count of words is the n-th place of the list; rustyline drops a cluster after each hit",
 }
 # How many seconds cargo may take.
-LONG = 600
+LONG = 3600
 ROWS, COLUMNS = 12, 60
 SEARCH = "(reverse-i-search)`{}': {}"
 # What is typed into one editor, and the screen after each.
