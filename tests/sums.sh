@@ -8,8 +8,8 @@
 #                        if something failed, and fails then. The words run in a subshell
 #   show WHAT WORDS..    add for a test program: shows what it prints as it prints it, and wants a sum of it
 #   not_run WHY          says that something was left out, and counts it as skipped
-#   with "NEED.." add WHAT ..   does that if all of these are there, and else says what is left out: a command, or
-#                        Linux, root's rights (root), the kit, or what the plain Rust is made with (sources)
+#   with "NEED.." add WHAT ..   does that if all of these are there, and else says what is left out: a command, or Linux,
+#                        root's rights (root), the kit, a packed crate (LODVARN_PACKED); of A|B one is needed
 #   start add WHAT ..    runs it beside the rest, or a function that adds several
 #   await_started        waits for all that was started, and shows what each printed
 #   finish               prints what failed, by name, and as the last line the sum of all, and ends the program: well if
@@ -76,16 +76,17 @@ is_there() {
         Linux) [[ $OSTYPE == linux* ]] ;;
         root) [[ $EUID == 0 ]] ;;
         kit) [[ -n ${RATTLE_KIT-} ]] || command -v rt ;;
-        sources) [[ -n ${LODVARN_PACKED-} ]] || is_there kit ;;
+        LODVARN_PACKED) [[ -d ${LODVARN_PACKED-}/src/proved ]] ;;
+        *"|"*) is_there "${1%%|*}" || is_there "${1#*|}" ;;
         *) command -v "$1" ;;
     esac > /dev/null
 }
 
 with() {
-    local need
+    local need name=${3-$2}
     for need in $1; do
         if ! is_there "$need"; then
-            not_run "${3-${2#run_}}, since there is no $need"
+            not_run "${name#run_}, since there is no ${need//|/ nor }"
             return 1
         fi
     done
