@@ -8,8 +8,8 @@
 #                        if something failed, and fails then. The words run in a subshell
 #   show WHAT WORDS..    add for a test program: shows what it prints as it prints it, and wants a sum of it
 #   not_run WHY          says that something was left out, and counts it as skipped
-#   with "NEED.." add WHAT ..   does that if all of these are there, and else says what is left out: a command, or Linux,
-#                        root's rights (root), the kit, a packed crate (LODVARN_PACKED); of A|B one is needed
+#   with "NEED.." add WHAT ..   does that if all of these are there, and else says what is left out, and fails: a command,
+#                        Linux, root's rights (root), cffi of Python, the kit, a packed crate (LODVARN_PACKED); of A|B one
 #   start add WHAT ..    runs it beside the rest, or a function that adds several
 #   await_started        waits for all that was started, and shows what each printed
 #   finish               prints what failed, by name, and as the last line the sum of all, and ends the program: well if
@@ -75,6 +75,7 @@ is_there() {
     case $1 in
         Linux) [[ $OSTYPE == linux* ]] ;;
         root) [[ $EUID == 0 ]] ;;
+        cffi) "$("$top/tests/python/interpreter")" -c 'import cffi, setuptools' 2>&1 ;;
         kit) [[ -n ${RATTLE_KIT-} ]] || command -v rt ;;
         LODVARN_PACKED) [[ -d ${LODVARN_PACKED-}/src/proved ]] ;;
         *"|"*) is_there "${1%%|*}" || is_there "${1#*|}" ;;
