@@ -3,13 +3,14 @@
 # $top is the top of the repository, and $work a folder that is gone at the end. A program that sets an EXIT trap of its
 # own removes $work in it.
 #
-#   add WHAT WORDS..     runs the words, and says and counts what they gave: the sum 'N passed, M failed, K skipped' that
-#                        they print last, or all of cargo's, or 1 if they print none and end well. Shows what they print
-#                        if something failed, and fails then. The words run in a subshell
+#   add WHAT WORDS..     runs the words, and says and counts what they gave: the sum 'N passed, M failed, K skipped'
+#                        that they print last, or all of cargo's, or 1 if they print none and end well. Shows what they
+#                        print if something failed, and fails then. The words run in a subshell
 #   show WHAT WORDS..    add for a test program: shows what it prints as it prints it, and wants a sum of it
 #   not_run WHY          says that something was left out, and counts it as skipped
-#   with "NEED.." add WHAT ..   does that if all of these are there, and else says what is left out, and fails: a command,
-#                        Linux, root's rights (root), cffi of Python, the kit, a packed crate (LODVARN_PACKED); of A|B one
+#   with "NEED.." add WHAT ..   does that if all of these are there, and else says that it is left out, and fails: a
+#                        command, Linux, root's rights (root), cffi for Python, the kit, a packed crate
+#                        (LODVARN_PACKED); of A|B one
 #   start add WHAT ..    runs it beside the rest, or a function that adds several
 #   await_started        waits for all that was started, and shows what each printed
 #   finish               prints what failed, by name, and as the last line the sum of all, and ends the program: well if
@@ -115,8 +116,8 @@ await_started() {
 finish() {
     sed 's/^/FAILED: /' "$work/failed"
     awk '{ good += $1; bad += $2; left += $3 }
-        END { print good + 0 " passed, " bad + 0 " failed" (left ? ", " left " skipped" : ""); exit bad != 0 || !good }' \
-        "$work/sums"
+        END { print good + 0 " passed, " bad + 0 " failed" (left ? ", " left " skipped" : "")
+            exit bad != 0 || !good }' "$work/sums"
     exit
 }
 
