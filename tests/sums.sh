@@ -22,7 +22,7 @@ top=$(cd "$(dirname "${BASH_SOURCE[0]}")/.." && pwd)
 work=$(mktemp -d)
 lanes=()
 trap 'rm -rf "$work"' EXIT
-touch "$work"/{sums,failed}
+touch "$work"/{sums,failures}
 export PYTHONDONTWRITEBYTECODE=1
 
 # Prints the three numbers of the sum in a file, or nothing. A last line with a sum stands for those before it.
@@ -36,7 +36,7 @@ sum_of() {
 note_failed() {
     awk -v what="$1" '/^FAILED: / { said = said what ": " substr($0, 9) "\n"; next }
         !/^[0-9]+ passed, / { said = "" }
-        END { printf "%s", said != "" ? said : what "\n" }' "$2" >> "$work/failed"
+        END { printf "%s", said != "" ? said : what "\n" }' "$2" >> "$work/failures"
 }
 
 add() {
@@ -114,7 +114,7 @@ await_started() {
 }
 
 finish() {
-    sed 's/^/FAILED: /' "$work/failed"
+    sed 's/^/FAILED: /' "$work/failures"
     awk '{ good += $1; bad += $2; left += $3 }
         END { print good + 0 " passed, " bad + 0 " failed" (left ? ", " left " skipped" : "")
             exit bad != 0 || !good }' "$work/sums"
