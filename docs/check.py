@@ -46,7 +46,7 @@ TARGET = re.compile(r"\]\([^)]*\)")
 # A call or a constant of C, and a crate.
 CALL = re.compile(r"\b(?:lodvarn_[a-z0-9_]*[a-z0-9]|LODVARN_[A-Z0-9_]*[A-Z0-9])\b(?!_)")
 # What the package for Python and the examples read of the environment.
-VARIABLES = {"LODVARN_LIB", "LODVARN_PREFIX"}
+VARIABLES = {"LODVARN_LIB", "LODVARN_PACKED", "LODVARN_PREFIX"}
 CRATE = re.compile(r"\brl_[a-z_]+\b")
 WIDTH = 120
 MOST = {"README.md": 140, "all pages": 3590}

@@ -44,7 +44,7 @@ PAGES += sorted(str(page.relative_to(TOP)) for page in TOP.glob("examples/*/READ
 # Blocks in these languages are not pieces of code: outputs, pictures, settings, and commands that take long.
 PLAIN = {"", "text", "sh", "toml"}
 # How long an example may take, in seconds. An interpreter that shares a busy machine takes minutes.
-PATIENCE = 900
+PATIENCE = 3600
 WARNINGS = ["-Wall", "-Wextra", "-Werror"]
 PACKAGE = """[package]
 name = "{name}"
@@ -315,7 +315,7 @@ def main():
         faults += judge_pages(only, place)
     wrong = list(filter(None, faults))
     for fault in wrong:
-        print(fault)
+        print(f"FAILED: {fault}")
     print(f"{len(faults) - len(wrong)} passed, {len(wrong)} failed")
     return 1 if wrong else 0
 

@@ -23,7 +23,7 @@ COLUMNS, ROWS = 60, 20
 LIMIT = 65536
 # How long a screen may take to show, and a paste of 10 KB, in seconds, and how often a paste may be tried, since others
 # use the machine. The editor waits less than PAUSE for the rest of a key.
-PATIENCE, SOON, TRIES, PAUSE = 10, 0.2, 3, 0.5
+PATIENCE, SOON, TRIES, PAUSE = 60, 0.2, 3, 0.5
 FAMILY = "\U0001f468\u200d\U0001f469\u200d\U0001f467"
 # What is sent is a text, bytes, a list of keys by tmux's names, a paste, a signal, a size for the terminal, or this.
 PAUSED = object()

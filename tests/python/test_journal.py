@@ -22,7 +22,7 @@ from journal import KEYS, NUMBERS, SUM, Journal, press, recover  # noqa: E402
 
 ENVIRONMENT = {**os.environ, "PYTHONPATH": str(test_lodvarn.TOP / "python")}
 TEXTS = ["one two", " zwölf", "漢字 ", "e\u0301", "\U0001f469", "x"]
-KILLS, PATIENCE = 20, 10
+KILLS, PATIENCE = 20, 600
 
 
 def lines_of(count):

@@ -1,9 +1,10 @@
-"""The package as others get it: a source distribution, the wheel that is made of it, and its use by nothing else."""
+"""The package as others get it, of the release in the folder that LODVARN_RELEASE names: a source distribution, the
+wheel that was made of it, and its use by nothing else.
+"""
 
 import os
 import platform
 import re
-import shutil
 import subprocess
 import sys
 import tarfile
@@ -13,10 +14,10 @@ from email import message_from_string
 from pathlib import Path
 from zipfile import ZipFile
 
+import lodvarn
 import test_lodvarn
 from test_lodvarn import TOP
 
-import lodvarn
 import setup
 
 NAME, MACHINE = f"lodvarn-{lodvarn.__version__}", platform.machine()
@@ -73,13 +74,9 @@ class Wheel(unittest.TestCase):
         own = cls.room / "own"
         cls.succeeds(cls.maker, "-m", "venv", "--system-site-packages", own)
         cls.python = own / "bin/python"
-        cls.succeeds(cls.maker, "setup.py", "--quiet", "sdist", "--dist-dir", cls.room, cwd=TOP / "python")
-        (cls.source,) = cls.room.glob("*.tar.gz")
-        # The wheel is made of that by cargo, without the kit. Neither a compiler nor cargo is on the path of its use.
-        tools = {"RATTLE_KIT": "/nowhere", "PATH": f"{Path(shutil.which('cargo')).parent}:/usr/bin:/bin"}
-        pip, alone = [cls.python, "-m", "pip", "--isolated"], ["--no-index", "--no-deps", "--no-build-isolation"]
-        cls.succeeds(*pip, "wheel", *alone, "--wheel-dir", cls.room, cls.source, env=tools)
-        (cls.wheel,), cls.alone = cls.room.glob("*.whl"), {"PATH": str(own / "bin")}
+        release, pip = Path(os.environ["LODVARN_RELEASE"]), [cls.python, "-m", "pip", "--isolated"]
+        (cls.source,), (cls.wheel,) = release.glob("lodvarn-[0-9]*[0-9].tar.gz"), release.glob("*.whl")
+        cls.alone = {"PATH": str(own / "bin")}
         cls.succeeds(*pip, "install", "--no-index", cls.wheel, env=cls.alone)
 
     @classmethod

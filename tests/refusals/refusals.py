@@ -25,8 +25,8 @@ from lines import FORMS, NAMES, filled  # noqa: E402
 from rows import rows_of  # noqa: E402
 
 TESTS = "crates/rl_tests/src/script.rt"
-# How long one run may take, in seconds: a thousand times what it needs.
-LIMIT = 20
+# How long one run may take, in seconds, on a busy machine too.
+LIMIT = 600
 UNDO_ALL = "undo 65535"
 # A refused undo changes nothing, so it is tried again.
 LAST_LINES = f"{UNDO_ALL}\n".encode() * 24

@@ -54,28 +54,38 @@ pub fn kit() -> Result<PathBuf> {
     };
     let given = env::var_os("RATTLE_KIT").map(PathBuf::from);
     let kit = given.or_else(said).unwrap_or_default();
-    let what = "no kit of Rattle: set RATTLE_KIT to its folder, or put `rt` on the PATH";
+    let what = "no kit of Rattle: set RATTLE_KIT to its folder, or put `rt` on the PATH; or \
+        without it, set LODVARN_PACKED to the whole path of a packed crate";
     match kit.join("rattle/core/src").is_dir() {
         true => Ok(kit),
         false => Err(Fault(what.into())),
     }
 }
 
-/// The crates of the tree of `lodvarn`.
+/// The crates of the tree of `lodvarn`. Without the kit, its ports are those of a packed crate, in the folder that
+/// `LODVARN_PACKED` names.
 pub fn libraries() -> Result<Vec<Crate>> {
-    let (kit, mut crates) = (kit()?.join("rattle"), ours(LIBRARIES));
+    let (kit, packed) = (kit(), env::var_os("LODVARN_PACKED"));
+    let (ports, casing, inside) = match (&kit, packed) {
+        (Err(_), Some(packed)) => {
+            let ports = Path::new(&packed).join("src/proved");
+            (ports.clone(), ports.join("stand_in/casing"), "")
+        }
+        _ => {
+            let ports = kit?.join("rattle");
+            (ports.clone(), ports.join("core/src/char"), "src")
+        }
+    };
+    let mut crates = ours(LIBRARIES);
     for port in PORTS.split(", ") {
         let mut words = port.split(' ').chain(["tests"]);
         let name = words.next().unwrap_or("");
-        crates.push(Crate::new(
-            name,
-            kit.join(name).join("src"),
-            words.collect(),
-        ));
+        let src = ports.join(name).join(inside);
+        crates.push(Crate::new(name, src, words.collect()));
     }
     let of = |name, src| Crate::new(name, src, Vec::new());
     crates.push(of("stand_in", top().join("rust/stand-in/src")));
-    crates.push(of("stand_in/casing", kit.join("core/src/char")));
+    crates.push(of("stand_in/casing", casing));
     Ok(crates)
 }
 
@@ -106,9 +116,15 @@ impl Crate {
         self.name == "stand_in"
     }
 
+    /// Whether it was erased before, and is a module of a packed crate.
+    pub fn is_packed(&self) -> bool {
+        self.src.join("mod.rs").is_file()
+    }
+
     /// Its files, in the order of their paths.
     pub fn files(&self) -> Result<Vec<File>> {
-        let extension = if self.is_rust() { ".rs" } else { ".rt" };
+        let is_rust = self.is_rust() || self.is_packed();
+        let extension = if is_rust { ".rs" } else { ".rt" };
         let mut files = Vec::new();
         for path in paths(&self.src)? {
             let inside = path.strip_prefix(&self.src).unwrap_or(&path);
@@ -131,7 +147,7 @@ impl Crate {
     pub fn erased(&self, crates: &[Crate], tree: &str) -> Result<(Vec<File>, Counts)> {
         let (mut files, mut counts) = (self.files()?, Counts::default());
         let rules = Rules::new(tree, self, crates);
-        for file in &mut files {
+        for file in files.iter_mut().filter(|_| !self.is_packed()) {
             let name = file.path.display().to_string();
             let text = erase(&Source::new(&name, &file.text)?, &rules, self.is_rust())?;
             counts.join(audit(&name, &file.text, &text, &rules)?);
@@ -182,7 +198,9 @@ pub fn write_tree(out: &Path, crates: &[Crate], tree: &str) -> Result<Counts> {
 /// All of a build script: writes a tree below `OUT_DIR/proved`, again if a source changes, of the libraries as `choose`
 /// changes them.
 pub fn build(choose: impl FnOnce(&mut Vec<Crate>)) {
-    println!("cargo:rerun-if-env-changed=RATTLE_KIT");
+    for name in ["RATTLE_KIT", "LODVARN_PACKED"] {
+        println!("cargo:rerun-if-env-changed={name}");
+    }
     let made = libraries().and_then(|mut crates| {
         choose(&mut crates);
         for one in &crates {
