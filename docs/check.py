@@ -303,7 +303,7 @@ DOCS = {
     ".py": (r'"""(?:.*?)"""', r""),
     ".rs": (r"^ *//[/!][^\n]*", r"^ *//[/!]"),
 }
-DOCUMENTED = ["include/lodvarn.h", "python/lodvarn/__init__.py", "rust/lodvarn/src/**/*.rs"]
+DOCUMENTED = ["include/lodvarn.h", "python/lodvarn/*.py", "rust/lodvarn/src/**/*.rs"]
 
 
 def blanked(pattern, text):
@@ -367,8 +367,9 @@ def errors_of(language):
         said = [(it.name.removeprefix("lodvarn_"), it.comment.partition("Errors")[2]) for it in header.calls()]
         return {name: errors_in(words.partition("\n\n")[0], r"\b[A-Z0-9_]{4,}\b") for name, words in said}
     if language == "Python":
-        tree = ast.parse((TOP / "python/lodvarn/__init__.py").read_text())
-        said = [(it.name, ast.get_docstring(it) or "") for it in ast.walk(tree) if isinstance(it, ast.FunctionDef)]
+        trees = [ast.parse(it.read_text()) for it in TOP.glob("python/lodvarn/*.py")]
+        made = [it for tree in trees for it in ast.walk(tree) if isinstance(it, ast.FunctionDef)]
+        said = [(it.name, ast.get_docstring(it) or "") for it in made]
         names = r"\b(\w+)Error\b"
     else:
         files = [it for it in TOP.glob("rust/lodvarn/src/*.rs") if it.stem not in RUSTYLINE]

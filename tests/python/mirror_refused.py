@@ -10,7 +10,8 @@ import sys
 from contextlib import suppress
 
 import test_lodvarn
-from lodvarn import NoMemoryError, Session, ffi, lib
+from lodvarn import NoMemoryError, Session
+from lodvarn._lodvarn import ffi, lib
 
 SEED = int(sys.argv.pop(1)) if len(sys.argv) > 1 else 7
 

@@ -11,6 +11,7 @@ import subprocess
 import sys
 import tempfile
 import threading
+import typing
 import unittest
 import weakref
 from contextlib import suppress
@@ -27,14 +28,18 @@ import header  # noqa: E402
 import lodvarn  # noqa: E402
 from lodvarn import (  # noqa: E402
     Case, Cell, Cluster, Direction, Mode, Movement, Range, Report, ReportKind, RowCell, Screen, Search, Session, Side,
-    Splice, Stop, Word, lib,
+    Splice, Stop, Word,
 )
+from lodvarn._errors import _seen  # noqa: E402
+from lodvarn._lodvarn import lib  # noqa: E402
 from read_saved import read, xxh64  # noqa: E402
 from rows import TESTS, has_calls, rows_of  # noqa: E402
 from typed import MOVEMENTS, NAMES, WORDS, Typed, do  # noqa: E402
 
 FAMILY = "\U0001f468\u200d\U0001f469\u200d\U0001f467"
 BACK, LINE, START, END = Movement.words_back(Word.EMACS), *(MOVEMENTS[it][1]() for it in ("line", "home", "eol"))
+PACKAGE = Path(lodvarn.__file__).parent
+SOURCES = {str(it) for it in PACKAGE.glob("*.py")}
 MAKERS = [it for name, it in inspect.getmembers(Movement, inspect.ismethod) if name[0] != "_"]
 
 
@@ -730,27 +735,27 @@ class Saved(Scripts):
 
 # Of each type of an argument what is right, what is a TypeError, and what is out of its range.
 ARGUMENTS = {
-    "int": (1, [None, "1", 1.0], [-1, 2**64]),
-    "Optional[int]": (1, ["1", 1.0], [-1, 2**64]),
-    "tuple[int, int]": ((0, 0), [None, ("1", 0), (0, 1.0)], [(-1, 0), (0, 2**64)]),
-    "str": ("a", [None, b"a", 97], []),
-    "bytes": (b"", [None, "a"], []),
-    "bool": (True, [], []),
-    "Movement": (LINE, [None, 100, Word.VI, ("whole_line", ())], []),
-    "Word": (Word.VI, [None, 22, Mode.UNICODE], []),
-    "Stop": (Stop.AT_START, [None, 30, Word.VI], []),
-    "Search": (Search.TO, [None, 40, Word.VI], []),
-    "Case": (Case.UPPERCASE, [None, 60, Word.VI], []),
-    "Direction": (Direction.FORWARD, [None, 50, Word.VI], []),
-    "Mode": (Mode.UNICODE, [None, 10, Word.VI], []),
-    "Screen": (Screen(9), [None, 9, (9, 0, 0, Mode.UNICODE)], []),
+    int: (1, [None, "1", 1.0], [-1, 2**64]),
+    typing.Optional[int]: (1, ["1", 1.0], [-1, 2**64]),
+    typing.Tuple[int, int]: ((0, 0), [None, ("1", 0), (0, 1.0)], [(-1, 0), (0, 2**64)]),
+    str: ("a", [None, b"a", 97], []),
+    bytes: (b"", [None, "a"], []),
+    bool: (True, [], []),
+    Movement: (LINE, [None, 100, Word.VI, ("whole_line", ())], []),
+    Word: (Word.VI, [None, 22, Mode.UNICODE], []),
+    Stop: (Stop.AT_START, [None, 30, Word.VI], []),
+    Search: (Search.TO, [None, 40, Word.VI], []),
+    Case: (Case.UPPERCASE, [None, 60, Word.VI], []),
+    Direction: (Direction.FORWARD, [None, 50, Word.VI], []),
+    Mode: (Mode.UNICODE, [None, 10, Word.VI], []),
+    Screen: (Screen(9), [None, 9, (9, 0, 0, Mode.UNICODE)], []),
 }
 SET = {name: it for name, it in vars(Session).items() if isinstance(it, property) and it.fset}
 
 
 def kinds(call):
     """The types of the arguments that a call takes, each by its name."""
-    return {name: it.annotation for name, it in inspect.signature(call).parameters.items()}
+    return {name: it.annotation for name, it in inspect.signature(call, eval_str=True).parameters.items()}
 
 
 def right(call):
@@ -885,7 +890,7 @@ class Faults(Scripts):
 
     def test_an_error_of_a_later_library_raises(self):
         with self.assertRaises(lodvarn.LodvarnError) as raised:
-            lodvarn._seen(lib.py_move, -99)
+            _seen(lib.py_move, -99)
         fault = raised.exception
         self.assertEqual((type(fault), fault.code, fault.name), (lodvarn.LodvarnError, -99, "unknown"))
         self.assertNotEqual(str(fault), "")
@@ -1058,7 +1063,7 @@ def disturbed(at, call, by=interrupt):
     def trace(frame, event, _):
         """Counts the steps."""
         nonlocal at
-        if frame.f_code.co_filename != lodvarn.__file__:
+        if frame.f_code.co_filename not in SOURCES:
             return None
         frame.f_trace_opcodes = True
         at -= event == "opcode"
@@ -1100,7 +1105,7 @@ class OnChange(Scripts):
             lib.py_insert(it, c, n)
             return lib.LODVARN_NO_MEMORY
 
-        with mock.patch.object(lodvarn, "_insert", py_halfway):
+        with mock.patch.object(lodvarn._session, "_insert", py_halfway):
             self.assertRaises(lodvarn.NoMemoryError, session.insert, "c")
         self.assertEqual(seen, [report(ReportKind.CHAR_INSERTED, 2, "", "c", 2, 3)])
 
@@ -1321,11 +1326,16 @@ class Mirrors(Scripts):
 
 class Module(unittest.TestCase):
     def test_all_is_exported(self):
-        public = {name for name, it in vars(lodvarn).items() if getattr(it, "__module__", "") == "lodvarn"}
-        self.assertEqual(set(lodvarn.__all__), {name for name in public if not name.startswith("_")})
+        own = [sys.modules[f"lodvarn.{it.stem}"] for it in PACKAGE.glob("_[a-z]*.py")]
+        known = {it for module in own for it in vars(module).values() if inspect.isclass(it) or inspect.isfunction(it)}
+        public = {it for it in known if it.__module__.startswith("lodvarn") and not it.__name__.startswith("_")}
+        self.assertEqual(public, {getattr(lodvarn, name) for name in lodvarn.__all__})
+        for it in public:
+            self.assertEqual((it.__module__, getattr(lodvarn, it.__name__)), ("lodvarn", it))
+            self.assertIsInstance(typing.get_type_hints(it), dict)
 
     def test_each_call_of_the_header_is_used(self):
-        source, own = Path(lodvarn.__file__).read_text(), (TOP / "python/session.c").read_text()
+        own, source = (TOP / "python/session.c").read_text(), "".join(it.read_text() for it in PACKAGE.glob("*.py"))
         used = set(re.findall(r"\blib\.(\w+)", source))
         made = {f"lodvarn_{it[3:]}" for it in used if it.startswith("py_")}
         left = {it.name for it in header.calls()} - used - made - set(re.findall(r"\blodvarn_\w+", own))
