@@ -250,19 +250,10 @@ class Values(Scripts):
         self.assertEqual((session.last_was_yank, session.can_undo, session.can_redo), (False, False, True))
         session.begin_group()
         self.assertEqual((session.record_entries, session.group_level), (1, 1))
-
-    def test_a_kill_goes_after_the_newest(self):
-        session = Session()
-        for text in "abcd":
-            session.ring_add(text)
-        self.assertTrue(session.yank() and session.yank_pop() and session.yank_pop())
-        session.ring_add("e")
-        self.assertEqual(session.ring, list("edcba"))
-        for it in (Session.load(session.save()), session):
-            it.ring_size = 2
-            self.assertEqual(it.ring, list("ed"))
+        self.assertFalse(session.is_saved)
+        session.mark_saved()
         session.ring_clear()
-        self.assertEqual((session.ring, session.yank(), session.text), ([], False, "b"))
+        self.assertEqual((session.is_saved, session.ring, session.yank()), (True, [], False))
 
     def test_scripts(self):
         longer = type("Longer", (bytes,), {"__len__": lambda it: 10**9})
@@ -303,97 +294,27 @@ class Typing(Scripts):
                 gc.collect()
             self.assertEqual(hook.mock_calls, [])
 
-    def test_no_more_is_typed_than_has_room(self):
-        session = Session("ab", limit_bytes=4)
-        self.assertEqual((session.type("cdé".encode()), session.text), (2, "abcd"))
-        self.assertRaises(lodvarn.NoRoomError, session.type, "é".encode())
-        session.backspace()
-        self.assertRaises(lodvarn.NoRoomError, session.type, "éa".encode())
-        self.stands(session, "abc", 3)
-
-    def test_bytes_may_be_cut_anywhere(self):
-        text = "aé漢" + FAMILY
-        for length in range(1, 9):
-            session, left, data = Session(), b"", text.encode()
-            for at in range(0, len(data), length):
-                left += data[at : at + length]
-                left = left[session.type(left) :]
-            self.assertEqual((session.text, left), (text, b""))
-
-    def test_it_joins_and_reports_as_insert_does(self):
-        by_insert, by_type = opened("-", 0), opened("-", 0)
-        for session in (by_insert, by_type):
-            session.watch()
-        for c in "aé1 b漢":
-            by_insert.insert(c)
-        by_type.insert("a")
-        self.assertEqual(by_type.type("é1 b漢".encode()), 8)
-        self.assertEqual(list(by_type.changes()), list(by_insert.changes()))
-        for text, pos in [("aé1-", 3), ("-", 0)]:
-            self.assertTrue(by_type.undo() and by_insert.undo())
-            self.stands(by_type, text, pos)
-            self.stands(by_insert, text, pos)
-
 
 class Finding(Scripts):
-    def test_a_text_is_found(self):
-        session, back = opened("aé aé aé", 3), Direction.BACKWARD
-        for given, wanted in [
-            (("aé", 0), (0, 2)), (("aé", 1), (3, 5)), (("aé", 6), (6, 8)), (("aé", 7), None), (("é", 8), None),
-            (("aé", 8, back), (6, 8)), (("aé", 7, back), (3, 5)), (("aé", 2, back), (0, 2)), (("aé", 1, back), None),
-            (("a",), (3, 4)), (("a", None, back), (0, 1)), (("", 0), None), (("", 8, back), None), (("x", 0), None),
-            (("aé aé aéx", 0), None),
-        ]:
-            self.assertEqual(session.find(*given), wanted, given)
-        self.stands(session, "aé aé aé", 3)
-
     def test_it_is_found_as_python_finds_it(self):
         rng, back = random.Random(7), Direction.BACKWARD
         for _ in range(3000):
             text, what = ("".join(rng.choices("aé漢\n", [6, 3, 1, 1], k=rng.randint(least, 9))) for least in (0, 1))
-            session = opened(text, rng.randint(0, len(text)))
-            pos, ahead, last = session.pos, text.find(what, session.pos), text.rfind(what, 0, session.pos)
-            self.assertEqual(session.find(what), (ahead, ahead + len(what)) if ahead >= 0 else None)
-            self.assertEqual(session.find(what, pos, back), (last, last + len(what)) if last >= 0 else None)
+            session, pos = opened(text, 0), rng.randint(0, len(text))
+            ahead, last = text.find(what, pos), text.rfind(what, 0, pos)
+            self.assertEqual(session.find(what, pos), (ahead, ahead + len(what)) if ahead >= 0 else None)
+            session.pos = pos
+            self.assertEqual(session.find(what), session.find(what, pos))
+            self.assertEqual(session.find(what, None, back), (last, last + len(what)) if last >= 0 else None)
+            self.assertIsNone(session.find("", pos, back))
             for movement, at, covered in [
                 (Movement.to_match(what), ahead, (pos, ahead)), (Movement.to_match(what, back), last, (last, pos)),
             ]:
                 self.assertEqual(session.movement_target(movement), at if at >= 0 else None)
                 self.assertEqual(session.movement_range(movement), covered if at not in (-1, pos) else None)
 
-    def test_a_match_is_moved_to_killed_and_copied(self):
-        ahead, back = Movement.to_match("é b"), Movement.to_match("é b", Direction.BACKWARD)
-        for movement, pos, killed in [(ahead, 1, " "), (back, 6, "é b日"), (back, 4, None)]:
-            left = "a é b日" if killed is None else "a é b日".replace(killed, "", 1)
-            at = min(pos, pos - len(killed)) if killed and movement is back else pos
-            found = bool(killed)
-            for call, wanted in [(Session.copy, killed), (Session.kill, found), (Session.delete_by, found)]:
-                session = opened("a é b日", pos)
-                self.assertEqual(call(session, movement), wanted)
-                self.stands(session, *(("a é b日", pos) if call is Session.copy else (left, at)))
-                self.assertEqual(session.ring, [killed] if killed and call is Session.kill else [])
-            session = opened("a é b日", pos)
-            self.assertEqual((session.move(movement), session.pos), (found, 2 if found else pos))
-
 
 class Groups(Scripts):
-    def test_a_saved_text_comes_back(self):
-        session = Session()
-        self.assertFalse(session.is_saved)
-        session.insert("é")
-        session.mark_saved()
-        self.assertTrue(session.is_saved)
-        session.insert("b")
-        self.assertFalse(session.is_saved)
-        session.undo()
-        self.assertEqual((session.text, session.is_saved), ("é", True))
-        with session.group():
-            self.assertTrue(session.is_saved)
-        self.assertTrue(session.is_saved)
-        session.undo()
-        session.insert("é")
-        self.assertEqual((session.text, session.is_saved), ("é", False))
-
     def test_a_group_is_one_undo(self):
         for fault in (None, KeyError):
             session = Session("")
@@ -406,50 +327,6 @@ class Groups(Scripts):
                         raise fault
             self.assertEqual((session.text, session.group_level, session.undo(), session.text), ("ab c", 0, True, ""))
 
-    def test_an_edit_is_one_undo(self):
-        def yank_and_pop(session):
-            session.yank()
-            return session.yank_pop() and session.yank_pop()
-
-        for edit, left in [
-            (lambda it: it.set_text(1, "漢字"), "漢字"),
-            (Session.transpose_chars, "nét wo"),
-            (Session.transpose_words, "two né"),
-            (lambda it: it.change_case(Case.UPPERCASE), "né TWO"),
-            (lambda it: it.indent(Movement.whole_text(), 40), " " * 40 + "né two"),
-            (yank_and_pop, "né 日two"),
-        ]:
-            session = Session("né two")
-            for text in ("日", "x", "yz"):
-                session.ring_add(text)
-            session.pos = 3
-            edit(session)
-            with self.subTest(left=left):
-                self.assertEqual((session.text, session.undo()), (left, True))
-                self.stands(session, "né two", 3)
-                self.assertEqual((session.record_entries, session.redo(), session.text), (0, True, left))
-
-    def test_an_undo_stays_in_its_group(self):
-        session = Session("")
-        session.insert("é")
-        with session.group():
-            session.paste("日")
-            session.transpose_chars()
-            self.assertEqual((session.undo(9), session.text, session.undo(9)), (True, "é", False))
-            self.assertEqual(session.group_level, 1)
-            session.redo()
-        self.assertEqual((session.text, session.undo(), session.text), ("é日", True, "é"))
-
-    def test_an_empty_group_leaves_the_redo(self):
-        for end in (Session.end_group, Session.end_all_groups, Session.abandon_group):
-            session = Session("")
-            session.insert("é")
-            session.undo()
-            session.begin_group()
-            end(session)
-            self.assertEqual((session.group_level, session.record_entries), (0, 0))
-            self.assertEqual((session.redo(), session.text), (True, "é"))
-
     def test_a_group_goes_on(self):
         session = Session("one")
         for letter in "ab":
@@ -460,39 +337,6 @@ class Groups(Scripts):
         with session.group(reopen=True):
             session.insert("c")
         self.assertEqual((session.text, session.undo(), session.text, session.group_level), ("one-c", True, "one-", 0))
-
-    def test_a_group_is_abandoned(self):
-        session = Session("né two")
-        with session.group():
-            session.kill(BACK)
-            with session.group():
-                session.paste("日本")
-            self.assertTrue(session.abandon_group())
-        self.stands(session, "né two", 6)
-        self.assertEqual((session.group_level, session.record_entries), (0, 0))
-        self.assertEqual((session.can_redo, session.ring), (False, ["two"]))
-        self.assertFalse(session.abandon_group())
-
-    def test_edits_keep_what_was_undone(self):
-        def type_in_group(session):
-            with session.group(reopen=True):
-                session.insert("b")
-
-        for edit, kept, forgotten in [
-            (lambda it: it.insert("b"), ["", "é-", ""], [""]),
-            (type_in_group, ["", "é-", ""], [""]),
-            (lambda it: it.delete(), ["é-", ""], []),
-            (lambda it: it.undo(), [], []),
-        ]:
-            for keeps, wanted in [(True, kept), (False, forgotten)]:
-                session, seen = Session(keep_undone=keeps), []
-                session.paste("é-")
-                session.undo()
-                session = copy.copy(session)
-                edit(session)
-                while session.undo():
-                    seen.append(session.text)
-                self.assertEqual((seen, session.keep_undone), (wanted, keeps))
 
     def test_it_hides_no_exception(self):
         session = Session("")
@@ -1340,27 +1184,6 @@ class Module(unittest.TestCase):
         made = {f"lodvarn_{it[3:]}" for it in used if it.startswith("py_")}
         left = {it.name for it in header.calls()} - used - made - set(re.findall(r"\blodvarn_\w+", own))
         self.assertEqual(left, {"lodvarn_text_copy"})  # A str needs no NUL.
-
-    def test_each_call_names_the_errors_of_the_header(self):
-        kinds, seen = {it().name: it.__name__ for it in lodvarn.LodvarnError.__subclasses__()}, 0
-        for call in header.functions():
-            name = {"open": "__init__", "set_pos": "pos", "pos": ""}.get(call.name[8:], call.name[8:])
-            owner = next((it for it in (Session, Movement, lodvarn) if hasattr(it, name)), None)
-            about = getattr(getattr(owner, name), "__doc__", None) if owner else None
-            if not about:
-                continue
-            # Those of a range, in the comment of several calls, are of those that take one.
-            takes_offset = re.search(r"offset|range|pos|from|change", " ".join(it.name for it in call.arguments))
-            listed = " ".join(re.findall(r"Errors(?:[:,]|, only)(.*?)(?:\.(?: |\n|$)|$)", call.comment, re.S))
-            wanted = {kinds.get(f"LODVARN_{it}") for it in re.findall(r"\b[A-Z][A-Z_0-9]+\b", listed)} - {None}
-            wanted -= set() if takes_offset else {"BadIndexError"}
-            raised = set(re.findall(r"\b\w+Error\b", about.partition("Raises")[2])) if "Raises" in about else set()
-            # A call that takes a screen or options may raise it besides.
-            also = {"NoSuchNumberError", "NotUtf8Error"} & raised
-            with self.subTest(name=name):
-                self.assertEqual(raised - also, wanted - also)
-            seen += len(wanted)
-        self.assertGreater(seen, 60)
 
     def test_the_library_has_the_version_of_the_package_or_a_later_one(self):
         its, own = ([*map(int, it.split("."))] for it in (lodvarn.library_version(), lodvarn.__version__))
