@@ -13,8 +13,7 @@ from email import message_from_string
 from pathlib import Path
 from zipfile import ZipFile
 
-import test_lodvarn
-from test_lodvarn import TOP
+from shared import PACKAGE, TOP, main
 
 import lodvarn
 import setup
@@ -22,7 +21,7 @@ import setup
 NAME, MACHINE = f"lodvarn-{lodvarn.__version__}", platform.machine()
 OLDEST = f"manylinux_2_17_{MACHINE}.manylinux2014_{MACHINE}"
 INFO = [f"{NAME}.dist-info/{it}" for it in ("METADATA", *setup.LICENSES, "RECORD", "WHEEL", "top_level.txt")]
-SOURCES = sorted(it.name for it in test_lodvarn.PACKAGE.glob("*.py"))
+SOURCES = sorted(it.name for it in PACKAGE.glob("*.py"))
 NAMES = [f"lodvarn/{it}" for it in (*SOURCES, "_lodvarn.abi3.so", "_lodvarn.pyi", "py.typed")]
 MODULE = NAMES[-3]
 # Edits a line, and says which files of a library for C are there.
@@ -159,4 +158,4 @@ class Wheel(unittest.TestCase):
 
 
 if __name__ == "__main__":
-    test_lodvarn.main()
+    main()
