@@ -112,7 +112,6 @@ int has_left_all(int yanked, int parts);
     TEST(an_edit_is_one_unit)                   \
     TEST(a_yank_and_its_pops_are_one_unit)      \
     TEST(an_undo_stays_in_its_group)            \
-    TEST(groups_are_abandoned)                  \
     TEST(what_was_undone_is_kept)               \
     TEST(edits_keep_what_was_undone)            \
     TEST(offsets_move)                          \

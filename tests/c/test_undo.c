@@ -25,15 +25,6 @@ void a_yank_is_popped(void) {
 }
 
 void the_ring_has_what_was_killed_and_kept(void) {
-    open_at("one two three|", 64);
-    DOES(DONE, lodvarn_kill_range(s, range(4, 8), LODVARN_FORWARD), "one |three#two ");
-    DOES(DONE, lodvarn_kill_range(s, range(3, 4), LODVARN_BACKWARD), "one|three# two ");
-    DOES(DONE, lodvarn_kill_range(s, range(3, 5), LODVARN_FORWARD), "one|ree# two th");
-    DOES(NOTHING, lodvarn_kill_range(s, range(1, 1), LODVARN_FORWARD), "one|ree# two th");
-    DOES(DONE, lodvarn_kill(s, WORD_BACK), "|ree#one two th");
-    DOES(DONE, lodvarn_yank(s, 1), "one two th|ree#one two th");
-    DOES(DONE, lodvarn_kill_range(s, range(0, 4), LODVARN_BACKWARD), "|two three#one #one two th");
-    DOES(DONE, lodvarn_undo(s, 1), "one two th|ree#one #one two th");
     open_at("one two|", 64);
     DOES(DONE, lodvarn_kill(s, WORD_BACK), "one |#two");
     DOES(NOTHING, lodvarn_kill(s, lodvarn_to_text_end()), "one |#two");
@@ -184,22 +175,6 @@ void an_undo_stays_in_its_group(void) {
     DOES(DONE, lodvarn_abandon_group(s), "a|");
     DOES(DONE, lodvarn_undo(s, 9), "|");
     SEE(!lodvarn_group_level(s) && !lodvarn_record_entries(s));
-}
-
-void groups_are_abandoned(void) {
-    open_at("one two|", 64);
-    lodvarn_insert(s, '-', 1), lodvarn_undo(s, 1);
-    DOES(NOTHING, lodvarn_abandon_group(s), "one two|");
-    DOES(DONE, lodvarn_redo(s), "one two-|");
-    lodvarn_begin_group(s), lodvarn_kill(s, WORD_BACK);
-    lodvarn_begin_group(s), lodvarn_paste(s, "three", 5, 1), lodvarn_end_group(s);
-    lodvarn_set_pos(s, 0);
-    lodvarn_begin_group(s), lodvarn_insert(s, 'x', 1);
-    DOES(DONE, lodvarn_abandon_group(s), "|one three#two-");
-    DOES(DONE, lodvarn_abandon_group(s), "one two-|#two-");
-    SEE(!lodvarn_group_level(s) && lodvarn_record_entries(s) == 1 && !lodvarn_can_redo(s));
-    DOES(NOTHING, lodvarn_abandon_group(s), "one two-|#two-");
-    DOES(DONE, lodvarn_undo(s, 1), "one two|");
 }
 
 void what_was_undone_is_kept(void) {

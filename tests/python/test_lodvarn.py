@@ -254,12 +254,6 @@ class Typing(Scripts):
             self.assertEqual(session.type(data), used)
             self.stands(session, left, len(left))
 
-    def test_what_is_no_character_raises(self):
-        for data in (b"\xff", b"\x80a", b"\xc0\x80", b"\xed\xa0", b"\xed\xa0\x80", b"\xf4\x90\x80\x80", b"\xe6a"):
-            session = Session("é")
-            self.assertRaises(lodvarn.NotUtf8Error, session.type, data)
-            self.assertEqual((session.text, session.record_entries), ("é", 0))
-
     def test_an_error_in_a_cycle_holds_no_buffer(self):
         def fail(call, data):
             """Leaves an error that leads to itself, and to the frames that have the data."""

@@ -66,37 +66,6 @@ fn options_are_those_that_were_set() -> Result<(), Error> {
 }
 
 #[test]
-fn a_ring_changes_its_size() -> Result<(), Error> {
-    // A size for a ring with the texts a, b and c, those that it has then, and those once d is kept too, all in one.
-    let rows = [
-        (0, "", ""),
-        (1, "c", "d"),
-        (2, "cb", "dc"),
-        (3, "cba", "dcb"),
-        (4, "cba", "dcba"),
-    ];
-    for (size, left, later) in rows {
-        let mut session = Session::builder().ring_size(3).open()?;
-        for text in ["a", "b", "c"] {
-            session.ring_add(text)?;
-        }
-        let loaded = Session::from_bytes(&session.to_bytes()?)?;
-        for mut session in [session, loaded] {
-            let mut options = session.options();
-            options.ring_size = size;
-            session.set_options(&options)?;
-            assert_eq!(
-                (ring(&session).concat(), session.options()),
-                (left.into(), options)
-            );
-            session.ring_add("d")?;
-            assert_eq!(ring(&session).concat(), later, "size {size}");
-        }
-    }
-    Ok(())
-}
-
-#[test]
 fn a_session_begins_anew_with_its_ring() -> Result<(), Error> {
     let mut session = opened("one two");
     session.kill(Movement::BackwardWord(1, Word::Emacs))?;
@@ -198,27 +167,6 @@ fn a_count_of_0_does_nothing() -> Result<(), Error> {
         (session.ring_count(), session.ring_text(0)),
         (2, Some("one "))
     );
-    Ok(())
-}
-
-#[test]
-fn an_indent_that_changes_nothing_only_ends_a_run_of_kills() -> Result<(), Error> {
-    // A text, and how many bytes of its blanks may be deleted.
-    for (text, amount) in [("one\n two\n", 0), ("one\ntwo", 9), ("\u{3000}one", 2)] {
-        let mut session = opened(text);
-        session.insert('x', 1).and(session.undo(1))?;
-        session.watch(9, 99)?;
-        let changed = session.dedent(Movement::WholeBuffer, amount);
-        assert_eq!(changed, Ok(false), "{text:?}");
-        let left = (session.can_redo(), session.report_count());
-        assert_eq!(left, (true, 0), "{text:?}");
-    }
-    let mut session = opened("one two");
-    for _ in 0..2 {
-        session.kill(Movement::backward_word(Word::Emacs))?;
-        assert_eq!(session.indent(Movement::WholeBuffer, 0), Ok(false));
-    }
-    assert_eq!(ring(&session), ["one ", "two"]);
     Ok(())
 }
 
