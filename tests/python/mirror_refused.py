@@ -9,11 +9,11 @@ import ctypes
 import sys
 from contextlib import suppress
 
+import test_mirrors
 from shared import edited, main
 
 from lodvarn import NoMemoryError, Session
 from lodvarn._lodvarn import ffi, lib
-from test_mirrors import Mirrors
 
 SEED = int(sys.argv.pop(1)) if len(sys.argv) > 1 else 7
 
@@ -26,7 +26,7 @@ def refuse(one_of):
     _refuse_memory(int(ffi.cast("uintptr_t", ffi.addressof(lib, "lodvarn_version"))), one_of, SEED)
 
 
-class Refused(Mirrors):
+class Refused(test_mirrors.Mirrors):
     seed = SEED
 
     def leads_to_the_text(self, session, patience, kinds):

@@ -102,45 +102,6 @@ fn an_edit_is_one_unit() -> Result<(), Error> {
 }
 
 #[test]
-fn an_empty_group_leaves_the_redo() -> Result<(), Error> {
-    for end in [
-        Session::end_group,
-        Session::end_all_groups,
-        Session::abandon_group,
-    ] {
-        let mut session = opened("");
-        session.insert('é', 1)?;
-        session.undo(1)?;
-        session.begin_group()?;
-        end(&mut session)?;
-        assert_eq!((session.group_level(), session.record_entries()), (0, 0));
-        assert_eq!((session.redo(), session.text()), (Ok(true), "é"));
-    }
-    Ok(())
-}
-
-#[test]
-fn an_undo_stays_in_its_group() -> Result<(), Error> {
-    let mut session = opened("-");
-    session.paste("a", 1)?;
-    let mut group = session.group()?;
-    group.paste("b", 1)?;
-    group.transpose_chars()?;
-    stands(&group, "-ba", 3);
-    assert_eq!((group.undo(9), group.undo(9)), (Ok(true), Ok(false)));
-    stands(&group, "-a", 2);
-    assert_eq!(
-        (group.group_level(), group.can_undo(), group.redo()),
-        (1, false, Ok(true))
-    );
-    drop(group);
-    stands(&session, "-ab", 3);
-    assert_eq!(session.undo(1), Ok(true));
-    stands(&session, "-a", 2);
-    Ok(())
-}
-
-#[test]
 fn edits_keep_what_was_undone() -> Result<(), Error> {
     type Edit = fn(&mut Session) -> Result<(), Error>;
     // An edit after "-" was pasted and undone, and the texts that undos come to then, with the option and without.
