@@ -303,7 +303,7 @@ DOCS = {
     ".py": (r'"""(?:.*?)"""', r""),
     ".rs": (r"^ *//[/!][^\n]*", r"^ *//[/!]"),
 }
-DOCUMENTED = ["include/lodvarn.h", "python/lodvarn/__init__.py", "rust/lodvarn/src/**/*.rs"]
+DOCUMENTED = ["include/lodvarn.h", "python/lodvarn/*.py", "rust/lodvarn/src/**/*.rs"]
 
 
 def blanked(pattern, text):
@@ -357,18 +357,19 @@ def errors_in(words, names):
     """The errors that words name, as C does: NoRoom is NO_ROOM."""
     found = {re.sub(r"(?<=[a-z])(?=[A-Z0-9])", "_", it).upper() for it in re.findall(names, words)}
     found |= {"BAD_OFFSET"} if "BAD_INDEX" in found else set()
-    return found & {it.removeprefix("LODVARN_") for it in header.enums()["lodvarn_answer"]} - SAID_ONCE
+    return found & {it.removeprefix("LODVARN_") for it in header.enums()["lodvarn_answer"]}
 
 
 def errors_of(language):
     """The errors that the docs of a language name, by the calls."""
     found = {}
     if language == "C":
-        said = [(it.name.removeprefix("lodvarn_"), it.comment.partition("Errors")[2]) for it in header.calls()]
+        said = [(it.name.removeprefix("lodvarn_"), it.comment.partition("Errors")[2]) for it in header.functions()]
         return {name: errors_in(words.partition("\n\n")[0], r"\b[A-Z0-9_]{4,}\b") for name, words in said}
     if language == "Python":
-        tree = ast.parse((TOP / "python/lodvarn/__init__.py").read_text())
-        said = [(it.name, ast.get_docstring(it) or "") for it in ast.walk(tree) if isinstance(it, ast.FunctionDef)]
+        trees = [ast.parse(it.read_text()) for it in TOP.glob("python/lodvarn/*.py")]
+        made = [it for tree in trees for it in ast.walk(tree) if isinstance(it, ast.FunctionDef)]
+        said = [(it.name, ast.get_docstring(it) or "") for it in made]
         names = r"\b(\w+)Error\b"
     else:
         files = [it for it in TOP.glob("rust/lodvarn/src/*.rs") if it.stem not in RUSTYLINE]
@@ -388,6 +389,7 @@ def see_errors(count):
             name = others.get(call, call)
             if name in found:
                 differ = errors ^ found[name]
+                differ -= SAID_ONCE - (errors & {"NO_SUCH_NUMBER"} if language == "Python" else set())
                 differ -= {error for who, it, error in OWN_ERRORS if who in ("C", language) and it == call}
                 faults = [f"{'lacks' if it in errors else 'has besides'} {it}" for it in sorted(differ)]
                 count.see(header.HEADER, [f"{call}: {language} {fault}" for fault in faults])

@@ -7,13 +7,13 @@
  * with it: with what may be undone and redone, and with the kill ring. */
 #define _DEFAULT_SOURCE
 #include "../prompt/kept.h"
+#include "drawing.h"
 #include "lodvarn.h"
 #include <errno.h>
 #include <signal.h>
 #include <stdio.h>
 #include <stdlib.h>
 #include <string.h>
-#include <sys/ioctl.h>
 #include <sys/select.h>
 #include <termios.h>
 #include <unistd.h>
@@ -23,52 +23,18 @@ enum {
     WAIT = 200     /* milliseconds to wait for the rest of a key */
 };
 
-static const char prompt[] = "> ";
-static const size_t prompt_columns = 2;
-
-/* A screen of that many columns, where a tab is drawn as a blank. */
-static lodvarn_screen screen_of(size_t columns) {
-    lodvarn_screen screen = LODVARN_SCREEN(columns);
-    screen.prompt = prompt_columns;
-    return screen;
-}
-
-/* The screen. Prompt and text make rows, as lodvarn_cell counts them, up to the row last. Those from top to bottom are
- * shown on a screen of that size. */
-struct view { size_t top, bottom, last, columns, height; };
-
-/* An offset of the text and where it stands. */
-struct spot { size_t offset, row, column; };
-
 struct editor {
     lodvarn *session;
     struct termios before; /* the terminal's modes outside of the editor */
     sigset_t unblocked;    /* the signals that are blocked while the editor waits */
     int is_raw, is_over, rings;
-    char *text; /* as it was drawn last */
-    size_t len, size;
-    struct view shown;  /* of no height if nothing is shown */
-    struct spot cursor; /* the terminal's, in rows of the text */
+    struct drawing drawing;
     char input[4096];
     size_t input_len, input_at;
     char pasted[LIMIT], output[65536];
     const char *path; /* of the file that is edited, or NULL */
     char kept[4104];  /* that of its session. What is too long here is so for the system */
 };
-
-/* Moves the terminal's cursor to a cell. Only relative moves lead to its row, since what was there before the editor
- * began stands above. */
-static void go_to(struct editor *e, size_t row, size_t column) {
-    if (row < e->cursor.row) printf("\x1b[%zuA", e->cursor.row - row);
-    if (row > e->cursor.row) printf("\x1b[%zuB", row - e->cursor.row);
-    printf("\x1b[%zuG", column + 1);
-    e->cursor.row = row;
-}
-
-static void forget_screen(struct editor *e) {
-    e->shown = (struct view){0, 0, 0, 0, 0};
-    e->cursor = (struct spot){0, 0, 0};
-}
 
 /* The terminal's modes. */
 
@@ -81,14 +47,14 @@ static void enter_raw(struct editor *e) {
     raw.c_cc[VTIME] = 0;
     tcsetattr(0, TCSADRAIN, &raw);
     fputs("\x1b[?2004h", stdout);
-    forget_screen(e);
+    drawing_forget(&e->drawing);
     e->is_raw = 1;
 }
 
 /* Leaves the cursor after what is shown, and the modes as they were before. */
 static void leave_raw(struct editor *e) {
     if (!e->is_raw) return;
-    go_to(e, e->shown.bottom, 0);
+    go_to(&e->drawing, e->drawing.shown.bottom, 0);
     fputs("\r\n\x1b[?2004l", stdout);
     fflush(stdout);
     tcsetattr(0, TCSADRAIN, &e->before);
@@ -99,6 +65,13 @@ static void end_without_memory(struct editor *e) {
     leave_raw(e);
     fputs("edit: out of memory\n", stderr);
     exit(1);
+}
+
+/* Draws what changed, and rings the bell. */
+static void redraw(struct editor *e) {
+    if (e->rings) putchar('\a');
+    e->rings = 0;
+    if (!drawing_redraw(&e->drawing, e->session)) end_without_memory(e);
 }
 
 /* What the signals said: which one ends the editor, or 0, and whether it goes on after it was stopped. A change of the
@@ -120,142 +93,6 @@ static void hear_signals(struct editor *e) {
         signal(heard[i], note);
     }
     sigprocmask(SIG_BLOCK, &blocked, &e->unblocked);
-}
-
-/* The drawing. */
-
-/* Copies the text, since what the session lends is gone after the next edit. */
-static void read_text(struct editor *e) {
-    while (lodvarn_text_copy(e->session, e->text, e->size, &e->len) == LODVARN_TOO_SMALL) {
-        free(e->text);
-        e->text = malloc(e->size = 2 * e->len + 64);
-        if (!e->text) end_without_memory(e);
-    }
-}
-
-/* Begins the next row. Before that it erases what is left of the last one, if that is not full. */
-static void begin_row(struct editor *e, struct spot *at, const struct view *view) {
-    int was_shown = view->top <= at->row && at->row <= view->bottom;
-    if (was_shown && at->column < view->columns) fputs("\x1b[K", stdout);
-    if (was_shown && at->row < view->bottom) {
-        fputs("\r\n", stdout);
-        e->cursor.row = at->row + 1;
-    }
-    at->row++;
-    at->column = 0;
-}
-
-/* Draws a cluster, or begins the row after a newline. A tab is a blank. The terminal may measure a cluster of
- * several characters as the sum of their widths. So the cursor is placed after it, and at the right edge it is not
- * wrapped. */
-static void draw_cluster(struct editor *e, const char *bytes, lodvarn_cluster it, struct spot *at,
-                         const struct view *view) {
-    size_t sum = 0, len = it.to - it.from;
-    if (*bytes == '\n' || at->column + it.columns > view->columns) begin_row(e, at, view);
-    if (*bytes == '\n') return;
-    at->column += it.columns;
-    if (at->row < view->top || view->bottom < at->row) return;
-    if (at->column >= view->columns) lodvarn_width(LODVARN_WC_WIDTH, bytes, len, &sum);
-    if (sum > it.columns) fputs("\x1b[?7l", stdout);
-    fwrite(*bytes == '\t' ? " " : bytes, 1, len, stdout);
-    if (sum > it.columns) fputs("\x1b[?7h", stdout);
-    if (len > 1 && at->column < view->columns) printf("\x1b[%zuG", at->column + 1);
-}
-
-/* Draws the text from a spot up to an offset, and erases what is left of the row there, or of all at the text's end. */
-static void draw(struct editor *e, struct spot at, size_t end, const struct view *view) {
-    if (view->bottom < at.row) return;
-    if (at.row < view->top) go_to(e, view->top, 0);
-    else go_to(e, at.row, at.column);
-    if (at.offset == 0) {
-        if (view->top == 0) fputs(prompt, stdout);
-        at.column = prompt_columns;
-    }
-    for (lodvarn_cluster it; at.offset < end && lodvarn_cluster_at(e->session, at.offset, &it) > 0; at.offset = it.to)
-        draw_cluster(e, e->text + at.offset, it, &at, view);
-    if (end == e->len && at.column >= view->columns) begin_row(e, &at, view);
-    if (at.row < view->top || view->bottom < at.row || at.column >= view->columns) return;
-    /* What is erased from the screen's first cell on would go into the scrollback of some terminals. */
-    int takes_below = end == e->len && (at.row > view->top || at.column > 0);
-    fputs(takes_below ? "\x1b[J" : "\x1b[K", stdout);
-}
-
-/* Where to begin if the text has changed from an offset on: a cluster before, since the new text may join that one, and
- * not at the left edge of a row that is wrapped, since the new text may fit in the row above. */
-static struct spot spot_before(struct editor *e, size_t offset, size_t columns) {
-    lodvarn_screen screen = screen_of(columns);
-    lodvarn_position cell = {0, 0};
-    lodvarn_cluster it;
-    do {
-        if (lodvarn_cluster_before(e->session, offset, &it) <= 0 || it.from == 0) return (struct spot){0, 0, 0};
-        offset = it.from;
-        lodvarn_cell(&screen, offset, e->text, offset, &cell);
-    } while (cell.column == 0 && e->text[offset - 1] != '\n');
-    return (struct spot){offset, cell.line, cell.column};
-}
-
-/* What of the text should be shown on a screen of that size, and the spot of the cursor. */
-static struct view view_of(struct editor *e, struct winsize size, struct spot *cursor) {
-    lodvarn_screen screen = screen_of(size.ws_col);
-    lodvarn_position at = {0, 0}, last = {0, 0};
-    size_t pos = lodvarn_pos(e->session);
-    lodvarn_cell(&screen, pos, e->text, e->len, &at);
-    lodvarn_cell(&screen, e->len, e->text, e->len, &last);
-    *cursor = (struct spot){pos, at.line, at.column};
-    size_t top = at.line < size.ws_row ? 0 : at.line - size.ws_row + 1;
-    size_t bottom = last.line - top < size.ws_row ? last.line : top + size.ws_row - 1;
-    return (struct view){top, bottom, last.line, size.ws_col, size.ws_row};
-}
-
-/* How many rows lower the cursor is once the terminal has got narrower. Most terminals then wrap each row that no
- * longer fits. A wider one joins none, since each row was begun by a newline. */
-static size_t rows_wrapped(const struct editor *e, size_t columns) {
-    lodvarn_screen before = screen_of(e->shown.columns), now = screen_of(columns);
-    size_t wrapped = 0;
-    for (size_t row = e->shown.top; row <= e->cursor.row; row++) {
-        lodvarn_position start = {row, 0}, end = {row + 1, 0};
-        size_t from = 0, to = 0, on = 0, pos = e->cursor.offset;
-        lodvarn_offset_at(&before, start, e->text, e->len, &from);
-        lodvarn_offset_at(&before, end, e->text, e->len, &to);
-        /* The cursor stands on a cluster, with which it may be wrapped. */
-        lodvarn_first_cluster(e->text + pos, e->len - pos, &on);
-        if (row == e->cursor.row && pos + on < to) to = pos + on;
-        if (to > from && e->text[to - 1] == '\n') to--;
-        now.prompt = row ? 0 : prompt_columns;
-        lodvarn_cell(&now, to - from, e->text + from, to - from, &end);
-        wrapped += end.line - (end.line && !end.column);
-    }
-    return wrapped;
-}
-
-/* Draws all if other rows are shown than before. Else it draws from the first change on: to the end, or if there
- * are as many rows as before, to the end of the line in which the last change ends. */
-static void redraw(struct editor *e) {
-    lodvarn_splice change;
-    struct winsize size;
-    struct spot cursor;
-    if (ioctl(1, TIOCGWINSZ, &size) || !size.ws_col || !size.ws_row) size = (struct winsize){24, 80, 0, 0};
-    if (size.ws_col < e->shown.columns) e->cursor.row += rows_wrapped(e, size.ws_col);
-    int has_changed = lodvarn_take_change(e->session, &change) > 0;
-    read_text(e);
-    struct view view = view_of(e, size, &cursor);
-    if (view.top != e->shown.top || view.columns != e->shown.columns || view.height != e->shown.height) {
-        e->cursor.row = e->cursor.row - e->shown.top + view.top;
-        go_to(e, view.top, 0);
-        /* Erases the first row, and then what is below it, for the reason in draw. */
-        fputs("\x1b[K\x1b" "7\x1b[B\x1b[J\x1b" "8", stdout);
-        draw(e, (struct spot){0, 0, 0}, e->len, &view);
-    } else if (has_changed) {
-        const char *newline = NULL;
-        if (view.last == e->shown.last) newline = memchr(e->text + change.new_to, '\n', e->len - change.new_to);
-        draw(e, spot_before(e, change.from, view.columns), newline ? (size_t)(newline - e->text) : e->len, &view);
-    }
-    go_to(e, cursor.row, cursor.column);
-    e->cursor.offset = cursor.offset;
-    if (e->rings) putchar('\a');
-    e->rings = 0;
-    fflush(stdout);
-    e->shown = view;
 }
 
 /* Whether the bytes begin with a control character: one of one byte, or 0xc2 and a byte below 0xa0. */
@@ -409,7 +246,7 @@ static void search(struct editor *e, uint32_t direction) {
 static void clear_screen(struct editor *e, uint32_t unused) {
     (void)unused;
     fputs("\x1b[H", stdout);
-    forget_screen(e);
+    drawing_forget(&e->drawing);
 }
 
 /* Stops the job as the terminal's own C-z does, until it is continued. */
@@ -460,10 +297,10 @@ static void end_text(struct editor *e, uint32_t is_accepted) {
     if (e->path) return;
     lodvarn_move(e->session, lodvarn_to_text_end());
     redraw(e);
-    if (is_accepted) printf("\n=> %s\n", e->text);
+    if (is_accepted) printf("\n=> %s\n", e->drawing.text);
     else fputs("^C\n", stdout);
     if (lodvarn_restart(e->session, "", 0) < 0) end_without_memory(e);
-    forget_screen(e);
+    drawing_forget(&e->drawing);
 }
 
 static lodvarn_movement char_back(void) { return lodvarn_chars_back(1); }
@@ -580,7 +417,7 @@ int main(int argc, char **argv) {
     if (!ended_by) redraw(&e);
     leave_raw(&e);
     lodvarn_close(&e.session);
-    free(e.text);
+    free(e.drawing.text);
     if (!ended_by) return 0;
     /* The process ends by the signal, so that the shell knows. */
     signal(ended_by, SIG_DFL);

@@ -6,6 +6,7 @@
 
 enum { COMMANDS = 60000, LIMIT = 600, LONG = 300, ROOM = 1 << 16 };
 
+int passed, failed;
 static lodvarn *s;
 static unsigned refused_of; /* one of so many requests is refused, none if it is 0 */
 static size_t most;         /* a bound of the record now and then, in entries and in bytes */

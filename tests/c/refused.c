@@ -17,6 +17,7 @@
 
 enum { NO_MORE = INT_MIN };
 
+int passed, failed;
 static lodvarn *s;
 static size_t left = SIZE_MAX; /* requests before the one that is refused */
 static int was_refused, was_refused_before;

@@ -8,6 +8,7 @@
 #include "typed.h"
 
 enum { HEADING = 8, ROOM = 1 << 16, PAGE = 4096, MOST = 400 };
+int passed, failed;
 static const char *const scripts[] = {
     "text one",
     "limit 40;ring 2;text one two three;kill bword 1 emacs;pos 0;kill fword 1 after emacs;yank 1;yankpop",

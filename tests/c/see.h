@@ -11,7 +11,8 @@
 #define SEE(holds) see(#holds, holds)
 #define COUNT(array) (sizeof(array) / sizeof *(array))
 
-static int passed, failed;
+/* The file that has main defines them. */
+extern int passed, failed;
 
 static inline int see(const char *what, int holds) {
     if (holds) passed++;

@@ -1,4 +1,4 @@
-"""mirror_refused.py [SEED]: the mirrors of test_lodvarn.py, with requests of the library for memory refused at random.
+"""mirror_refused.py [SEED]: the mirrors of test_mirrors.py, with requests of the library for memory refused at random.
 
 A command that finds no memory may have changed the text: the copies hold all the same. Memory is refused also while
 reports are read, which wait then, and while a session is saved and loaded, which leaves it. To be run with the shared
@@ -9,8 +9,11 @@ import ctypes
 import sys
 from contextlib import suppress
 
-import test_lodvarn
-from lodvarn import NoMemoryError, Session, ffi, lib
+import test_mirrors
+from shared import edited, main
+
+from lodvarn import NoMemoryError, Session
+from lodvarn._lodvarn import ffi, lib
 
 SEED = int(sys.argv.pop(1)) if len(sys.argv) > 1 else 7
 
@@ -23,7 +26,7 @@ def refuse(one_of):
     _refuse_memory(int(ffi.cast("uintptr_t", ffi.addressof(lib, "lodvarn_version"))), one_of, SEED)
 
 
-class Refused(test_lodvarn.Mirrors):
+class Refused(test_mirrors.Mirrors):
     seed = SEED
 
     def leads_to_the_text(self, session, patience, kinds):
@@ -37,7 +40,7 @@ class Refused(test_lodvarn.Mirrors):
         self.assertGreater(self.halfway, 5)
 
     def test_a_session_is_saved_and_loaded_or_finds_no_memory(self):
-        session, loaded = test_lodvarn.edited(), 0
+        session, loaded = edited(), 0
         saved = session.save()
         self.addCleanup(refuse, 0)
         refuse(12)
@@ -50,4 +53,4 @@ class Refused(test_lodvarn.Mirrors):
 
 
 if __name__ == "__main__":
-    test_lodvarn.main()
+    main()

@@ -13,14 +13,15 @@ import unittest
 import zlib
 from pathlib import Path
 
-import test_lodvarn
+from shared import TOP, main
+
 from lodvarn import Movement, Session
 
-JOURNAL = test_lodvarn.TOP / "examples/journal"
+JOURNAL = TOP / "examples/journal"
 sys.path.insert(0, str(JOURNAL))
 from journal import KEYS, NUMBERS, SUM, Journal, press, recover  # noqa: E402
 
-ENVIRONMENT = {**os.environ, "PYTHONPATH": str(test_lodvarn.TOP / "python")}
+ENVIRONMENT = {**os.environ, "PYTHONPATH": str(TOP / "python")}
 TEXTS = ["one two", " zwölf", "漢字 ", "e\u0301", "\U0001f469", "x"]
 KILLS, PATIENCE = 20, 600
 
@@ -119,4 +120,4 @@ class Journals(unittest.TestCase):
 
 
 if __name__ == "__main__":
-    test_lodvarn.main()
+    main()

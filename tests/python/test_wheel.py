@@ -14,16 +14,17 @@ from email import message_from_string
 from pathlib import Path
 from zipfile import ZipFile
 
-import lodvarn
-import test_lodvarn
-from test_lodvarn import TOP
+from shared import PACKAGE, TOP, main
 
+import lodvarn
 import setup
 
 NAME, MACHINE = f"lodvarn-{lodvarn.__version__}", platform.machine()
 OLDEST = f"manylinux_2_17_{MACHINE}.manylinux2014_{MACHINE}"
 INFO = [f"{NAME}.dist-info/{it}" for it in ("METADATA", *setup.LICENSES, "RECORD", "WHEEL", "top_level.txt")]
-NAMES = [f"lodvarn/{it}" for it in ("__init__.py", "_lodvarn.abi3.so", "_lodvarn.pyi", "py.typed")]
+SOURCES = sorted(it.name for it in PACKAGE.glob("*.py"))
+NAMES = [f"lodvarn/{it}" for it in (*SOURCES, "_lodvarn.abi3.so", "_lodvarn.pyi", "py.typed")]
+MODULE = NAMES[-3]
 # Edits a line, and says which files of a library for C are there.
 EDIT = """
 import lodvarn
@@ -93,7 +94,7 @@ class Wheel(unittest.TestCase):
         with ZipFile(self.wheel) as wheel:
             self.assertEqual(sorted(wheel.namelist()), sorted([*INFO, *NAMES]))
             said = message_from_string(wheel.read(INFO[0]).decode())
-            wheel.extract(NAMES[1], self.room)
+            wheel.extract(MODULE, self.room)
         for name, wanted in [
             ("Version", lodvarn.__version__), ("Requires-Dist", "cffi *\\(?>=1.15\\)?"),
             ("Requires-Python", ">=3.8"), ("Description-Content-Type", "text/markdown"), ("Summary", "A line of .*"),
@@ -102,7 +103,7 @@ class Wheel(unittest.TestCase):
         self.assertEqual(said.get_all("License-File"), [*setup.LICENSES])
         self.assertIn("License :: OSI Approved :: MIT License", said.get_all("Classifier"))
         self.assertEqual(said.get_payload().strip(), (TOP / "python/README.md").read_text().strip())
-        shown = run("nm", "-D", "--defined-only", "--format=posix", self.room / NAMES[1]).stdout
+        shown = run("nm", "-D", "--defined-only", "--format=posix", self.room / MODULE).stdout
         self.assertEqual([it.split()[0] for it in shown.splitlines()], ["PyInit__lodvarn"])
 
     def test_each_interpreter_takes_it(self):
@@ -154,4 +155,4 @@ class Wheel(unittest.TestCase):
 
 
 if __name__ == "__main__":
-    test_lodvarn.main()
+    main()

@@ -1,8 +1,9 @@
 //! How a session is opened, and its options as the core has them.
+use crate::errors::Error;
 use crate::proved::rl_base::NewKill;
 use crate::proved::rl_session::{self, Bound, Settings};
 use crate::proved::stand_in::alloc::Global;
-use crate::words::{Error, Mode, Options};
+use crate::types::{Mode, Options};
 use crate::{Core, Session};
 use core::sync::atomic::AtomicBool;
 

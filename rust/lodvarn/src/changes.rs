@@ -1,7 +1,8 @@
 //! What changed in the text of a session: as one splice, as reports, or by calls of a listener.
+use crate::errors::Error;
 use crate::listeners::ChangeListener;
 use crate::proved::rl_base;
-use crate::words::{Direction, Error, ReportKind, Side};
+use crate::types::{Direction, ReportKind, Side};
 use crate::Session;
 use core::fmt;
 

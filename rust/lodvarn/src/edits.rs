@@ -1,6 +1,7 @@
 //! Motions and edits.
+use crate::errors::Error;
 use crate::proved::rl_line::can_delete_by;
-use crate::words::{Case, Error, Inserted, Movement};
+use crate::types::{Case, Inserted, Movement};
 use crate::{Core, Session};
 use core::ops::RangeBounds;
 

@@ -4,7 +4,7 @@
 use crate::proved::rl_base;
 use core::cmp::Ordering;
 
-pub use crate::words::Mode as GraphemeClusterMode;
+pub use crate::types::Mode as GraphemeClusterMode;
 
 /// A number of columns or rows.
 pub type Unit = u16;

@@ -39,13 +39,14 @@ pub mod undo;
 mod builder;
 mod changes;
 mod edits;
+mod errors;
 mod listeners;
 mod reads;
 mod record;
 mod ring;
 mod saved;
 mod texts;
-mod words;
+mod types;
 
 // The core, which the build script makes from the proved sources. Its modules say of themselves which have `unsafe`
 // blocks: those of the core are proved, and those of the stand-in for Rattle's standard library have each its reason.
@@ -55,14 +56,15 @@ mod proved {
 
 pub use builder::SessionBuilder;
 pub use changes::{NotifyError, Report, Splice};
+pub use errors::Error;
 pub use listeners::{ChangeListener, DeleteListener, NoListener, Pair};
 pub use record::Group;
 #[cfg(feature = "std")]
 pub use texts::run_script;
 pub use texts::{clusters, first_cluster, last_cluster, width};
-pub use words::{
-    At, Case, CharSearch, Cluster, Direction, Error, Filled, Inserted, Mode, Movement, Options,
-    Position, ReportKind, RowTarget, Screen, Side, Word,
+pub use types::{
+    At, Case, CharSearch, Cluster, Direction, Filled, Inserted, Mode, Movement, Options, Position,
+    ReportKind, RowTarget, Screen, Side, Word,
 };
 
 use alloc::vec::Vec;

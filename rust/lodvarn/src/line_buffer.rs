@@ -37,13 +37,13 @@ mod edits;
 mod kills;
 
 pub use crate::listeners::{ChangeListener, DeleteListener, NoListener, Pair};
-pub use crate::words::{Case as WordAction, Direction};
+pub use crate::types::{Case as WordAction, Direction};
 
+use crate::errors::Error;
 use crate::keymap::{At, CharSearch, Movement, RepeatCount, Word};
 use crate::layout::Layout;
 use crate::proved::rl_line;
 use crate::proved::stand_in::alloc::Global;
-use crate::words::Error;
 use alloc::string::String;
 use core::fmt;
 use core::ops::Deref;

@@ -1,6 +1,6 @@
 //! Listeners, which are notified of the changes of a text.
 use crate::proved::rl_base::{self, Refusal};
-use crate::words::Direction;
+use crate::types::Direction;
 
 /// Is notified of deletions and of kills: by [`Session::notify`](crate::Session::notify), and by the edits of a
 /// [`LineBuffer`](crate::line_buffer::LineBuffer).

@@ -1,11 +1,12 @@
 //! What is read of a session. A read changes nothing, and does not end a run of kills.
+use crate::errors::Error;
 use crate::proved::rl_base;
 use crate::proved::rl_line::LineBuffer;
 use crate::proved::stand_in::alloc::Global;
 use crate::proved::unicode_segmentation::UnicodeSegmentation;
 use crate::texts::{first_cluster, last_cluster, width};
-use crate::words::{
-    Cluster, Direction, Error, Filled, Mode, Movement, Options, Position, RowTarget, Screen,
+use crate::types::{
+    Cluster, Direction, Filled, Mode, Movement, Options, Position, RowTarget, Screen,
 };
 use crate::{Core, Session};
 use core::ops::{Bound, Range, RangeBounds};

@@ -1,5 +1,6 @@
 //! Undo, redo, and groups of changes.
-use crate::words::{Error, Options};
+use crate::errors::Error;
+use crate::types::Options;
 use crate::{Core, Session};
 use core::ops::{Deref, DerefMut};
 

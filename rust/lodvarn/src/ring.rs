@@ -1,5 +1,6 @@
 //! Kills, yanks, and the texts that the ring keeps.
-use crate::words::{Direction, Error, Inserted, Movement};
+use crate::errors::Error;
+use crate::types::{Direction, Inserted, Movement};
 use crate::{Core, Session};
 use alloc::string::String;
 use core::ops::RangeBounds;

@@ -1,6 +1,6 @@
 //! A session as bytes, to be stored in a file and loaded again; and a copy of a session.
+use crate::errors::Error;
 use crate::proved::stand_in::alloc::Global;
-use crate::words::Error;
 use crate::{Core, Session};
 use alloc::vec::Vec;
 

@@ -1,7 +1,8 @@
 //! The calls without a session.
 use crate::empty_for;
+use crate::errors::Error;
 use crate::proved::unicode_segmentation::UnicodeSegmentation;
-use crate::words::{Cluster, Error, Mode, Position, Screen};
+use crate::types::{Cluster, Mode, Position, Screen};
 use alloc::vec::Vec;
 
 /// Runs a script in a session of its own, and returns what it prints. `docs/RULES.md` of the repository describes

@@ -30,12 +30,12 @@
 //!   something to undo, and whether an undo or a redo fits a line.
 //! - [`truncate`](Changeset::truncate) drops the undone changes.
 //! - Out of memory, a call panics with "out of memory". `try_undo` and `try_redo` return [`Error::NoMemory`].
+use crate::errors::Error;
 use crate::keymap::RepeatCount;
 use crate::line_buffer::{answered, ChangeListener, DeleteListener, Direction, LineBuffer};
 use crate::proved::rl_base::{DeleteListener as _, Refusal};
 use crate::proved::rl_record;
 use crate::proved::stand_in::alloc::Global;
-use crate::words::Error;
 use alloc::string::String;
 use core::fmt;
 

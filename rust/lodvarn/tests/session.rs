@@ -1,11 +1,10 @@
-//! What a session has beside the calls of scripts: how it is built, what it refuses, where it may go, and the guards of
-//! groups.
+//! What a session has beside the calls of scripts: how it is built, what it refuses, and where it may go.
 use lodvarn::{
-    At, Case, CharSearch, Cluster, Direction, Error, Filled, Group, Inserted, Mode, Movement,
-    Options, RowTarget, Screen, Session, Word,
+    At, Case, CharSearch, Cluster, Direction, Error, Filled, Inserted, Mode, Movement, Options,
+    RowTarget, Screen, Session, Word,
 };
 use std::ops::Bound::{self, Excluded, Included, Unbounded};
-use std::panic::{catch_unwind, AssertUnwindSafe};
+use std::panic::catch_unwind;
 
 /// A session on a text, with the cursor at its end and a limit of 64 bytes.
 fn opened(text: &str) -> Session {
@@ -63,37 +62,6 @@ fn options_are_those_that_were_set() -> Result<(), Error> {
     (options.mode, options.limit, options.max_bytes) = (Mode::WcWidth, None, None);
     session.set_options(&options)?;
     assert_eq!(session.options(), options);
-    Ok(())
-}
-
-#[test]
-fn a_ring_changes_its_size() -> Result<(), Error> {
-    // A size for a ring with the texts a, b and c, those that it has then, and those once d is kept too, all in one.
-    let rows = [
-        (0, "", ""),
-        (1, "c", "d"),
-        (2, "cb", "dc"),
-        (3, "cba", "dcb"),
-        (4, "cba", "dcba"),
-    ];
-    for (size, left, later) in rows {
-        let mut session = Session::builder().ring_size(3).open()?;
-        for text in ["a", "b", "c"] {
-            session.ring_add(text)?;
-        }
-        let loaded = Session::from_bytes(&session.to_bytes()?)?;
-        for mut session in [session, loaded] {
-            let mut options = session.options();
-            options.ring_size = size;
-            session.set_options(&options)?;
-            assert_eq!(
-                (ring(&session).concat(), session.options()),
-                (left.into(), options)
-            );
-            session.ring_add("d")?;
-            assert_eq!(ring(&session).concat(), later, "size {size}");
-        }
-    }
     Ok(())
 }
 
@@ -202,27 +170,6 @@ fn a_count_of_0_does_nothing() -> Result<(), Error> {
     Ok(())
 }
 
-#[test]
-fn an_indent_that_changes_nothing_only_ends_a_run_of_kills() -> Result<(), Error> {
-    // A text, and how many bytes of its blanks may be deleted.
-    for (text, amount) in [("one\n two\n", 0), ("one\ntwo", 9), ("\u{3000}one", 2)] {
-        let mut session = opened(text);
-        session.insert('x', 1).and(session.undo(1))?;
-        session.watch(9, 99)?;
-        let changed = session.dedent(Movement::WholeBuffer, amount);
-        assert_eq!(changed, Ok(false), "{text:?}");
-        let left = (session.can_redo(), session.report_count());
-        assert_eq!(left, (true, 0), "{text:?}");
-    }
-    let mut session = opened("one two");
-    for _ in 0..2 {
-        session.kill(Movement::backward_word(Word::Emacs))?;
-        assert_eq!(session.indent(Movement::WholeBuffer, 0), Ok(false));
-    }
-    assert_eq!(ring(&session), ["one ", "two"]);
-    Ok(())
-}
-
 /// Sets the limit of a session.
 fn limit(session: &mut Session, limit: usize) -> Result<(), Error> {
     let mut options = session.options();
@@ -265,21 +212,6 @@ fn what_has_no_room_changes_nothing() -> Result<(), Error> {
             assert_eq!(call(session), Err(Error::NoRoom), "row {row}");
             assert_eq!(session.to_bytes().as_ref(), Ok(&before), "row {row}");
         }
-    }
-    Ok(())
-}
-
-#[test]
-fn a_group_is_not_reopened_before_what_is_kept() -> Result<(), Error> {
-    for keeps in [true, false] {
-        let mut session = Session::builder().keep_undone(keeps).open()?;
-        session.group()?.insert('a', 1)?;
-        session.insert('b', 1)?;
-        session.undo(1)?;
-        assert_eq!(
-            (session.reopen_group(), session.can_redo()),
-            (!keeps, keeps)
-        );
     }
     Ok(())
 }
@@ -372,16 +304,11 @@ fn a_text_is_found_on_each_side() {
 #[test]
 fn bytes_are_typed_by_characters() -> Result<(), Error> {
     // Bytes, how many are typed, and the text then, which may have 5 bytes.
-    let rows: [(&[u8], _, _); 9] = [
-        (b"", Ok(0), ""),
-        (b"ab", Ok(2), "ab"),
+    let rows: [(&[u8], _, _); 4] = [
         (b"a\xE6\xBC", Ok(1), "a"),
         (b"\xE6\xBC", Ok(0), ""),
-        ("漢é".as_bytes(), Ok(5), "漢é"),
         ("漢漢".as_bytes(), Ok(3), "漢"),
-        (b"a\xFFb", Ok(1), "a"),
         (b"\xFFb", Err(Error::NotUtf8), ""),
-        (b"\xE6b", Err(Error::NotUtf8), ""),
     ];
     for (bytes, wanted, text) in rows {
         let mut session = Session::builder().limit(5).open()?;
@@ -512,146 +439,4 @@ fn a_session_goes_to_another_thread() {
     });
     let session = there.join().expect("the thread ends");
     assert_eq!(catch_unwind(|| session.pos()).ok(), Some(3));
-}
-
-#[test]
-fn a_guard_closes_what_was_begun_in_it_alone() -> Result<(), Error> {
-    type Inside = fn(&mut Session) -> Result<(), Error>;
-    let deeper: Inside = |s| s.paste("b", 1).and(s.begin_group()).and(s.begin_group());
-    // What is done in the inner one of two groups, whether that has a change then, and how many groups are left.
-    let rows: [(Inside, bool, usize); 6] = [
-        (|_| Ok(()), false, 1),
-        (|s| s.paste("b", 1).map(drop), true, 1),
-        (deeper, true, 1),
-        // an undo stays in it
-        (|s| s.paste("b", 1).and(s.undo(2)).map(drop), false, 1),
-        (|s| s.end_all_groups().map(drop), false, 0),
-        (|s| s.abandon_group().map(drop), false, 1),
-    ];
-    for (row, (inside, has_change, left)) in rows.into_iter().enumerate() {
-        for is_dropped in [false, true] {
-            let mut session = opened("-");
-            let mut outer = session.group()?;
-            outer.paste("a", 1)?;
-            let mut inner = outer.group()?;
-            inside(&mut inner)?;
-            if is_dropped {
-                let panics = AssertUnwindSafe(move || {
-                    let _inner = inner;
-                    panic!("this is a part of the test");
-                });
-                assert!(catch_unwind(panics).is_err());
-            } else {
-                assert_eq!(Group::close(inner), Ok(has_change), "row {row}");
-            }
-            assert_eq!(outer.group_level(), left, "row {row}");
-            drop(outer);
-            assert_eq!((session.group_level(), session.undo(1)), (0, Ok(true)));
-            stands(&session, "-", 1);
-        }
-    }
-    Ok(())
-}
-
-#[test]
-fn an_edit_is_one_unit() -> Result<(), Error> {
-    type Edit = fn(&mut Session) -> Result<(), Error>;
-    // An edit on "one two", right before "two", and the text that it leaves.
-    let rows: [(Edit, &str); 7] = [
-        (|s| s.set_text(1, "three"), "three"),
-        (|s| s.transpose_chars().map(drop), "onet wo"),
-        (|s| s.transpose_words(1).map(drop), "two one"),
-        (|s| s.change_case(Case::Uppercase).map(drop), "one TWO"),
-        (
-            |s| s.indent(Movement::WholeLine, 33).map(drop),
-            "                                 one two",
-        ),
-        (|s| s.yank(1).and(s.yank_pop()).map(drop), "one -two"),
-        (
-            |s| s.yank(1).and(s.yank_pop()).and(s.yank_pop()).map(drop),
-            "one xtwo",
-        ),
-    ];
-    for (edit, left) in rows {
-        let mut session = Session::builder().text("one two").pos(4).open()?;
-        for text in ["x", "-", "+"] {
-            session.ring_add(text)?;
-        }
-        edit(&mut session)?;
-        assert_eq!(session.text(), left);
-        assert_eq!(session.undo(1), Ok(true));
-        stands(&session, "one two", 4);
-        assert_eq!((session.record_entries(), session.redo()), (0, Ok(true)));
-        assert_eq!((session.text(), session.can_redo()), (left, false));
-    }
-    Ok(())
-}
-
-#[test]
-fn an_empty_group_leaves_the_redo() -> Result<(), Error> {
-    for end in [
-        Session::end_group,
-        Session::end_all_groups,
-        Session::abandon_group,
-    ] {
-        let mut session = opened("");
-        session.insert('é', 1)?;
-        session.undo(1)?;
-        session.begin_group()?;
-        end(&mut session)?;
-        assert_eq!((session.group_level(), session.record_entries()), (0, 0));
-        assert_eq!((session.redo(), session.text()), (Ok(true), "é"));
-    }
-    Ok(())
-}
-
-#[test]
-fn an_undo_stays_in_its_group() -> Result<(), Error> {
-    let mut session = opened("-");
-    session.paste("a", 1)?;
-    let mut group = session.group()?;
-    group.paste("b", 1)?;
-    group.transpose_chars()?;
-    stands(&group, "-ba", 3);
-    assert_eq!((group.undo(9), group.undo(9)), (Ok(true), Ok(false)));
-    stands(&group, "-a", 2);
-    assert_eq!(
-        (group.group_level(), group.can_undo(), group.redo()),
-        (1, false, Ok(true))
-    );
-    drop(group);
-    stands(&session, "-ab", 3);
-    assert_eq!(session.undo(1), Ok(true));
-    stands(&session, "-a", 2);
-    Ok(())
-}
-
-#[test]
-fn edits_keep_what_was_undone() -> Result<(), Error> {
-    type Edit = fn(&mut Session) -> Result<(), Error>;
-    // An edit after "-" was pasted and undone, and the texts that undos come to then, with the option and without.
-    let rows: [(Edit, &[&str], &[&str]); 4] = [
-        (|s| s.insert('b', 1).map(drop), &["", "-", ""], &[""]),
-        (
-            |s| s.group()?.insert('b', 1).map(drop),
-            &["", "-", ""],
-            &[""],
-        ),
-        (|s| s.end_group().map(drop), &["-", ""], &[]),
-        (|s| s.ring_add("b"), &[], &[]),
-    ];
-    for (row, (edit, kept, dropped)) in rows.into_iter().enumerate() {
-        for (keeps, wanted) in [(true, kept), (false, dropped)] {
-            let mut session = Session::builder().keep_undone(keeps).open()?;
-            session.paste("-", 1)?;
-            session.undo(1)?;
-            edit(&mut session)?;
-            let mut texts = Vec::new();
-            while session.undo(1)? {
-                texts.push(session.text().to_string());
-            }
-            assert_eq!(texts, wanted, "row {row}, {keeps}");
-        }
-    }
-    Ok(())
 }

@@ -1,8 +1,8 @@
 //! The edits that insert a text, or change it.
 use super::{answered, ChangeListener, LineBuffer, WordAction};
+use crate::errors::Error;
 use crate::keymap::{Movement, RepeatCount};
 use crate::listeners::Told;
-use crate::words::Error;
 use core::ops::Range;
 
 impl LineBuffer {

@@ -1,8 +1,8 @@
 //! The edits that delete a text.
 use super::{answered, DeleteListener, Direction, LineBuffer};
+use crate::errors::Error;
 use crate::keymap::{At, CharSearch, Movement, RepeatCount, Word};
 use crate::listeners::Told;
-use crate::words::Error;
 use alloc::string::String;
 use core::ops::Range;
 
