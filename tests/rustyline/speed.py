@@ -17,7 +17,7 @@ last one is printed. Its last line is 'N passed, M failed', as that of --check.
 
 Instructions: of the rows that instructions.txt names, a key of one editor between two numbers of keys, so that no
 preparation is counted, nor growth where each key has an entry. A row of --check fails if it is more than a tenth above
-the file.
+the file. Each rustc makes others: the file begins with the one that it is of, and --check refuses any other.
 """
 
 import argparse
@@ -34,7 +34,8 @@ from pathlib import Path
 from sources import HERE, NotThere, make_newest, make_older, take_offline, takes_newest
 from test_editor import LODVARN
 
-from growth import TUNABLES  # isort: skip
+# That has put the folder of this one on the path.
+from growth import TUNABLES
 
 STORED = HERE / "instructions.txt"
 # How many runs a row may have, since others use the machine.
@@ -144,14 +145,19 @@ def check(counts, stored):
 
 def run(told):
     """Does what the words say. Answers of each row whether it is good, if that is asked."""
-    stored = dict(line.rsplit(" ", 1) for line in STORED.read_text().splitlines())
+    said = subprocess.run(["rustc", "--version"], check=True, stdout=subprocess.PIPE, text=True).stdout
+    compiler = " ".join(said.split()[:2])
+    stored_of, *lines = STORED.read_text().splitlines()
+    stored = dict(line.rsplit(" ", 1) for line in lines)
+    if told.check and compiler != stored_of:
+        raise NotThere(f"{STORED.name} is of {stored_of}, not of {compiler}.")
     if not (told.check or told.write):
         program = build("newest" if takes_newest() else "older", told.core.resolve())
         return compare(program, stored) if told.instructions else time_rows(program)
     counts = count_rows(build("alone", told.core.resolve()), "lodvarn", stored)
     if told.check:
         return check(counts, stored)
-    STORED.write_text("".join(f"{row} {ours}\n" for row, ours in zip(stored, counts)))
+    STORED.write_text("".join([f"{compiler}\n", *(f"{row} {ours}\n" for row, ours in zip(stored, counts))]))
     return None
 
 
