@@ -31,6 +31,7 @@ DUMP = re.compile(r"^desc: Trigger: Client Request: (.*)\n\n(?:.+\n)*?summary: (
 # The C library copies all by its loops, since rep movsb would count as one instruction a byte, and has one heap.
 TUNED = {"cpu.x86_rep_movsb_threshold": 1 << 30, "cpu.x86_rep_stosb_threshold": 1 << 30}
 TUNED |= {"malloc.mmap_threshold": 1 << 25, "malloc.trim_threshold": 1 << 30}
+TUNABLES = {"GLIBC_TUNABLES": ":".join(f"glibc.{name}={value}" for name, value in TUNED.items())}
 FLAT, SLACK = 0.01, 600
 
 
@@ -61,9 +62,7 @@ def measure(program):
     with tempfile.TemporaryDirectory(prefix="lodvarn-") as folder:
         out = Path(folder) / "out"
         options = ("--tool=callgrind", "--combine-dumps=yes", f"--callgrind-out-file={out}")
-        tuned = ":".join(f"glibc.{name}={value}" for name, value in TUNED.items())
-        environment = {**os.environ, "GLIBC_TUNABLES": tuned}
-        subprocess.run(["valgrind", "-q", *options, program], env=environment, check=True)
+        subprocess.run(["valgrind", "-q", *options, program], env={**os.environ, **TUNABLES}, check=True)
         dumps = [(name.split("|"), count) for name, count in DUMP.findall(out.read_text())]
     return [Measured(dumps[at : at + 3]) for at in range(0, len(dumps), 3)]
 

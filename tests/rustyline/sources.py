@@ -26,20 +26,6 @@ log = {{ version = "0.4", features = ["release_max_level_off"] }}
 unicode-segmentation = "1"
 unicode-width = "0.1"
 """
-PROGRAM = """[package]
-name = "{name}"
-version = "0.0.0"
-edition = "2021"
-
-[[bin]]
-name = "{name}"
-path = "{source}"
-
-[dependencies]
-original = {{ path = "../original" }}
-{more}
-[workspace]
-"""
 REPLACED = """[source.crates-io]
 replace-with = "debian"
 [source.debian]
@@ -93,15 +79,6 @@ def write_crate(folder, name, edition, texts):
         (source / f"{module}.rs").write_text(text.replace("pub(crate)", "pub"))
     modules = "".join(f"pub mod {module};\n" for module in texts)
     (source / "lib.rs").write_text(f"#![allow(warnings)]\n{modules}")
-
-
-def write_program(folder, name, more):
-    """Writes the crate of a program of this folder that stands on a core, the crate `original` beside it, with more
-    lines of its manifest, and answers where it is."""
-    crate = folder / name
-    crate.mkdir()
-    (crate / "Cargo.toml").write_text(PROGRAM.format(name=name, source=HERE / f"{name}.rs", more=more))
-    return crate
 
 
 def redo_of_older():

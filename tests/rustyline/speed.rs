@@ -1,13 +1,17 @@
 //! Times an editor's keys through the crate `lodvarn` and through rustyline's own core, named `original`, by turns:
 //! the row of the number that it is given, or all. The two must end with the same texts and cursors.
+//!
+//! By the words ROW KEYS `lodvarn` or `original` it does so many keys of the row of that name by one of the two, for
+//! their instructions to be counted. With the feature `alone` there is no core of rustyline.
 #![cfg_attr(feature = "older", allow(dead_code))]
-use std::fmt::Display;
 use std::sync::atomic::{AtomicUsize, Ordering};
 use std::time::{Duration, Instant};
 
 /// A line of prose.
 const PROSE: &str =
     "The kill ring keeps the last texts, and a yank puts one of them (\"déjà vu\") back;\n";
+/// A line of ten bytes.
+const SHORT: &str = "abcdefghi\n";
 /// How many rounds there are of each row.
 const ROUNDS: usize = 101;
 /// How many times its target fails a row.
@@ -84,6 +88,27 @@ macro_rules! editor_of {
                     let word = Movement::BackwardWord(1, Word::Emacs);
                     self.key(|line, $heard| line.kill(&word, $both))
                 }
+                /// A word is killed ahead, or back, and joins what was killed before it.
+                pub fn kill_on(&mut self, is_ahead: bool) -> usize {
+                    let ahead = Movement::ForwardWord(1, At::AfterEnd, Word::Emacs);
+                    let back = Movement::BackwardWord(1, Word::Emacs);
+                    let $heard = &mut self.heard;
+                    self.line.kill(if is_ahead { &ahead } else { &back }, $both);
+                    self.line.as_str().len() + self.line.pos()
+                }
+                /// The line gets a text, and so many changes all over it, of four kinds by turns.
+                pub fn change_all_over(&mut self, text: &str, times: usize) {
+                    self.put(text, 0);
+                    for turn in 0..times {
+                        self.line.set_pos(turn * 7919 % self.line.len());
+                        match turn % 4 {
+                            0 => self.insert('-'),
+                            1 => self.backspace(),
+                            2 => self.kill_word(),
+                            _ => self.yank(),
+                        };
+                    }
+                }
                 /// The length of what a movement covers, which is copied.
                 pub fn copy(&self, movement: &Movement) -> usize {
                     self.line.copy(movement).map_or(0, |text| text.len())
@@ -124,16 +149,16 @@ macro_rules! editor_of {
                 pub fn width(&self) -> usize {
                     GraphemeClusterMode::Unicode.width(self.text()).into()
                 }
-                /// The cursor moves, by one of eight motions.
-                pub fn go(&mut self, motion: usize) -> usize {
+                /// The cursor moves, by one of eight motions, of which all but the last two have a count.
+                pub fn go(&mut self, motion: usize, n: u16) -> usize {
                     let layout = Layout::new(GraphemeClusterMode::Unicode);
                     self.key(|line, _| match motion % 8 {
-                        0 => line.move_to_next_word(At::AfterEnd, Word::Emacs, 1),
-                        1 => line.move_to_prev_word(Word::Emacs, 1),
-                        2 => line.move_forward(1),
-                        3 => line.move_backward(1),
-                        4 => line.move_to_line_up(1, &layout),
-                        5 => line.move_to_line_down(1, &layout),
+                        0 => line.move_to_next_word(At::AfterEnd, Word::Emacs, n),
+                        1 => line.move_to_prev_word(Word::Emacs, n),
+                        2 => line.move_forward(n),
+                        3 => line.move_backward(n),
+                        4 => line.move_to_line_up(n, &layout),
+                        5 => line.move_to_line_down(n, &layout),
                         6 => line.move_home(),
                         _ => line.move_end(),
                     })
@@ -168,10 +193,12 @@ editor_of!(lodvarn, crate::Heard, |heard| &mut ::lodvarn::Pair {
     all: &mut heard.all,
     deletions: &mut heard.deletions,
 });
-#[cfg(not(feature = "older"))]
+#[cfg(not(any(feature = "older", feature = "alone")))]
 editor_of!(original, crate::heard::Heard, |heard| heard);
+#[cfg(feature = "alone")]
+use self::lodvarn as original;
 
-#[cfg(not(feature = "older"))]
+#[cfg(not(any(feature = "older", feature = "alone")))]
 mod heard;
 
 /// An editor on a session of the crate.
@@ -191,6 +218,15 @@ mod session {
         pub fn redo(&mut self) -> usize {
             self.0.redo().expect("there is memory");
             self.look() - self.0.pos()
+        }
+        /// What changed is reported from now on, by numbers.
+        pub fn watch(&mut self) {
+            self.0.watch(1, 0).expect("there is memory");
+        }
+        /// A character is typed, and what it reports is read.
+        pub fn insert_and_read(&mut self, c: char) -> usize {
+            let pos = super::Keys::insert(self, c);
+            pos + self.0.take_report().map_or(0, |report| report.new_len)
         }
     }
 
@@ -286,23 +322,40 @@ fn median(mut numbers: Vec<f64>) -> f64 {
 fn is_wanted() -> bool {
     static ROW: AtomicUsize = AtomicUsize::new(0);
     let row = ROW.fetch_add(1, Ordering::Relaxed).to_string();
-    std::env::args().nth(1).map_or(true, |wanted| wanted == row)
+    std::env::args().skip(1).all(|wanted| wanted == row)
 }
 
-/// Prints what a key takes in each, the least of all rounds, and the median of the ratios within a round.
+/// Does the keys of a row by one of the two, and ends the program, if these are to be counted.
+fn count(what: &str, by: &str, time: impl Fn(usize, usize) -> (f64, Left)) {
+    let words: Vec<String> = std::env::args().collect();
+    if words.len() == 4 && words[1] == what && words[3] == by {
+        let (_, (_, sum)) = time(1, words[2].parse().expect("a number of keys"));
+        println!("{what}: {sum}");
+        std::process::exit(0);
+    }
+}
+
+/// Prints what a key takes in each, the least of all rounds of so many editors and keys, and the median of the ratios
+/// within a round.
 fn compare(
-    what: impl Display,
+    what: &str,
     target: f64,
-    time_ours: impl Fn() -> (f64, Left),
-    time_theirs: impl Fn() -> (f64, Left),
+    (editors, keys): (usize, usize),
+    time_ours: impl Fn(usize, usize) -> (f64, Left),
+    time_theirs: impl Fn(usize, usize) -> (f64, Left),
 ) {
+    count(what, "lodvarn", &time_ours);
+    if cfg!(feature = "alone") {
+        return;
+    }
+    count(what, "original", &time_theirs);
     if !is_wanted() {
         return;
     }
     let (mut ours, mut theirs, mut ratios) = (f64::MAX, f64::MAX, Vec::new());
     for _ in 0..ROUNDS {
-        let (ours_now, ends) = time_ours();
-        let (theirs_now, as_ends) = time_theirs();
+        let (ours_now, ends) = time_ours(editors, keys);
+        let (theirs_now, as_ends) = time_theirs(editors, keys);
         assert!(ends == as_ends, "{what}: the two end otherwise");
         ours = ours.min(ours_now);
         theirs = theirs.min(theirs_now);
@@ -322,8 +375,9 @@ macro_rules! rows {
         compare(
             $what,
             $target,
-            || time::<$ours::Editor>($editors, $keys, $prepare, $key),
-            || time::<original::Editor>($editors, $keys, $prepare, $key),
+            ($editors, $keys),
+            |editors, keys| time::<$ours::Editor>(editors, keys, $prepare, $key),
+            |editors, keys| time::<original::Editor>(editors, keys, $prepare, $key),
         );
     )*};
 }
@@ -350,20 +404,48 @@ fn compare_more(typed: &[char]) {
         "a new line with its record", 1.1, 1, 2000, |_| (), |e, _| e.begin();
         "a width of 1 KB", 0.95, 1, 200, |e| e.put(plain, 0), |e, _| e.width();
         "a word's case", 0.95, 20, 100, |e| e.put(kb, 0), |e, _| e.capitalize();
-        "moves", 0.95, 1, 8000, |e| e.put(kb, 500), |e, i| e.go(i);
+        "moves", 0.95, 1, 8000, |e| e.put(kb, 500), |e, i| e.go(i, 1);
     }
+    compare_larger(typed);
     for (size, len) in [("1 KB", 1000), ("100 KB", 100_000), ("1 MB", 1_000_000)] {
         let text = &prose(len);
         rows! { lodvarn:
-            format!("an undo at {size}"), 1.2, 10, 400, |e| e.change(text, 400), |e, _| e.undo(1);
-            format!("a redo at {size}"), 1.5, 10, 400, |e| { e.change(text, 400); e.undo(400); }, |e, _| e.redo();
+            &format!("an undo at {size}"), 1.2, 10, 400, |e| e.change(text, 400), |e, _| e.undo(1);
+            &format!("a redo at {size}"), 1.5, 10, 400, |e| { e.change(text, 400); e.undo(400); }, |e, _| e.redo();
         }
         rows! { session:
-            format!("an undo at {size} by a session"), 1.0, 10, 400, |e| e.change(text, 400), |e, _| e.undo(1);
-            format!("a redo at {size} by a session"), 1.5, 10, 400,
+            &format!("an undo at {size} by a session"), 1.0, 10, 400, |e| e.change(text, 400), |e, _| e.undo(1);
+            &format!("a redo at {size} by a session"), 1.5, 10, 400,
                 |e| { e.change(text, 400); e.undo(400); }, |e, _| e.redo();
         }
     }
+}
+
+/// The rows of larger texts, and of what is typed at their ends or by a session.
+#[cfg(not(feature = "older"))]
+fn compare_larger(typed: &[char]) {
+    let (kb, larger) = (&prose(1000), &prose(20_000));
+    let (words, lines) = (&"to and fro, 12 times;\n".repeat(900), &SHORT.repeat(1000));
+    let many_lines = &SHORT.repeat(1_000_000);
+    rows! { lodvarn:
+        "a sign at the end", 0.6, 10, 1000, |_| (), |e, _| e.insert('-');
+        "a sign in the middle of 1 KB", 0.9, 20, 500, |e| e.put(kb, 500), |e, _| e.insert('-');
+        "a letter in 10 KB of short lines", 1.0, 10, 500, |e| e.put(lines, 5000), |e, i| e.insert(typed[i]);
+        "a letter in 10 MB of short lines", 1.05, 1, 10, |e| e.put(many_lines, 5_000_000), |e, i| e.insert(typed[i]);
+        "words killed both ways", 1.0, 10, 400, |e| e.put(words, 9000), |e, i| e.kill_on(i % 2 == 0);
+        "a word ahead", 0.95, 1, 2000, |e| e.put(larger, 0), |e, _| e.go(0, 1);
+        "a word back", 0.95, 1, 2000, |e| e.put(larger, larger.len()), |e, _| e.go(1, 1);
+        "home and end", 0.95, 1, 8000, |e| e.put(larger, 10_000), |e, i| e.go(6 + i % 2, 1);
+        "a hundred lines up and down", 0.5, 1, 400, |e| e.put(larger, 19_000), |e, i| e.go(4 + i % 2, 100);
+        "an undo all over 20 KB", 1.2, 10, 400, |e| e.change_all_over(words, 400), |e, _| e.undo(1);
+        "a redo all over 20 KB", 1.2, 10, 400, |e| { e.change_all_over(words, 400); e.undo(400); }, |e, _| e.redo();
+    }
+    rows! { session:
+        "a letter at the end by a session", 0.9, 10, 1000, |_| (), |e, i| e.insert(typed[i]);
+    }
+    let read = |e: &mut session::Editor, i| e.insert_and_read(typed[i]);
+    let watched = |editors, keys| time(editors, keys, session::Editor::watch, read);
+    count("the same, reported by numbers", "lodvarn", watched);
 }
 
 fn main() {
