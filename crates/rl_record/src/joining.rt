@@ -1,11 +1,12 @@
 //! Changes that join: each call takes an event in where it joins the change, and answers what may be told of it then, or None
 //! where it does not. What was joined has no cursors yet.
-ghost use Rattle.std.specs.Prelude.{◌≡◌, IfOk, IfErr};
+ghost use Rattle.std.specs.Prelude.{◌≡◌, IfOk, IfErr, true, ◌↔◌, None};
 ghost use Rattle.rl_base.specs.Event.{InsertChar, Delete, Replace};
 ghost use Rattle.rl_base.specs.declared.listeners.Direction.TheVariants.{Forward};
 ghost use Rattle.rl_base.specs.declared.listeners.Refusal.TheVariants.{NoMemory};
 ghost use Rattle.rl_line.specs.Entry.{entry_of};
 ghost use Rattle.rl_record.specs.Entries.{TakesIn};
+ghost use Rattle.rl_record.specs.Record.{is_parted, freshness_told, freshness_joined};
 
 use rl_base::Refusal;
 use rl_base::places::{is_alphanumeric, is_word_cluster};

@@ -3,7 +3,7 @@ ghost use Rattle.std.specs.Prelude.{◌≡◌, [], ◌∷◌, map, true, false, 
 ghost use Rattle.rl_line.specs.Change.{entries_to_undo};
 ghost use Rattle.rl_line.specs.Plan.{NeverRefuses};
 ghost use Rattle.rl_line.specs.Entry.{entry_of, is_change};
-ghost use Rattle.rl_record.specs.Undo.{Abandoned, GoesOver, OutOfRoom, Redone, StandsStill, Undone, unit_of};
+ghost use Rattle.rl_record.specs.Undo.{Abandoned, GoesOver, OutOfRoom, Redone, StandsStill, Undone, unit_of, Reaches, count_over};
 ghost use Rattle.rl_line.specs.Going.{LineOutOfRoom, line_ahead, line_back, line_over, listener_ahead, listener_back, listener_over, texts_ahead, texts_back, texts_over};
 ghost use Rattle.rl_record.specs.Units.{IsMatched, last_of, level, open_group, redo_of};
 
