@@ -90,13 +90,21 @@ pub enum Command {
     Kill(Movement),
     /// Kills the text between two places, told with a direction: `Forward` joins it at the end of the text that was
     /// killed right before it, `Backward` at its front.
-    KillRange(usize, usize, Direction),
+    KillRange {
+        from: usize,
+        to: usize,
+        direction: Direction,
+    },
     /// Puts a text into the ring as a kill of its own. The line stays.
     Keep(String),
     /// Copies what a movement covers.
     Copy(Movement),
     /// Indents the lines of a movement by a number of spaces, or dedents them by at most that many bytes of blanks.
-    Indent(Movement, u8, bool),
+    Indent {
+        movement: Movement,
+        amount: u8,
+        dedent: bool,
+    },
     /// Parts the changes that come from those before: the next change joins nothing, and the next kill begins a text.
     Part,
     /// Opens a group of changes.
@@ -378,12 +386,18 @@ impl Session {
             Command::TransposeWords(n) => answered(self.do_transpose_words(*n)),
             Command::EditWord(action) => answered(self.do_edit_word(*action)),
             Command::Kill(movement) => answered(self.do_kill(movement)),
-            Command::KillRange(from, to, dir) => answered(self.do_kill_range(*from, *to, *dir)),
+            Command::KillRange {
+                from,
+                to,
+                direction,
+            } => answered(self.do_kill_range(*from, *to, *direction)),
             Command::Keep(text) => done(self.do_keep(text.as_str())),
             Command::Copy(movement) => handed_out(self.do_copy(movement)),
-            Command::Indent(movement, amount, dedent) => {
-                answered(self.do_indent(movement, *amount, *dedent))
-            }
+            Command::Indent {
+                movement,
+                amount,
+                dedent,
+            } => answered(self.do_indent(movement, *amount, *dedent)),
             Command::Part => done(self.do_part()),
             Command::Begin => marked(self.do_begin()),
             Command::End => answered(self.do_end()),
@@ -404,10 +418,8 @@ impl Session {
     {
         match command {
             Command::Kill(movement) => self.ready_to_kill(movement),
-            Command::KillRange(_, _, _)
-            | Command::Yank(_)
-            | Command::YankPop
-            | Command::KeepUndone => {}
+            Command::KillRange { .. } | Command::Yank(_) | Command::YankPop | Command::KeepUndone =>
+                {}
             _ => self.reset_ring(),
         }
     }

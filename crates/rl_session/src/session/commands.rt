@@ -557,12 +557,18 @@ impl Session {
             Command::TransposeWords(n) => answered(self.transpose_words(*n)),
             Command::EditWord(action) => answered(self.edit_word(*action)),
             Command::Kill(movement) => answered(self.kill(movement)),
-            Command::KillRange(from, to, dir) => answered(self.kill_range(*from, *to, *dir)),
+            Command::KillRange {
+                from,
+                to,
+                direction,
+            } => answered(self.kill_range(*from, *to, *direction)),
             Command::Keep(text) => done(self.keep(text.as_str())),
             Command::Copy(movement) => handed_out(self.copy(movement)),
-            Command::Indent(movement, amount, dedent) => {
-                answered(self.indent(movement, *amount, *dedent))
-            }
+            Command::Indent {
+                movement,
+                amount,
+                dedent,
+            } => answered(self.indent(movement, *amount, *dedent)),
             Command::Part => done(self.part()),
             Command::Begin => marked(self.begin()),
             Command::End => answered(self.end()),
