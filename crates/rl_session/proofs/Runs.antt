@@ -10,6 +10,7 @@ pub mod CursorLemmas
 pub mod GiveBackLemmas
 pub mod KillRunLemmas
 pub mod CallLemmas
+pub mod PerformedKillLemmas
 pub mod EmptyGroupLemmas
 pub mod UnitLawLemmas
 pub mod CallGroupLemmas
