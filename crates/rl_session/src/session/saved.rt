@@ -275,7 +275,7 @@ fn checksum(bytes: &[u8]) -> [u8; 8]
 }
 
 // What stands before the checksum, if that is right.
-#[tactic(auto, using(crate::proofs::Sessions::SavedLemmas::checking))]
+#[tactic(auto, using(crate::proofs::Sessions::BytesLemmas::checking))]
 fn checked(bytes: &[u8]) -> Option<&[u8]>
     ensures some { IfSome result (λ front. bytes.now ≡ front.now ++ checksum front.now) }
     ensures none { result ≡ None → (front : List ℕ) → bytes.now ≡ front ++ checksum front → ⊥ }
