@@ -22,7 +22,7 @@ pub fn runs_compose()
     ensures row { (row : Row) → (run : Run row.before (row.command ∷ []) (row.reply ∷ []) row.after) × (run.rows ≡ row ∷ []) }
 {}
 
-/// After every command, a line can go back over its record and ahead (`follows`). Where it can, what is recorded can be
+/// After every command, a line can go back over its record and ahead (`follows`). If it can, what is recorded can be
 /// taken back from the text, and what was undone can be redone on it.
 #[tactic(auto, using(crate::proofs::Sessions::SessionLemmas::follows_unwind, crate::proofs::Sessions::SessionLemmas::follows_replay))]
 pub fn what_was_undone_can_be_made_again()

@@ -31,7 +31,7 @@ pub enum ScriptFault {
     NoMemory = 3,
 }
 
-// The numbers are part of the interface.
+// The numbers are part of the interface (`docs/PROMISES.md`).
 const _: () = prove!(ScriptFault::Read as u8 == 1);
 
 const _: () = prove!(ScriptFault::Write as u8 == 2);
@@ -292,7 +292,7 @@ impl Runner {
 
 /// Runs a script: reads it to its end, one command per line, and writes one line for each, whole before the
 /// next is run. It begins with the usual settings and the session of the empty text. On a fault, the lines
-/// before it were run and their output was written whole. A line that was not read whole was not run. Where a
+/// before it were run and their output was written whole. A line that was not read whole was not run. If a
 /// write failed, a part of the next line's output may be written. At most a block of 4096 bytes is read ahead.
 pub fn run_script<R: Read, W: Write>(
     alloc: Global,

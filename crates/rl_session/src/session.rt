@@ -145,7 +145,7 @@ pub enum Fault {
     TooLong = 5,
 }
 
-// The numbers are part of the interface: a refusal is printed with the number of its fault.
+// The numbers are part of the interface: `src/print.rt` prints a refusal with the number of its fault.
 const _: () = prove!(Fault::NoMemory as u8 == 1);
 
 const _: () = prove!(Fault::BadPlace as u8 == 2);
@@ -378,7 +378,7 @@ impl Session {
         reply
     }
 
-    // The same, where a typed letter does not pay for the choice of what to do. Inlined, as `apply` is.
+    // The same, in which a typed letter does not pay for the choice of what to do. Inlined, as `apply` is.
     #[inline(always)]
     fn do_command(&mut self, command: &Command) -> Reply
         ensures { Step self.old command.now result self.new }
@@ -407,7 +407,7 @@ impl Session {
         self.do_command(command)
     }
 
-    /// Does the commands in order, and answers one reply for each. It allocates room for the replies first. Where
+    /// Does the commands in order, and answers one reply for each. It allocates room for the replies first. If
     /// that is refused, it did no command, and there was at least one to do. In either case the record leads back to
     /// the same text as before.
     pub fn run(&mut self, commands: &[Command]) -> Result<Vec<Reply>, Fault>

@@ -200,7 +200,7 @@ impl Session {
     }
 
     /// Deletes by a movement to one side of the cursor, which `can_delete_by` tests. Answers whether there was
-    /// something. `NoMemory` leaves the text as it was. Inlined, so that no reply is copied where the command is
+    /// something. `NoMemory` leaves the text as it was. Inlined, so that no reply is copied when the command is
     /// chosen.
     #[inline(always)]
     pub fn delete_by(&mut self, movement: &Movement) -> Result<bool, Fault>
