@@ -1,21 +1,18 @@
 -- Directed kills that are performed, each of which may forget texts of the ring: a yank gives back what they took too.
-use Rattle.rl_session.proofs.Common.{take, ◌≡◌, ℕ, ◌+◌, ◌<◌, ◌≤◌, ◌⊎◌, inl, inr, zero, suc, Bool, true, false, cond, List, [], ◌∷◌, ◌++◌, length, Option, Some, None, refl, sym, ap, subst, ◌∙◌, arith, length-append, cond_both, same_Some, ◌==◌, slice_get, Ring, IsRing, killed_as, yanked, side_mode, Action, Forward, Backward, Line, State, Stands, is_vain_yank, lent_plan, IsNoKill, AnyTook, NoneRefused, GivenBack, IsDirectedKill, Command, Yank, Kill, KillRange, Reply}
-use Rattle.rl_base.specs.KillRing.{yank, lent}
+use Rattle.rl_session.proofs.Common.{take, ◌≡◌, ℕ, ◌+◌, ◌<◌, ◌≤◌, ◌⊎◌, inl, inr, zero, suc, Bool, true, false, cond, List, [], ◌∷◌, ◌++◌, length, Option, Some, None, refl, sym, ap, subst, ◌∙◌, arith, length-append, cond_both, same_Some, ◌==◌, slice_get, Ring, IsRing, killed_as, yanked, side_mode, Action, Forward, Backward, Line, State, Stands, is_vain_yank, lent_plan, IsNoKill, AnyTook, NoneRefused, GivenBack, IsDirectedKill, Command, Yank, Kill, KillRange, Reply, ap₂, reverse-append, ring_step, Event, IsChange, Record, WasRefused, ◌-◌, nat_le, nat_lt, reverse, within_bound}
+use Rattle.rl_base.specs.KillRing.{yank, lent, back_from, behind, cut_to, fitting, left_with, newest_first, with_newest, within_bytes}
 use Rattle.rl_base.specs.declared.kill_ring.Action.TheVariants as did
 use Rattle.rl_base.specs.declared.kill_ring.Mode.{Mode}
 use Rattle.rl_base.proofs.Texts.SwapLemmas.{Swaps-Delete}
-use Rattle.rl_session.specs.Commands.{Step, lent as lent_state}
+use Rattle.rl_session.specs.Commands.{Step, lent as lent_state, with_changes}
 use Rattle.rl_session.specs.declared.session.Command.TheVariants as asks
 use Rattle.rl_session.specs.declared.session.Reply.TheVariants as says
 use Rattle.rl_session.proofs.Runs.RowLemmas.{Step-options}
 use Rattle.rl_base.proofs.Ring.SlotLemmas.{yank-back}
-use Rattle.rl_base.specs.KillRing.{back_from, behind, cut_to, fitting, left_with, newest_first, with_newest, within_bytes}
-use Rattle.rl_session.specs.Commands.{with_changes}
 use Rattle.rl_session.specs.Performing.{AllKilled, Calls, Obeyed, call, no_call, replies_in, Performed, is_one_unit}
 use Rattle.rl_session.specs.declared.options.Options.{Options}
 use Rattle.std.proofs.lemmas.Bool.{le-leb, lt-ltb}
 use Rattle.rl_base.proofs.Common.{cond-true, length-reverse, ◌^◌}
-use Rattle.rl_session.proofs.Common.{ap₂, reverse-append, ring_step, Event, IsChange, Record, WasRefused, ◌-◌, nat_le, nat_lt, reverse, within_bound}
 use Rattle.rl_session.proofs.Sessions.PerformLemmas.{uncounted}
 use Rattle.rl_session.proofs.Sessions.IdleLemmas.{IsIdle, NoneStarts-lent, idle-stays, ring-Done}
 use Rattle.rl_session.proofs.Runs.CallLemmas.{Calls-options, DoneAfter, Stands-changes, Stands-forgets, done_after, is_plain}
