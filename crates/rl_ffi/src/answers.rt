@@ -29,7 +29,7 @@ pub(crate) enum Answer {
 }
 
 impl Answer {
-    // Its number for C: below 0 if the call was refused.
+    // Its number in `include/lodvarn.h`: below 0 if the call was refused.
     #[inline(always)]
     pub(crate) fn number(self) -> i32
         ensures { result ≡ number self }
@@ -92,7 +92,7 @@ pub(crate) fn of_watch_fault(fault: WatchFault) -> Answer
     }
 }
 
-// What a command answers that says nothing. Inlined, as those below are, where what a command returns need not be made.
+// What a command answers that says nothing. Inlined, as those below are, so that what a command returns need not be made.
 #[inline(always)]
 pub(crate) fn done(outcome: Result<(), Fault>) -> Answer
     ensures { result ≡ told (replied (λ _. Reply.Done) outcome) }

@@ -28,14 +28,26 @@ fn commands(alloc: Global) -> Result<[Command; 20], AllocError> {
         Command::TransposeWords(1),
         Command::SetPos(0),
         Command::EditWord(WordAction::Uppercase),
-        Command::Indent(Movement::WholeBuffer, 40, false),
-        Command::Indent(Movement::WholeBuffer, 3, true),
+        Command::Indent {
+            movement: Movement::WholeBuffer,
+            amount: 40,
+            dedent: false,
+        },
+        Command::Indent {
+            movement: Movement::WholeBuffer,
+            amount: 3,
+            dedent: true,
+        },
         Command::Replace(0, 1, put_instead),
         Command::Undo(2),
         Command::Redo,
         Command::Copy(Movement::WholeBuffer),
         Command::Keep(kept),
-        Command::KillRange(0, 2, Direction::Backward),
+        Command::KillRange {
+            from: 0,
+            to: 2,
+            direction: Direction::Backward,
+        },
     ])
 }
 

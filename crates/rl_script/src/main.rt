@@ -11,7 +11,7 @@ use std::io;
 use std::io::{Read, Write};
 use std::process::ExitCode;
 
-// The status at the end: 0 exactly where the script ran to its end, else 1.
+// The status at the end: 0 exactly if the script ran to its end, else 1.
 fn status(outcome: Result<(), ScriptFault>) -> ExitCode
     ensures ran { OnOk outcome (exit_status result ≡ 0) }
     ensures stopped { OnErr outcome (exit_status result ≡ 1) }

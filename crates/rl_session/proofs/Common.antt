@@ -15,20 +15,20 @@ pub use Rattle.std.specs.Io.KnownBytes.{Appends, Consumes, IsAtEnd, Keeps}
 pub use Rattle.std.specs.List.{All, AllByRecursion, prefix_len}
 pub use Rattle.std.specs.Prelude.{MatchOption, OnErr, codes, is_ok, slice_set}
 pub use Rattle.std.specs.declared.ops.Range.{Range}
-pub use Rattle.rl_base.proofs.Common.{option_or, prev_pos}
-pub use Rattle.rl_base.specs.Text.{HasText}
-pub use Rattle.rl_line.proofs.Common.{All-head, All-weaker, Any, Begin, Bool, Changed, Cursors, Deletion, Done, End, Entry, Event, Halted, IfOk, IfSome, InsertChar, InsertStr, Insertion, IsChange, IsCharBoundary, IsCharBoundary-end, IsCharBoundary-start, IsSome, IsUtf8, IsUtf8-drop, IsUtf8-take, Line, List, NeedsRoom, None, Option, Plan, Replace, Replacement, Some, Start, Stop, Taken, Told, Uncopied, [], add-one, and_parts, answering, ap, append-nil, append_assoc, apply, ap₂, are_two, arith, between, blanks, bytes_eq-Decides, bytes_in, cases_lt, clusters, clusters_around, cond, cond_both, cursor_after, cursor_told, cut_to_limit, delete_plan, drop, edit_word_plan, encode_ascii, encode_utf8, eqb, eqb-false, eqb-true, err_from_is_err_and, event_of, events_ahead, events_of, false, first_word, get_or, has_change, if◌then◌else◌, indent_plan, inl, inr, insert_event, insert_plan, insert_slice, inside_one, inverse, is_byte, is_change, le-ltb, length, length-append, length-between, length-drop, length-map, length-take-le, length_push, line_after, line_ahead, line_back, line_plan, lines_plan, listener_after, listener_after_step, map, map-append, max, meeting_place, min, nat_le, nat_lt, nat_tests, nil_from_length, not, only_move, option_and_then, option_map, option_map_or, or-false, parts, place_after, pulled, pulled_back, pushed, put_spaces, refl, removal, remove_range, repeat, replay, replay_entries, respell, respelled, reverse, reverse-append, rules, same_Some, second_word, single, slice_get, slice_range, spaces, stepped, steps_ahead, steps_back, string_bytes, subst, suc, sum, sum_by-cons, swap_plan, sym, take, take-append-drop, take_all, take_at, take_rest, text_in, texts_back, to_place, too_long, transpose_chars_plan, transpose_words_plan, true, unwind, unwrap_or, update_plan, vec_len, word_ahead, yank_plan, yank_pop_plan, zero, ℕ, ◌%◌, ◌&&◌, ◌*◌, ◌++◌, ◌+◌, ◌-◌, ◌<◌, ◌==◌, ◌^◌, ◌∙◌, ◌∷◌, ◌≡◌, ◌≤◌, ◌⊎◌}
-pub use Rattle.rl_line.specs.Deletions.{side_of, Between, CanDeleteBy, ToldOutcome, is_by_characters, kill_plan, kill_range_plan, texts_of}
-pub use Rattle.rl_line.specs.Edits.{insert_str_plan, replace_plan}
-pub use Rattle.rl_line.specs.Ranges.{unless_empty}
-pub use Rattle.rl_record.proofs.Common.{IsMatched, Record, Redone, Redos, Swap, Undone, Walks, adds_end, agree, begun, cursors_of, end_one, end_times, ended, ended_one, entries_after, entries_of, entries_told, freshness_added, freshness_joined, freshness_of, kept_of, kept_within, last_of, last_told, last_units, level, opens, record_step, redo_of, redone, replays_to, reverse-reverse, take_at_read, truncated, unbounded, undone, vec_capacity, with_closed, with_cursors}
+pub use Rattle.rl_line.proofs.Common.{ap, ap₂, arith, inl, inr, refl, rules, subst, sym, ◌∙◌, ◌≡◌, ◌⊎◌, Bool, and_parts, bytes_eq-Decides, cases_lt, cond, cond_both, eqb, eqb-false, eqb-true, false, if◌then◌else◌, le-ltb, nat_tests, not, or-false, true, ◌&&◌, ◌==◌, add-one, max, min, nat_le, nat_lt, suc, sum, sum_by-cons, zero, ℕ, ◌%◌, ◌*◌, ◌+◌, ◌-◌, ◌<◌, ◌^◌, ◌≤◌, IfOk, IfSome, IsSome, None, Option, Some, err_from_is_err_and, get_or, option_and_then, option_map, option_map_or, same_Some, unwrap_or, All-head, All-weaker, List, [], append-nil, append_assoc, between, drop, insert_slice, length, length-append, length-between, length-drop, length-map, length-take-le, length_push, map, map-append, nil_from_length, remove_range, repeat, reverse, reverse-append, slice_get, slice_range, take, take-append-drop, take_all, take_at, take_rest, vec_len, ◌++◌, ◌∷◌, IsCharBoundary, IsCharBoundary-end, IsCharBoundary-start, IsUtf8, IsUtf8-drop, IsUtf8-take, bytes_in, clusters, clusters_around, encode_ascii, encode_utf8, first_word, is_byte, meeting_place, put_spaces, second_word, spaces, string_bytes, text_in, word_ahead, Changed, Cursors, Deletion, Event, InsertChar, InsertStr, Insertion, IsChange, Replace, Replacement, Start, Stop, Told, cursor_after, cursor_told, event_of, events_ahead, events_of, has_change, insert_event, inverse, is_change, line_after, listener_after, listener_after_step, removal, stepped, Done, Halted, Line, NeedsRoom, Plan, Taken, answering, apply, delete_plan, edit_word_plan, indent_plan, insert_plan, line_plan, lines_plan, pulled, pulled_back, pushed, single, swap_plan, to_place, too_long, transpose_chars_plan, transpose_words_plan, update_plan, yank_plan, yank_pop_plan, Begin, End, Entry, are_two, inside_one, line_ahead, line_back, parts, replay, replay_entries, respell, respelled, steps_ahead, steps_back, unwind}
 pub use Rattle.std.proofs.Math.Bool.{and-false}
 pub use Rattle.std.proofs.lemmas.Result.{IfErr-weaker}
 pub use Rattle.std.specs.Prelude.{IfErr, OnOk}
+pub use Rattle.rl_base.proofs.Common.{option_or, prev_pos}
+pub use Rattle.rl_record.proofs.Common.{reverse-reverse, take_at_read, vec_capacity, cursors_of, agree, opens, with_cursors, IsMatched, Record, Redone, Redos, Swap, Undone, Walks, begun, end_one, end_times, ended, ended_one, entries_after, entries_of, entries_told, freshness_added, freshness_joined, freshness_of, kept_of, kept_within, last_of, last_told, last_units, level, record_step, redo_of, redone, replays_to, truncated, undone, with_closed}
+pub use Rattle.rl_line.specs.Deletions.{side_of, Between, CanDeleteBy, ToldOutcome, is_by_characters, kill_plan, kill_range_plan, texts_of}
+pub use Rattle.rl_line.specs.Edits.{insert_str_plan, replace_plan}
+pub use Rattle.rl_line.specs.Ranges.{unless_empty}
 pub use Rattle.rl_record.specs.Calls.{RecordCall, MayCome, after_call, keeps_undone, parts_next, puts_begin, puts_end, puts_ends, reopens, shortens, texts_of_call}
 pub use Rattle.memchr.specs.Find.{Nowhere, Passes}
 pub use Rattle.rl_base.specs.Clusters.{next_pos}
-pub use Rattle.rl_base.specs.KillRing.{IsRing, Ring, after_deletion, in_new_slot, join_at, killed_as, next_index, popped_ring, put_at, reset, ring_step, side_mode, turned, yank_pop, yank_popped, yank_size, yanked}
+pub use Rattle.rl_base.specs.KillRing.{IsRing, Ring, after_deletion, in_new_slot, join_at, killed_as, popped_ring, put_at}
+pub use Rattle.rl_base.specs.KillRing.{reset, ring_step, side_mode, turned, yank_pop, yank_popped, yank_size, yanked}
 pub use Rattle.rl_base.specs.Reports.{HasTexts, IsLineText, LacksTexts, Noted, Queue, Stand, TellsByTexts, after_numbers, after_texts, oldest, queue_step}
 pub use Rattle.rl_base.specs.Splice.{Covers, spliced}
 pub use Rattle.rl_base.specs.Watch.{ReportsLead, Watched, next_note, past_next, text_room, watch_step}
@@ -42,7 +42,8 @@ pub use Rattle.rl_base.specs.declared.listeners.Refusal.{Refusal}
 pub use Rattle.rl_base.specs.declared.motion.At.{At}
 pub use Rattle.rl_base.specs.declared.motion.CharSearch.{CharSearch}
 pub use Rattle.rl_base.specs.declared.motion.Movement.{Movement}
-pub use Rattle.rl_base.specs.declared.motion.Movement.TheVariants.{BackwardChar, BackwardWord, BeginningOfBuffer, BeginningOfLine, EndOfBuffer, EndOfLine, FirstNonBlank, ForwardChar, ForwardWord, LineDown, LineUp, ViCharSearch, WholeLinesDown, WholeLinesUp}
+pub use Rattle.rl_base.specs.declared.motion.Movement.TheVariants.{BackwardChar, BackwardWord, BeginningOfBuffer, BeginningOfLine, EndOfBuffer, EndOfLine, FirstNonBlank}
+pub use Rattle.rl_base.specs.declared.motion.Movement.TheVariants.{ForwardChar, ForwardWord, LineDown, LineUp, ViCharSearch, WholeLinesDown, WholeLinesUp}
 pub use Rattle.rl_base.specs.declared.motion.Word.{Word}
 pub use Rattle.rl_base.specs.declared.motion.Word.TheVariants.{Emacs}
 pub use Rattle.rl_base.specs.declared.motion.WordAction.{WordAction}
@@ -50,31 +51,42 @@ pub use Rattle.rl_line.specs.Motions.{Moved}
 pub use Rattle.rl_line.specs.Plan.{Cut, Grows, Outcome, Takes, a_copy, nothing_more, or_no_memory, refusal_of, room_by_step}
 pub use Rattle.rl_line.specs.Transpositions.{word_end, word_start}
 pub use Rattle.rl_record.specs.declared.joining.Freshness.{Freshness}
-pub use Rattle.rl_session.specs.Commands.{Asked, Became, Came, Course, CutShort, Does, Edited, Effect, KeepsRing, Telling, WatchHears, answers, asked, by_steps, course_of, deletion_of, edit, edit_course, edits, effect, goes, hands_out, inserts, is_done, is_vain_yank, lends, lent_plan, never, on_record, other, other_course, popped, popped_plan, pops, puts_again, readied, settled, stays, takes_back, tells, told_as, when, with_changes, gives_up}
+pub use Rattle.rl_session.specs.Commands.{Asked, Came, Course, Does, Edited, Telling, answers, asked, by_steps, course_of, deletion_of, edit, edit_course, edits, goes}
+pub use Rattle.rl_session.specs.Commands.{hands_out, inserts, is_done, is_vain_yank, lends, lent_plan, never, other, other_course, popped, popped_plan, tells, told_as, when}
+pub use Rattle.rl_session.specs.Commands.{Became, Effect, WatchHears, effect, pops, puts_again, readied, settled, stays, takes_back, with_changes}
 pub use Rattle.rl_session.specs.Forgetting.{HoldsOn, gone, within_bound}
-pub use Rattle.rl_session.specs.Grammar.{AmountMovement, CountAtWord, CountSearch, CountWord, Do, Meaning, Means, Names, NamesAction, NamesAt, NamesDirection, NamesMode, NamesSearch, NamesWord, NewText, RangeDirection, RangeText, Same, Says, Set, ahead, back, back_onto, back_till, backward, bchar, before, begin, big, bob, buf, bword, cap, cased, copy, dedent, del, discbuf, discline, down, emacs, end, endone, eob, eol, fchar, find, first, fword, home, indent, ins, keep, kill, killbuf, killline, killrange, limit, line_place, low, mode, move, nextword, no_text, nonblank, nozwj, part, paste, pastes, pos, prevword, puts_in, range, redo, reopen, abandon, keepundone, rep, replaces, ring, same, start, str, tchars, text, till, to, trunc, twords, undo, unicode, up, update, updates, upper, vi, wcwidth, whole, yankpop, linesdown, linesup}
+pub use Rattle.rl_session.specs.Grammar.{Do, Meaning, Means, NewText, Same, Says, Set, pastes, puts_in, replaces, same, updates}
+pub use Rattle.rl_session.specs.Grammar.{AmountMovement, CountAtWord, CountSearch, CountWord, Names, NamesAction, NamesAt, NamesDirection, NamesMode, NamesSearch, NamesWord, RangeDirection, RangeText}
+pub use Rattle.rl_session.specs.Grammar.{ahead, back_onto, back_till, backward, before, big, cap, emacs, low, nozwj, start, till, unicode, upper, vi, wcwidth}
+pub use Rattle.rl_session.specs.Grammar.{bchar, bob, buf, bword, down, eob, eol, fchar, find, first, fword, home, nonblank, up, whole, linesdown, linesup}
+pub use Rattle.rl_session.specs.Grammar.{back, cased, dedent, del, discbuf, discline, indent, ins, killbuf, killline, nextword, paste, prevword, range, rep, str, tchars, to, twords, update}
+pub use Rattle.rl_session.specs.Grammar.{copy, keep, kill, killrange, yankpop}
+pub use Rattle.rl_session.specs.Grammar.{begin, end, endone, part, redo, reopen, abandon, keepundone, trunc, undo}
+pub use Rattle.rl_session.specs.Grammar.{limit, line_place, mode, move, no_text, pos, ring, text}
 pub use Rattle.rl_session.specs.History.{AllRedone, AllStandInGroup, ClosesGroup, History, Holds, IsEdit, MayStandInGroup, Placed, PlacedBack, StandsAfter, WasHeld, WasRefused}
 pub use Rattle.rl_session.specs.KillRuns.{AllDirected, AllKill, AnyTook, GivenBack, IsDirected, IsDirectedKill, IsNoKill, NoneRefused}
 pub use Rattle.rl_session.specs.Lines.{lines_of, onto_some, whole_lines}
 pub use Rattle.rl_session.specs.Options.{no_bound}
 pub use Rattle.rl_session.specs.Pair.{pair_refused, pair_step}
-pub use Rattle.rl_session.specs.Parsing.{BeginsChar, BeginsEscape, BeginsNoEscape, HasNoAt, HasNoDirection, HasNoMovement, HasNoNumber, HasNoSearch, HasNoWord, NamesNoMovement, NamesNothing, SaysNoCommand, SaysNoDeletion, SpellsNoChar, SpellsNothing, deletes, holds_text, kept, meaning_of, new_text, pasted, put_in, replaced, updated}
+pub use Rattle.rl_session.specs.Parsing.{BeginsChar, BeginsEscape, BeginsNoEscape, HasNoAt, HasNoDirection, HasNoMovement, HasNoNumber, HasNoSearch, HasNoWord}
+pub use Rattle.rl_session.specs.Parsing.{NamesNoMovement, NamesNothing, SaysNoCommand, SaysNoDeletion, SpellsNoChar, SpellsNothing, deletes, holds_text, meaning_of, replaced}
 pub use Rattle.rl_session.specs.Print.{escaped}
 pub use Rattle.rl_session.specs.Progress.{Cuts, Halts, HasNoNewline, IsSaid, Runs, SaidOut, Took}
 pub use Rattle.rl_session.specs.Replies.{replied}
 pub use Rattle.rl_session.specs.Run.{AfterEach, Leads, Row, Run, before_last, commands_of, held, held_by, held_of, replies_of, reports, reports_of, steps_done, steps_in, texts_of_steps}
 pub use Rattle.rl_session.specs.Script.{CutOutputs, HasNext, IsCut, Leaves, LineOut, Outputs, Ran, Stopped, StoppedBy, started}
-pub use Rattle.rl_session.specs.Spelling.{Escapes, NamesChar, Numbered, NumberedText, Spells, SpellsChar, SpellsRest, are_digits, braced, hex_digit, hex_from, letter, letter_of, number_of, plain, rest, value_from, word}
+pub use Rattle.rl_session.specs.Spelling.{Escapes, NamesChar, Numbered, NumberedText, Spells, SpellsChar, SpellsRest, are_digits}
+pub use Rattle.rl_session.specs.Spelling.{braced, hex_digit, hex_from, letter, letter_of, number_of, plain, rest, value_from, word}
 pub use Rattle.rl_session.specs.State.{AtRest, ChangedFrom, Ends, Follows, IsBounded, Replays, ReportedFrom, Stands, State, origin, restarted, with_ring, with_watch}
 pub use Rattle.rl_session.specs.Writes.{ArePlain, is_special}
 pub use Rattle.rl_session.specs.declared.grammar.ScriptLine.{ScriptLine}
-pub use Rattle.rl_session.specs.declared.options.Bound.{Bound}
 pub use Rattle.rl_session.specs.declared.pair.Pair.{Pair}
 pub use Rattle.rl_session.specs.declared.script.Interpreter.{Interpreter}
 pub use Rattle.rl_session.specs.declared.script.ScriptFault.{ScriptFault}
 pub use Rattle.rl_session.specs.declared.script.ScriptFault.TheVariants.{Read, Write}
 pub use Rattle.rl_session.specs.declared.session.Command.{Command}
-pub use Rattle.rl_session.specs.declared.session.Command.TheVariants.{Backspace, Copy, DeletePrevWord, DeleteTo, DeleteWord, DiscardBuffer, DiscardLine, EditWord, Kill, KillBuffer, KillLine, KillRange, Move, Redo, SetPos, TransposeWords, Truncate, Undo, Yank, YankPop}
+pub use Rattle.rl_session.specs.declared.session.Command.TheVariants.{Backspace, Copy, DeletePrevWord, DeleteTo, DeleteWord, DiscardBuffer, DiscardLine, EditWord, Kill}
+pub use Rattle.rl_session.specs.declared.session.Command.TheVariants.{KillBuffer, KillLine, KillRange, Move, Redo, SetPos, TransposeWords, Truncate, Undo, Yank, YankPop}
 pub use Rattle.rl_session.specs.declared.session.Fault.TheVariants.{BadPlace}
 pub use Rattle.rl_session.specs.declared.session.Reply.{Reply}
 pub use Rattle.rl_session.specs.declared.settings.Setting.TheVariants.{Limit, RingSize}

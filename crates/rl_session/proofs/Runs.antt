@@ -10,7 +10,8 @@ pub mod CursorLemmas
 pub mod GiveBackLemmas
 pub mod KillRunLemmas
 pub mod CallLemmas
+pub mod CallKillLemmas
 pub mod EmptyGroupLemmas
 pub mod UnitLawLemmas
 pub mod CallGroupLemmas
-pub mod CallSavedLemmas
+pub mod CallSavePointLemmas

@@ -1,5 +1,5 @@
 -- Scripts: what a line says, what is printed for it, and where a script stops.
-pub mod PartLemmas
+pub mod SplitLemmas
 pub mod NumberLemmas
 pub mod EscapeLemmas
 pub mod SpellingLemmas

@@ -1,7 +1,7 @@
 -- One command of a session.
 pub mod PairLemmas
 pub mod SessionLemmas
-pub mod SavedLemmas
+pub mod BytesLemmas
 pub mod ReplyLemmas
 pub mod IdleLemmas
 pub mod CourseLemmas

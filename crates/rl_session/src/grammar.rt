@@ -257,8 +257,12 @@ fn deletion(word: &str, given: &str) -> Option<Command>
             Some(Command::DeleteTo(search, n))
         }
         "killrange" => {
-            let (start, end, dir) = range_and_direction(given)?;
-            Some(Command::KillRange(start, end, dir))
+            let (from, to, direction) = range_and_direction(given)?;
+            Some(Command::KillRange {
+                from,
+                to,
+                direction,
+            })
         }
         _ => None,
     }
@@ -281,11 +285,19 @@ fn command(word: &str, given: &str) -> Option<Command>
         "copy" => Some(Command::Copy(movement(given)?)),
         "indent" => {
             let (amount, movement) = amount_and_movement(given)?;
-            Some(Command::Indent(movement, amount, false))
+            Some(Command::Indent {
+                movement,
+                amount,
+                dedent: false,
+            })
         }
         "dedent" => {
             let (amount, movement) = amount_and_movement(given)?;
-            Some(Command::Indent(movement, amount, true))
+            Some(Command::Indent {
+                movement,
+                amount,
+                dedent: true,
+            })
         }
         "undo" => Some(Command::Undo(count(given)?)),
         "trunc" => Some(Command::Truncate(number(given, usize::MAX)?)),

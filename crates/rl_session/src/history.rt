@@ -36,7 +36,7 @@ pub fn a_session_has_a_history()
         × Holds start (start ∷ texts_ahead (s.pair.changes.recorded ++ s.pair.changes.pending) start) s }
 {}
 
-/// Where undone changes are kept, the texts there and back, which count as held (`held_by`), were held before. An undo that
+/// If undone changes are kept, the texts there and back, which count as held (`held_by`), were held before. An undo that
 /// takes all units that were recorded since, and n more, leaves the text to which the first n units led that waited then, with
 /// their groups closed: that to which n redos would have led instead of the keeping, if no group was open there. Conditions:
 /// neither the keeping nor the undo was refused, something waited, and what was recorded since stands above what was kept, each
@@ -81,7 +81,7 @@ pub fn undo_leaves_a_held_text()
 {}
 
 /// One undo right after the end of a group gives back the text at its begin. Groups may be begun inside and ended there by
-/// `EndOne`, and hold groups themselves. The group ends by `EndOne` where all begun inside are ended, whatever groups it stands
+/// `EndOne`, and hold groups themselves. The group ends by `EndOne` once all begun inside are ended, whatever groups it stands
 /// in, or by `End` if no group was open before it. Conditions: none of begin, end and undo was refused, a change was
 /// recorded in the group, each truncation or `End` inside was refused, and each undo and abandon inside left the group open.
 pub fn group_is_undone_at_once()

@@ -4,6 +4,7 @@
 mod grammar;
 pub mod history;
 pub mod kill_runs;
+pub mod laws;
 pub mod options;
 pub mod pair;
 pub mod performing;

@@ -40,7 +40,7 @@ fn reply_word(reply: &Reply) -> &'static str
     }
 }
 
-// Whether the byte is printed as two; a space is too, where texts stand between words.
+// Whether the byte is printed as two; a space is too, if texts stand between words.
 fn is_special(b: u8, spaces: bool) -> bool
     ensures { result ≡ is_special spaces b }
 {

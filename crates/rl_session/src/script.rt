@@ -31,7 +31,7 @@ pub enum ScriptFault {
     NoMemory = 3,
 }
 
-// The numbers are part of the interface.
+// The numbers are part of the interface (`docs/PROMISES.md`).
 const _: () = prove!(ScriptFault::Read as u8 == 1);
 
 const _: () = prove!(ScriptFault::Write as u8 == 2);
@@ -207,54 +207,92 @@ fn read_end(
     said
 }
 
-// Runs the line that consists of `part` and then `end`, and writes what is printed for it.
-fn end_line<W: Write>(
-    alloc: Global,
-    interpreter: &mut Interpreter,
-    part: &mut Vec<u8>,
-    end: &[u8],
-    out: &mut Vec<u8>,
-    writer: &mut W,
-) -> Result<(), ScriptFault>
-    requires part { HasNoNewline part.old.items }
-    requires end { HasNoNewline end.now }
-    ensures took { OnOk result (Took interpreter.old part.old.items (end.now ++ 10 ∷ []) (W.contents writer.old) (W.contents writer.new) interpreter.new []) }
-    ensures given_up { OnOk result (part.new.items ≡ []) }
-    ensures halts { IfErr result (λ fault. Halts fault interpreter.old part.old.items (end.now ++ 10 ∷ []) (W.contents writer.old) (W.contents writer.new)) }
-{
-    let said = read_end(alloc, part, end)?;
-    interpreter.run_said(alloc, said, out)?;
-    put_line(writer, out.as_slice())
+// What is kept from one block of a script to the next.
+#[derive(Drop)]
+struct Runner {
+    interpreter: Interpreter,
+    // The beginning of a line whose end was not read yet.
+    part: Vec<u8>,
+    // What was printed for the last line: its room serves the next one.
+    out: Vec<u8>,
 }
 
-// Takes the next bytes of the script: runs each line that ends in them, and keeps the beginning of the next.
-fn take_block<W: Write>(
-    alloc: Global,
-    interpreter: &mut Interpreter,
-    part: &mut Vec<u8>,
-    out: &mut Vec<u8>,
-    block: &[u8],
-    writer: &mut W,
-) -> Result<(), ScriptFault>
-    requires { HasNoNewline part.old.items }
-    ensures took { OnOk result (Took interpreter.old part.old.items block.now (W.contents writer.old) (W.contents writer.new) interpreter.new part.new.items) }
-    ensures clean { OnOk result (HasNoNewline part.new.items) }
-    ensures halts { IfErr result (λ fault. Halts fault interpreter.old part.old.items block.now (W.contents writer.old) (W.contents writer.new)) }
-{
-    let mut rest = block;
-    while let Some((end, after)) = split_line(rest) {
-        end_line(alloc, interpreter, part, end, out, writer)?;
-        rest = after;
+impl Runner {
+    // Runs the line that consists of `part` and then `end`, and writes what is printed for it.
+    fn end_line<W: Write>(
+        &mut self,
+        alloc: Global,
+        end: &[u8],
+        writer: &mut W,
+    ) -> Result<(), ScriptFault>
+        requires part { HasNoNewline self.old.part.items }
+        requires end { HasNoNewline end.now }
+        ensures took { OnOk result (Took self.old.interpreter self.old.part.items (end.now ++ 10 ∷ []) (W.contents writer.old) (W.contents writer.new) self.new.interpreter []) }
+        ensures given_up { OnOk result (self.new.part.items ≡ []) }
+        ensures halts { IfErr result (λ fault. Halts fault self.old.interpreter self.old.part.items (end.now ++ 10 ∷ []) (W.contents writer.old) (W.contents writer.new)) }
+    {
+        let said = read_end(alloc, &mut self.part, end)?;
+        self.interpreter.run_said(alloc, said, &mut self.out)?;
+        put_line(writer, self.out.as_slice())
     }
-    match part.extend_from_slice(rest) {
-        Ok(()) => Ok(()),
-        Err(_) => Err(ScriptFault::NoMemory),
+
+    // Takes the next bytes of the script: runs each line that ends in them, and keeps the beginning of the next.
+    fn take_block<W: Write>(
+        &mut self,
+        alloc: Global,
+        block: &[u8],
+        writer: &mut W,
+    ) -> Result<(), ScriptFault>
+        requires { HasNoNewline self.old.part.items }
+        ensures took { OnOk result (Took self.old.interpreter self.old.part.items block.now (W.contents writer.old) (W.contents writer.new) self.new.interpreter self.new.part.items) }
+        ensures clean { OnOk result (HasNoNewline self.new.part.items) }
+        ensures halts { IfErr result (λ fault. Halts fault self.old.interpreter self.old.part.items block.now (W.contents writer.old) (W.contents writer.new)) }
+    {
+        let mut rest = block;
+        while let Some((end, after)) = split_line(rest) {
+            self.end_line(alloc, end, writer)?;
+            rest = after;
+        }
+        match self.part.extend_from_slice(rest) {
+            Ok(()) => Ok(()),
+            Err(_) => Err(ScriptFault::NoMemory),
+        }
+    }
+
+    // Runs the rest of the script, after a part of a line that was already read.
+    fn run_blocks<R: Read, W: Write>(
+        &mut self,
+        alloc: Global,
+        reader: &mut R,
+        writer: &mut W,
+    ) -> Result<(), ScriptFault>
+        requires runs { Runs (R.remaining reader.old) (R.remaining reader.old) (W.contents writer.old) (W.contents writer.old) self.old.interpreter self.old.part.items }
+        requires clean { HasNoNewline self.old.part.items }
+        ensures ok { OnOk result (Ran (R.remaining reader.old) (R.remaining reader.new) (W.contents writer.old) (W.contents writer.new)) }
+        ensures err { OnErr result (Stopped (R.remaining reader.old) (W.contents writer.old) (W.contents writer.new)) }
+        ensures fault { IfErr result (λ fault. StoppedBy fault (R.remaining reader.old) (R.remaining reader.new) (W.contents writer.old) (W.contents writer.new)) }
+    {
+        let mut block = [0u8; BLOCK];
+        for _ in 0..u64::MAX {
+            let count = match reader.read(&mut block) {
+                Ok(count) => count,
+                Err(_) => return Err(ScriptFault::Read),
+            };
+            if count == 0 {
+                if self.part.is_empty() {
+                    return Ok(());
+                }
+                return self.end_line(alloc, &[], writer);
+            }
+            self.take_block(alloc, &block[..count], writer)?;
+        }
+        Err(ScriptFault::Read)
     }
 }
 
 /// Runs a script: reads it to its end, one command per line, and writes one line for each, whole before the
 /// next is run. It begins with the usual settings and the session of the empty text. On a fault, the lines
-/// before it were run and their output was written whole. A line that was not read whole was not run. Where a
+/// before it were run and their output was written whole. A line that was not read whole was not run. If a
 /// write failed, a part of the next line's output may be written. At most a block of 4096 bytes is read ahead.
 pub fn run_script<R: Read, W: Write>(
     alloc: Global,
@@ -265,42 +303,13 @@ pub fn run_script<R: Read, W: Write>(
     ensures err { OnErr result (Stopped (R.remaining reader.old) (W.contents writer.old) (W.contents writer.new)) }
     ensures fault { IfErr result (λ fault. StoppedBy fault (R.remaining reader.old) (R.remaining reader.new) (W.contents writer.old) (W.contents writer.new)) }
 {
-    let mut interpreter = Interpreter::start(alloc)?;
-    let mut part = Vec::new(alloc);
-    let mut out = Vec::new(alloc);
-    run_blocks(alloc, &mut interpreter, &mut part, &mut out, reader, writer)
-}
-
-// Runs the rest of the script, after a part of a line that was already read.
-fn run_blocks<R: Read, W: Write>(
-    alloc: Global,
-    interpreter: &mut Interpreter,
-    part: &mut Vec<u8>,
-    out: &mut Vec<u8>,
-    reader: &mut R,
-    writer: &mut W,
-) -> Result<(), ScriptFault>
-    requires runs { Runs (R.remaining reader.old) (R.remaining reader.old) (W.contents writer.old) (W.contents writer.old) interpreter.old part.old.items }
-    requires clean { HasNoNewline part.old.items }
-    ensures ok { OnOk result (Ran (R.remaining reader.old) (R.remaining reader.new) (W.contents writer.old) (W.contents writer.new)) }
-    ensures err { OnErr result (Stopped (R.remaining reader.old) (W.contents writer.old) (W.contents writer.new)) }
-    ensures fault { IfErr result (λ fault. StoppedBy fault (R.remaining reader.old) (R.remaining reader.new) (W.contents writer.old) (W.contents writer.new)) }
-{
-    let mut block = [0u8; BLOCK];
-    for _ in 0..u64::MAX {
-        let count = match reader.read(&mut block) {
-            Ok(count) => count,
-            Err(_) => return Err(ScriptFault::Read),
-        };
-        if count == 0 {
-            if part.is_empty() {
-                return Ok(());
-            }
-            return end_line(alloc, interpreter, part, &[], out, writer);
-        }
-        take_block(alloc, interpreter, part, out, &block[..count], writer)?;
-    }
-    Err(ScriptFault::Read)
+    let interpreter = Interpreter::start(alloc)?;
+    let mut runner = Runner {
+        interpreter,
+        part: Vec::new(alloc),
+        out: Vec::new(alloc),
+    };
+    runner.run_blocks(alloc, reader, writer)
 }
 
 /// What is printed for a text, also for one that a reply hands out, is read as that text again.

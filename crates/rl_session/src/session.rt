@@ -1,16 +1,9 @@
 //! A session: a line with its kill ring and the record of its changes, which takes commands one after another.
-ghost use Rattle.std.specs.Prelude.{is_some, ◌≡◌, ◌<◌, ◌++◌, ◌∷◌, [], List, ℕ, length, IsSome, Some, IfOk, IfErr, MatchOption, None, OnErr, OnOk, option_map};
-ghost use Rattle.rl_base.specs.Event.{replay};
-ghost use Rattle.rl_line.specs.Line.{Line};
-ghost use Rattle.rl_line.specs.Entry.{replay_entries, unwind};
-ghost use Rattle.rl_record.specs.Record.{Record};
+ghost use Rattle.std.specs.Prelude.{◌≡◌, ◌<◌, List, ℕ, length, Some, IfOk, IfErr, OnErr};
 ghost use Rattle.rl_base.specs.KillRing.{reset};
-ghost use Rattle.rl_base.specs.Reports.{HasTexts, LacksTexts, Noted, Stand, TellsByTexts, after_numbers, after_texts, new_queue, texts_of};
-ghost use Rattle.rl_base.specs.Splice.{Splices, told, untouched};
-ghost use Rattle.rl_base.specs.Watch.{RefusesQueue, next_note, past_next, taken_texts, text_room};
-ghost use Rattle.rl_session.specs.State.{State, ChangedFrom, Follows, IsBounded, ReportedFrom, Ends, Stands, with_ring, with_watch, Replays, origin};
+ghost use Rattle.rl_session.specs.State.{State, Follows, IsBounded, Ends, Stands, with_ring, Replays, origin};
 ghost use Rattle.rl_session.specs.Commands.{Does, Step, readied, settled};
-ghost use Rattle.rl_session.specs.Run.{Row, Run, AfterEach, commands_of, held_of, replies_of, reports, reports_of};
+ghost use Rattle.rl_session.specs.Run.{Run};
 ghost use Rattle.rl_session.specs.declared.session.Command.{Command};
 ghost use Rattle.rl_session.specs.declared.session.Reply.{Reply};
 
@@ -22,6 +15,7 @@ mod history;
 mod motions;
 mod opening;
 mod replies;
+mod reports;
 mod saved;
 pub mod typing;
 mod yanks;
@@ -30,8 +24,8 @@ use crate::options::Options;
 use crate::pair::Pair;
 use crate::session::replies::{answered, done, handed_out, inserted, marked};
 use rl_base::{
-    At, CharSearch, Direction, KillRing, Movement, Refusal, RepeatCount, Report, Splice, Unit,
-    Watch, WatchFault, Word, WordAction,
+    At, CharSearch, Direction, KillRing, Movement, Refusal, RepeatCount, Unit, Watch, Word,
+    WordAction,
 };
 use rl_line::LineBuffer;
 use rl_record::Changeset;
@@ -92,13 +86,21 @@ pub enum Command {
     Kill(Movement),
     /// Kills the text between two places, told with a direction: `Forward` joins it at the end of the text that was
     /// killed right before it, `Backward` at its front.
-    KillRange(usize, usize, Direction),
+    KillRange {
+        from: usize,
+        to: usize,
+        direction: Direction,
+    },
     /// Puts a text into the ring as a kill of its own. The line stays.
     Keep(String),
     /// Copies what a movement covers.
     Copy(Movement),
     /// Indents the lines of a movement by a number of spaces, or dedents them by at most that many bytes of blanks.
-    Indent(Movement, u8, bool),
+    Indent {
+        movement: Movement,
+        amount: u8,
+        dedent: bool,
+    },
     /// Parts the changes that come from those before: the next change joins nothing, and the next kill begins a text.
     Part,
     /// Opens a group of changes.
@@ -144,7 +146,7 @@ pub enum Fault {
     TooLong = 5,
 }
 
-// The numbers are part of the interface: a refusal is printed with the number of its fault.
+// The numbers are part of the interface: `src/print.rt` prints a refusal with the number of its fault.
 const _: () = prove!(Fault::NoMemory as u8 == 1);
 
 const _: () = prove!(Fault::BadPlace as u8 == 2);
@@ -240,70 +242,6 @@ impl Session {
         &self.pair.watch
     }
 
-    /// What changed in the text since this was asked last, or since the session was made, as one splice: what stands
-    /// between two places of the text as it was then gave way to what stands between two places of the present text, all
-    /// in bytes, and each between two characters. None if nothing changed. It is so whatever changed the text, also a
-    /// command that was refused halfway, an undo and a redo.
-    pub fn changed(&mut self) -> Option<Splice>
-        ensures told { result ≡ told self.old.pair.watch.changed }
-        ensures splices { (asked : List ℕ) → ChangedFrom asked self.old
-            → MatchOption result (self.old.line.text ≡ asked) (λ splice. Splices splice asked self.old.line.text) }
-        ensures again { ChangedFrom self.new.line.text self.new }
-        ensures rest { self.new ≡ with_watch (record self.old.pair.watch { changed = untouched }) self.old }
-    {
-        self.stands();
-        self.bounded();
-        self.pair.watch.changed()
-    }
-
-    /// Keeps a report of each change from now on, in a queue with room for `reports` of them and for `text_bytes` bytes
-    /// of their texts. All room is found here, so that no command is refused because of it: if a report or its texts
-    /// find no room, all that waits becomes one report. Without texts, reports carry numbers alone, and at most one waits: a
-    /// change that comes before it was read is folded into it, so what came is always in the present text. Refused, it changes
-    /// nothing.
-    #[tactic(auto, using(rl_base::proofs::Queue::LeadLemmas::new_leads))]
-    pub fn keep_reports(&mut self, reports: usize, text_bytes: usize) -> Result<(), WatchFault>
-        ensures ok { OnOk result ((0 < reports) × (self.old.pair.watch.reports ≡ None)
-            × (self.new ≡ with_watch (record self.old.pair.watch { reports = Some (new_queue reports text_bytes) }) self.old)) }
-        ensures reported { OnOk result (ReportedFrom self.new.line.text self.new) }
-        ensures err { IfErr result (λ fault. RefusesQueue fault reports self.old.pair.watch × (self.new ≡ self.old)) }
-    {
-        self.stands();
-        self.bounded();
-        self.pair
-            .watch
-            .keep_reports(self.alloc, reports, text_bytes)
-    }
-
-    /// Keeps no reports any more. Those that wait are dropped, and their memory is freed. `keep_reports` begins anew.
-    pub fn stop_reports(&mut self)
-        ensures stopped { self.new ≡ with_watch (record self.old.pair.watch { reports = None }) self.old }
-        ensures changed { (asked : List ℕ) → ChangedFrom asked self.old → ChangedFrom asked self.new }
-    {
-        self.pair.watch.stop_reports();
-    }
-
-    /// Takes the oldest report; None if none waits, and then a copy that applied all before it equals the text. The watch's
-    /// `taken_texts` are the report's removed and new text, valid until the next call that changes something. Applied to
-    /// the copy, a report with texts gives the text from which those that still wait lead to the present one. One without
-    /// texts, or folded, was all that waited, and its new text stands in the present text. The cursors of a report stand
-    /// between two characters, the first in the text before it, the second in that after it.
-    pub fn take_report(&mut self) -> Option<Report>
-        ensures taken { result ≡ option_map (λ n. n.report) (next_note self.old.pair.watch) }
-        ensures texts { taken_texts self.new.pair.watch ≡ texts_of (next_note self.old.pair.watch) }
-        ensures left { self.new ≡ with_watch (past_next self.old.pair.watch) self.old }
-        ensures nothing { (read : List ℕ) → ReportedFrom read self.old → next_note self.old.pair.watch ≡ None → self.old.line.text ≡ read }
-        ensures with_texts { (read : List ℕ) (note : Noted) → ReportedFrom read self.old → next_note self.old.pair.watch ≡ Some note
-            → HasTexts (text_room self.old.pair.watch) note.report
-            → TellsByTexts note read × Stand note.report.cursors read (after_texts note read) × ReportedFrom (after_texts note read) self.new }
-        ensures whole { (read : List ℕ) (note : Noted) → ReportedFrom read self.old → next_note self.old.pair.watch ≡ Some note
-            → LacksTexts (text_room self.old.pair.watch) note.report
-            → (next_note self.new.pair.watch ≡ None) × (after_numbers note.report self.old.line.text read ≡ self.old.line.text)
-            × Stand note.report.cursors read self.old.line.text × ReportedFrom self.old.line.text self.new }
-    {
-        self.pair.watch.take_report()
-    }
-
     // States the invariants of a session's parts, and that no kill is on, for the proofs that rely on them.
     fn stands(&self)
         ensures { Stands self.now }
@@ -380,12 +318,18 @@ impl Session {
             Command::TransposeWords(n) => answered(self.do_transpose_words(*n)),
             Command::EditWord(action) => answered(self.do_edit_word(*action)),
             Command::Kill(movement) => answered(self.do_kill(movement)),
-            Command::KillRange(from, to, dir) => answered(self.do_kill_range(*from, *to, *dir)),
+            Command::KillRange {
+                from,
+                to,
+                direction,
+            } => answered(self.do_kill_range(*from, *to, *direction)),
             Command::Keep(text) => done(self.do_keep(text.as_str())),
             Command::Copy(movement) => handed_out(self.do_copy(movement)),
-            Command::Indent(movement, amount, dedent) => {
-                answered(self.do_indent(movement, *amount, *dedent))
-            }
+            Command::Indent {
+                movement,
+                amount,
+                dedent,
+            } => answered(self.do_indent(movement, *amount, *dedent)),
             Command::Part => done(self.do_part()),
             Command::Begin => marked(self.do_begin()),
             Command::End => answered(self.do_end()),
@@ -406,10 +350,8 @@ impl Session {
     {
         match command {
             Command::Kill(movement) => self.ready_to_kill(movement),
-            Command::KillRange(_, _, _)
-            | Command::Yank(_)
-            | Command::YankPop
-            | Command::KeepUndone => {}
+            Command::KillRange { .. } | Command::Yank(_) | Command::YankPop | Command::KeepUndone =>
+                {}
             _ => self.reset_ring(),
         }
     }
@@ -437,7 +379,7 @@ impl Session {
         reply
     }
 
-    // The same, where a typed letter does not pay for the choice of what to do. Inlined, as `apply` is.
+    // The same, in which a typed letter does not pay for the choice of what to do. Inlined, as `apply` is.
     #[inline(always)]
     fn do_command(&mut self, command: &Command) -> Reply
         ensures { Step self.old command.now result self.new }
@@ -466,7 +408,7 @@ impl Session {
         self.do_command(command)
     }
 
-    /// Does the commands in order, and answers one reply for each. It allocates room for the replies first. Where
+    /// Does the commands in order, and answers one reply for each. It allocates room for the replies first. If
     /// that is refused, it did no command, and there was at least one to do. In either case the record leads back to
     /// the same text as before.
     pub fn run(&mut self, commands: &[Command]) -> Result<Vec<Reply>, Fault>
@@ -497,52 +439,3 @@ impl Session {
         Ok(replies)
     }
 }
-
-/// Two runs, one after the other, form one run: its rows and its held texts are those of the first, then of the second.
-/// The rows of a run up to any row are a run, and so are the rows after it. So what a law says of the last row of a run
-/// holds of any row, with the texts that were held by then. A single row, as each command makes one, is a run.
-pub fn runs_compose()
-    ensures joined { (old mid new : State) (cs ds : List Command) (rs ss : List Reply) (first : Run old cs rs mid) (second : Run mid ds ss new)
-        → (both : Run old (cs ++ ds) (rs ++ ss) new) × (both.rows ≡ first.rows ++ second.rows)
-        × (held_of both.rows ≡ held_of first.rows ++ held_of second.rows) }
-    ensures parts { (old new : State) (cs : List Command) (rs : List Reply) (run : Run old cs rs new) (xs ys : List Row) → run.rows ≡ xs ++ ys
-        → (mid : State) × (first : Run old (commands_of xs) (replies_of xs) mid) × (second : Run mid (commands_of ys) (replies_of ys) new)
-        × (first.rows ≡ xs) × (second.rows ≡ ys) }
-    ensures row { (row : Row) → (run : Run row.before (row.command ∷ []) (row.reply ∷ []) row.after) × (run.rows ≡ row ∷ []) }
-{}
-
-/// After every command, a line can go back over its record and ahead (`follows`). Where it can, what is recorded can be
-/// taken back from the text, and what was undone can be redone on it.
-#[tactic(auto, using(crate::proofs::Sessions::SessionLemmas::follows_unwind, crate::proofs::Sessions::SessionLemmas::follows_replay))]
-pub fn what_was_undone_can_be_made_again()
-    ensures recorded { (line : Line) (changes : Record) → Follows line changes → IsSome (unwind changes.recorded line.text) }
-    ensures pending { (line : Line) (changes : Record) → Follows line changes → IsSome (replay_entries changes.pending line.text) }
-{}
-
-/// After every row of a run, also if a step was refused, replaying the recorded changes from the starting text
-/// gives the present text.
-pub fn each_row_replays()
-    ensures { (start : List ℕ) (old new : State) (commands : List Command) (replies : List Reply) (run : Run old commands replies new)
-        → Replays start old → AfterEach (Replays start) run.rows }
-{}
-
-/// What changed is told whole: the events of a row (`reports`), replayed on the text before it, give the text after it,
-/// also if the command was refused after some of its steps, and also of an undo and a redo. The same holds of a run.
-pub fn reports_are_replayed()
-    ensures row { (row : Row) → replay (reports row) row.before.line.text ≡ Some row.after.line.text }
-    ensures run { (old new : State) (commands : List Command) (replies : List Reply) (run : Run old commands replies new)
-        → replay (reports_of run.rows) old.line.text ≡ Some new.line.text }
-{}
-
-/// What changed is told whole, whatever changed it: also an undo, a redo, and a command that was refused after some of its
-/// steps. After each row, and so over a run, all in which the text differs from the one about which `changed` was asked
-/// is in what it tells next; and if reports are kept, those that wait lead from the text at which reading left off to
-/// the present one.
-pub fn what_changed_is_told()
-    ensures changed { (asked : List ℕ) (row : Row) → ChangedFrom asked row.before → ChangedFrom asked row.after }
-    ensures reported { (read : List ℕ) (row : Row) → ReportedFrom read row.before → ReportedFrom read row.after }
-    ensures changed_over { (asked : List ℕ) (old new : State) (commands : List Command) (replies : List Reply) (run : Run old commands replies new)
-        → ChangedFrom asked old → ChangedFrom asked new }
-    ensures reported_over { (read : List ℕ) (old new : State) (commands : List Command) (replies : List Reply) (run : Run old commands replies new)
-        → ReportedFrom read old → ReportedFrom read new }
-{}

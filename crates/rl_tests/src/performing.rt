@@ -112,12 +112,21 @@ fn insertions(alloc: Global) -> Result<[Barred; 6], Fail> {
     ])
 }
 
+// Indents or dedents all lines.
+fn indent(amount: u8, dedent: bool) -> Command {
+    Command::Indent {
+        movement: Movement::WholeBuffer,
+        amount,
+        dedent,
+    }
+}
+
 // Those that answer true, whether applied or performed, and leave that text.
 fn others() -> [(Command, &'static str); 6] {
     [
         (Command::TransposeWords(2), "b ŉ"),
         (Command::EditWord(WordAction::Uppercase), "ʼN b"),
-        (Command::Indent(Movement::WholeBuffer, 1, false), " ŉ b"),
+        (indent(1, false), " ŉ b"),
         (Command::Undo(1), "ŉ bc"),
         (Command::Redo, "ŉ bd"),
         (Command::Abandon, "ŉ bc"),
@@ -199,8 +208,16 @@ fn edits(alloc: Global) -> Result<[Kept; 28], Fail> {
         (Command::TransposeWords(2), 10, false),
         (Command::EditWord(WordAction::Uppercase), 8, false),
         (Command::Kill(Movement::EndOfLine), 5, false),
-        (Command::KillRange(0, 2, Direction::Forward), 5, false),
-        (Command::Indent(Movement::WholeBuffer, 1, false), 5, false),
+        (
+            Command::KillRange {
+                from: 0,
+                to: 2,
+                direction: Direction::Forward,
+            },
+            5,
+            false,
+        ),
+        (indent(1, false), 5, false),
         (Command::Begin, 5, false),
         (Command::End, 5, false),
         (Command::EndOne, 5, false),
@@ -223,8 +240,8 @@ fn no_edits(alloc: Global) -> Result<[Kept; 13], Fail> {
         (Command::Redo, 3, false),
         (Command::Abandon, 0, false),
         (Command::Truncate(2), 2, false),
-        (Command::Indent(Movement::WholeBuffer, 0, false), 2, true),
-        (Command::Indent(Movement::WholeBuffer, 9, true), 2, true),
+        (indent(0, false), 2, true),
+        (indent(9, true), 2, true),
     ])
 }
 

@@ -8,7 +8,7 @@ use Rattle.rl_record.specs.Record.{parted}
 use Rattle.rl_record.specs.declared.changeset.groups.UnitStart.{UnitStart}
 use Rattle.rl_record.specs.declared.joining.Freshness.TheVariants.{Parted}
 use Rattle.rl_session.specs.History.{History}
-use Rattle.rl_session.specs.declared.session.Command.TheVariants.{Abandon, Begin, Copy, EditWord, End, EndOne, Indent, Keep, KeepUndone, LinePlace, Move, Part, Reopen, SetPos, TransposeChars, TransposeWords, Truncate, Update, YankPop}
+use Rattle.rl_session.specs.declared.session.Command.TheVariants.{Abandon, Begin, EditWord, End, EndOne, Indent, KeepUndone, Reopen, TransposeChars, TransposeWords, Update, YankPop}
 use Rattle.rl_session.specs.declared.session.Fault.TheVariants.{NoMemory}
 use Rattle.rl_session.specs.declared.session.Reply.TheVariants as says
 use Rattle.rl_session.specs.declared.options.Options.{Options}
@@ -123,12 +123,6 @@ carried-same (Undo n) s plain = cc
 carried-same _ s plain = refl
 
 plain-single : (command : Command) → is_plain command ≡ true → is_one_unit command ≡ false
-plain-single Reopen plain = refl
-plain-single Begin plain = cc
-plain-single End plain = cc
-plain-single EndOne plain = cc
-plain-single Abandon plain = cc
-plain-single (Undo n) plain = refl
 plain-single (Update t q) plain = cc
 plain-single YankPop plain = cc
 plain-single TransposeChars plain = cc
@@ -347,19 +341,13 @@ limit-changes : (old s : State) (changes : Record) → LimitStays old s → Limi
 limit-changes old s changes l = (Stands-changes changes s l.0, l.1)
 
 one_unit-edits : (command : Command) → is_one_unit command ≡ true → is_edit_or_mark command ≡ true
-one_unit-edits (SetPos q) one = cc
-one_unit-edits (Move m) one = cc
-one_unit-edits (Copy m) one = cc
-one_unit-edits (Keep t) one = cc
-one_unit-edits Part one = cc
-one_unit-edits Reopen one = cc
-one_unit-edits Abandon one = cc
-one_unit-edits KeepUndone one = cc
-one_unit-edits (Undo n) one = cc
-one_unit-edits Redo one = cc
-one_unit-edits (Truncate len) one = cc
-one_unit-edits LinePlace one = cc
-one_unit-edits _ one = refl
+one_unit-edits (Update t q) one = refl
+one_unit-edits YankPop one = refl
+one_unit-edits TransposeChars one = refl
+one_unit-edits (TransposeWords n) one = refl
+one_unit-edits (EditWord a) one = refl
+one_unit-edits (Indent m a d) one = refl
+one_unit-edits _ one = cc
 
 barred_apart : (command : Command) (old s : State) → ¬ (IsBarred s (carried old command)) → ¬ (IsBarred (set_apart s command) (carried old command))
 barred_apart command old s free =

@@ -1,5 +1,5 @@
 -- A record is placed among the texts that were held, whatever it hears.
-use Rattle.rl_session.proofs.Common.{RecordCall, MayCome, after_call, keeps_undone, parts_next, puts_begin, puts_end, puts_ends, reopens, shortens, texts_of_call, ◌≡◌, ◌≤◌, ℕ, List, [], ◌∷◌, ◌++◌, length, length-append, cond_both, ◌-◌, take, drop, map, reverse, Some, refl, sym, ap, subst, ◌∙◌, inl, inr, append-nil, append_assoc, arith, same_Some, take-append-drop, reverse-append, reverse-reverse, map-append, option_and_then, IsSome, IsUtf8, Event, Freshness, Cursors, replay, Line, stepped, listener_after, listener_after_step, Entry, Begin, End, Changed, Record, entries_of, entries_after, replay_entries, unwind, event_of, entries_told, last_told, level, last_of, kept_of, redo_of, end_one, end_times, min, undone, redone, truncated, with_closed, kept_within, HoldsOn, gone, StandsAfter, WasHeld, PlacedBack, Placed, History, Holds, State, texts_of_steps, Option, None, ◌||◌, not, true, false, zero, suc}
+use Rattle.rl_session.proofs.Common.{RecordCall, MayCome, after_call, keeps_undone, parts_next, puts_begin, puts_end, puts_ends, reopens, shortens, texts_of_call, ◌≡◌, ◌≤◌, ℕ, List, [], ◌∷◌, ◌++◌, length, length-append, cond_both, ◌-◌, take, drop, map, reverse, Some, refl, sym, ap, subst, ◌∙◌, inl, inr, append-nil, append_assoc, arith, same_Some, take-append-drop, reverse-append, reverse-reverse, map-append, option_and_then, IsSome, IsUtf8, Event, Freshness, Cursors, replay, Line, stepped, listener_after, listener_after_step, Entry, Begin, End, Changed, Record, entries_of, entries_after, replay_entries, unwind, event_of, entries_told, last_told, level, last_of, kept_of, redo_of, end_one, end_times, min, undone, redone, truncated, with_closed, kept_within, HoldsOn, gone, StandsAfter, WasHeld, PlacedBack, Placed, History, Holds, State, texts_of_steps, Option, None, ◌||◌, not, true, false, zero, suc, rules}
 use Rattle.rl_base.specs.Event.{apply}
 use Rattle.rl_base.proofs.Texts.SwapLemmas.{apply-IsUtf8}
 use Rattle.rl_line.specs.Plan.{Step, after}
@@ -20,7 +20,6 @@ use Rattle.rl_line.proofs.Changes.RoomLemmas.{texts_after-more}
 use Rattle.rl_line.proofs.Plans.PlanLemmas.{first_step}
 use Rattle.rl_record.proofs.Records.ToldLemmas.{same-event, told-cases}
 use Rattle.std.proofs.lemmas.Grind.{common_steps}
-use Rattle.rl_session.proofs.Common.{rules}
 use Rattle.rl_line.specs.Going.{texts_ahead}
 use Rattle.rl_record.proofs.Records.RoundLemmas.{BothMatched-round, kept-either, replays-round, unwind-call}
 

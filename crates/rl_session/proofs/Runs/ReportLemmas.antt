@@ -1,5 +1,5 @@
 -- What rows report, applied to the text before them, gives the text after them.
-use Rattle.rl_session.proofs.Common.{◌≡◌, ℕ, List, [], ◌∷◌, Option, Some, None, refl, sym, ap, ◌∙◌, map, option_and_then, reverse, Event, Replace, replay, Entry, Changed, events_ahead, inverse, events_of, cursor_after, steps_ahead, last_of, redo_of, Effect, by_steps, takes_back, puts_again, Became, effect, readied, Row, Leads, Run, reports, reports_of, steps_done, steps_in, State, Command, Reply}
+use Rattle.rl_session.proofs.Common.{◌≡◌, ℕ, List, [], ◌∷◌, Option, Some, None, refl, sym, ap, ◌∙◌, map, option_and_then, reverse, Event, Replace, replay, Entry, Changed, events_ahead, inverse, events_of, cursor_after, steps_ahead, last_of, redo_of, Effect, by_steps, takes_back, puts_again, Became, effect, readied, Row, Leads, Run, reports, reports_of, steps_done, steps_in, State, Command, Reply, arith}
 use Rattle.rl_base.specs.Event.{apply}
 use Rattle.rl_line.proofs.Plans.PlanLemmas.{after-replay}
 use Rattle.rl_line.proofs.Changes.InverseLemmas.{events-append}
@@ -7,7 +7,6 @@ use Rattle.rl_line.proofs.Changes.GoingLemmas.{line_back-ahead}
 use Rattle.rl_line.proofs.Changes.BackLemmas.{line_ahead-replay}
 use Rattle.rl_session.specs.Commands.{keeps, gives_up}
 use Rattle.rl_session.proofs.Sessions.CourseLemmas.{Heard-Came}
-use Rattle.rl_session.proofs.Common.{arith}
 use Rattle.rl_record.specs.Units.{open_group}
 
 then_same : (xs ys : List Event) (o : Option (List ℕ)) → ((t : List ℕ) → replay xs t ≡ replay ys t) → option_and_then (replay xs) o ≡ option_and_then (replay ys) o

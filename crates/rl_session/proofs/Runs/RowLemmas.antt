@@ -1,5 +1,5 @@
 -- What each row of a session keeps, and how a run goes on.
-use Rattle.rl_session.proofs.Common.{None, Some, Option, ap₂, cond_both, popped_ring, turned, yank_size, ring_step, Ring, Event, IsChange, Pair, Append, List, [], ◌∷◌, ◌++◌, ◌≡◌, ◌∙◌, ap, true, false, inl, inr, refl, subst, sym, append_assoc, map-append, ℕ, IsSome, IsUtf8, unwind, Command, Reply, State, Replays, origin, Start, Course, never, when, stays, goes, edits, lends, pops, tells, Came, popped, Effect, by_steps, takes_back, puts_again, Became, within_bound, no_bound, pair_step, Row, held, held_of, Leads, Run, AfterEach, commands_of, replies_of, steps_in}
+use Rattle.rl_session.proofs.Common.{None, Some, Option, ap₂, cond_both, popped_ring, turned, yank_size, ring_step, Ring, Event, IsChange, Pair, Append, List, [], ◌∷◌, ◌++◌, ◌≡◌, ◌∙◌, ap, true, false, inl, inr, refl, subst, sym, append_assoc, map-append, ℕ, IsSome, IsUtf8, unwind, Command, Reply, State, Replays, origin, Start, Course, never, when, stays, goes, edits, lends, pops, tells, Came, popped, Effect, by_steps, takes_back, puts_again, Became, within_bound, no_bound, pair_step, Row, held, held_of, Leads, Run, AfterEach, commands_of, replies_of, steps_in, arith}
 use Rattle.rl_base.proofs.Ring.BoundLemmas.{within-unbounded}
 use Rattle.rl_base.proofs.Ring.KillGroupLemmas.{killed_as-lasts, lasts, lent-lasts, ring_step-lasts}
 use Rattle.rl_base.specs.KillRing.{yank}
@@ -16,7 +16,6 @@ use Rattle.rl_session.proofs.Sessions.CourseLemmas.{Heard, Heard-Came}
 use Rattle.rl_session.proofs.Sessions.IdleLemmas.{ring-Done, ring-Halted}
 use Rattle.rl_session.proofs.Sessions.PairLemmas.{Halted-own}
 use Rattle.rl_session.specs.declared.options.Options.{Options}
-use Rattle.rl_session.proofs.Common.{arith}
 use Rattle.rl_record.proofs.Records.AbandonLemmas.{Kept-Abandoned}
 
 -- the record leads back to the same text

@@ -1,6 +1,6 @@
 -- What begins with an escape, and what does not.
 use Rattle.rl_session.proofs.Common.{arith, ◌≡◌, ◌≢◌, ℕ, ◌<◌, List, [], ◌∷◌, ◌++◌, Some, None, refl, sym, ap, ◌∙◌, append_assoc, inl, inr, ◌⊎◌, encode_utf8, codes, encode_same, encode_ascii, letter_of, NamesChar, Escapes, letter, braced, BeginsEscape, BeginsNoEscape}
-use Rattle.rl_session.proofs.Scripts.PartLemmas.{Lacks, Lacks-none, same_parts}
+use Rattle.rl_session.proofs.Scripts.SplitLemmas.{Lacks, Lacks-none, same_parts}
 use Rattle.rl_session.proofs.Scripts.SpellingLemmas.{digits-Lacks, letter-ascii}
 
 -- braces

@@ -1,7 +1,6 @@
 -- How the lines of a script part it, and how what is written for them joins.
-use Rattle.rl_session.proofs.Common.{◌≡◌, ℕ, zero, suc, length, take, drop, List, [], ◌∷◌, ◌++◌, Option, Some, None, ◌<◌, arith, refl, sym, ap, subst, ◌∙◌, append_assoc, append-nil, inl, inr, eq-eqb, ne_eqb, Nowhere, Passes, is_byte, Appends-trans, Appends-nil, Consumes-trans, Appends, Consumes, IsAtEnd, lines_of, whole_lines, onto_some, started, Outputs, Ran, HasNoNewline, IsSaid, SaidOut, Took, Runs, meaning_of, ScriptLine, Interpreter}
+use Rattle.rl_session.proofs.Common.{◌≡◌, ℕ, zero, suc, length, take, drop, List, [], ◌∷◌, ◌++◌, Option, Some, None, ◌<◌, arith, refl, sym, ap, subst, ◌∙◌, append_assoc, append-nil, inl, inr, eq-eqb, ne_eqb, Nowhere, Passes, is_byte, Appends-trans, Appends-nil, Consumes-trans, Appends, Consumes, IsAtEnd, lines_of, whole_lines, onto_some, started, Outputs, Ran, HasNoNewline, IsSaid, SaidOut, Took, Runs, meaning_of, ScriptLine, Interpreter, add-one, take_rest}
 use borrow.Author.Tests.{eqb-true}
-use Rattle.rl_session.proofs.Common.{add-one, take_rest}
 use Rattle.rl_session.specs.Lines.{onto}
 use Rattle.rl_session.specs.Script.{LineOut}
 use Rattle.std.proofs.lemmas.Grind.{common_steps}

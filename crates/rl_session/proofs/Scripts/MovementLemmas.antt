@@ -1,6 +1,5 @@
 -- One movement at most is named, by what stands after its word.
-use Rattle.rl_session.proofs.Common.{arith}
-use Rattle.rl_session.proofs.Common.{◌≡◌, ℕ, ◌-◌, ◌^◌, List, Option, Some, refl, sym, ap, subst, ◌∙◌, codes, GraphemeClusterMode, Direction, At, CharSearch, Movement, BackwardChar, ForwardChar, LineUp, LineDown, WholeLinesUp, WholeLinesDown, Word, WordAction, NamesWord, big, emacs, vi, NamesAt, start, before, NamesSearch, till, back_onto, back_till, NamesAction, cap, low, upper, NamesMode, unicode, wcwidth, nozwj, CountWord, CountAtWord, CountSearch, Names, whole, home, eol, bword, fword, find, first, nonblank, bchar, fchar, up, down, linesup, linesdown, buf, bob, eob, AmountMovement, NamesDirection, ahead, backward, RangeDirection, word, rest, SpellsChar, Numbered, HasNoWord, HasNoAt, HasNoSearch, NamesNothing}
+use Rattle.rl_session.proofs.Common.{arith, ◌≡◌, ℕ, ◌-◌, ◌^◌, List, Option, Some, refl, sym, ap, subst, ◌∙◌, codes, GraphemeClusterMode, Direction, At, CharSearch, Movement, BackwardChar, ForwardChar, LineUp, LineDown, WholeLinesUp, WholeLinesDown, Word, WordAction, NamesWord, big, emacs, vi, NamesAt, start, before, NamesSearch, till, back_onto, back_till, NamesAction, cap, low, upper, NamesMode, unicode, wcwidth, nozwj, CountWord, CountAtWord, CountSearch, Names, whole, home, eol, bword, fword, find, first, nonblank, bchar, fchar, up, down, linesup, linesdown, buf, bob, eob, AmountMovement, NamesDirection, ahead, backward, RangeDirection, word, rest, SpellsChar, Numbered, HasNoWord, HasNoAt, HasNoSearch, NamesNothing}
 use Rattle.rl_session.specs.Grammar.{after, onto}
 use Rattle.rl_session.proofs.Scripts.NumberLemmas.{some_same}
 use Rattle.rl_session.proofs.Scripts.SpellingLemmas.{SpellsChar-one}

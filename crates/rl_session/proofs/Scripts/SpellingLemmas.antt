@@ -1,7 +1,7 @@
 -- One text at most is spelled by given bytes, and by which parts.
 use Rattle.rl_session.proofs.Common.{nat_tests, and_parts, arith, ◌≡◌, ◌≢◌, ℕ, ◌+◌, ◌*◌, ◌<◌, true, List, [], ◌∷◌, ◌++◌, length, get_or, Option, Some, None, refl, sym, ap, subst, ◌∙◌, append_assoc, append-nil, length-append, encode_utf8, option_and_then, MatchOption, Bor, IsUtf8, IsScalar, encode_same, encode_ascii, inside_one, length-encode, len_utf8_bounds, cons_from_encodes, append_cancel_left, hex_digit, hex_from, letter_of, Escapes, Spells, SpellsChar, letter, braced, plain, BeginsEscape, BeginsNoEscape, BeginsChar, SpellsNothing, SpellsNoChar}
 use lib.Utf8.{scalar, scalars}
-use Rattle.rl_session.proofs.Scripts.PartLemmas.{Lacks, Lacks-by_index, same_parts}
+use Rattle.rl_session.proofs.Scripts.SplitLemmas.{Lacks, Lacks-by_index, same_parts}
 use Rattle.rl_session.specs.Spelling.{nothing, escape}
 use Rattle.rl_session.specs.Parsing.{Begins}
 

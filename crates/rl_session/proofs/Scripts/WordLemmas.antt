@@ -5,7 +5,7 @@ use Rattle.rl_session.specs.declared.settings.Setting.TheVariants.{Mode}
 use Rattle.rl_session.specs.Grammar.{yank, keeps}
 use Rattle.rl_session.specs.Parsing.{new_text, pasted, updated, put_in, replaced, kept}
 use Rattle.rl_session.proofs.Scripts.NumberLemmas.{some_same, none_holds}
-use Rattle.rl_session.proofs.Scripts.PartLemmas.{Lacks}
+use Rattle.rl_session.proofs.Scripts.SplitLemmas.{Lacks}
 use Rattle.rl_session.proofs.Scripts.SpellingLemmas.{Spells-one, SpellsChar-one}
 use Rattle.rl_session.proofs.Scripts.MovementLemmas.{NamesAction-one, NamesMode-one, Numbered-one, CountWord-one, CountAtWord-one, CountSearch-one, RangeDirection-one, Names-one, AmountMovement-one}
 

@@ -1,12 +1,11 @@
 -- No kill is on between the commands of a session: only a kill tells its start, and it tells its end too.
-use Rattle.rl_session.proofs.Common.{sym, cond_both, ◌≡◌, ℕ, ◌+◌, ◌-◌, ◌*◌, ◌==◌, ◌||◌, Bool, true, false, List, [], ◌∷◌, ◌++◌, length, Option, Some, None, ap, subst, ◌∙◌, inl, inr, remove_range, Range, Event, InsertChar, InsertStr, Replace, IsChange, Ring, after_deletion, popped_ring, ring_step, turned, yank_popped, yank_size, yanked, Direction, Refusal, Movement, insert_plan, too_long, yank_plan, yank_pop_plan, indent_plan, line_plan, lines_plan, parts, pushed, put_spaces, Told, kill_plan, removal, side_of, WordAction, edit_word_plan, respell, word_ahead, Line, stepped, Plan, listener_after, lent_plan, popped_plan, Taken, Done, Halted, or_no_memory, room_by_step, Outcome, listener_after_step, Result, Ok, Err, refl, Entry, Begin, End, Changed, cursor_after, steps_ahead, are_two, first_word, pulled_back, second_word, transpose_chars_plan, transpose_words_plan, pair_step, pair_refused, Pair}
+use Rattle.rl_session.proofs.Common.{sym, cond_both, ◌≡◌, ℕ, ◌+◌, ◌-◌, ◌*◌, ◌==◌, ◌||◌, Bool, true, false, List, [], ◌∷◌, ◌++◌, length, Option, Some, None, ap, subst, ◌∙◌, inl, inr, remove_range, Range, Event, InsertChar, InsertStr, Replace, IsChange, Ring, after_deletion, popped_ring, ring_step, turned, yank_popped, yank_size, yanked, Direction, Refusal, Movement, insert_plan, too_long, yank_plan, yank_pop_plan, indent_plan, line_plan, lines_plan, parts, pushed, put_spaces, Told, kill_plan, removal, side_of, WordAction, edit_word_plan, respell, word_ahead, Line, stepped, Plan, listener_after, lent_plan, popped_plan, Taken, Done, Halted, or_no_memory, room_by_step, Outcome, listener_after_step, Result, Ok, Err, refl, Entry, Begin, End, Changed, cursor_after, steps_ahead, are_two, first_word, pulled_back, second_word, transpose_chars_plan, transpose_words_plan, pair_step, pair_refused, Pair, arith}
 use Rattle.rl_base.specs.Event.{Delete}
 use Rattle.rl_base.specs.KillRing.{KeepsText, lent, yank}
 use Rattle.rl_line.specs.Plan.{Step}
 use Rattle.rl_line.specs.Ranges.{killed}
 use Rattle.rl_line.proofs.Plans.HearingLemmas.{AreChanges}
 use Rattle.rl_session.proofs.Sessions.PairLemmas.{listener_after-ring}
-use Rattle.rl_session.proofs.Common.{arith}
 
 -- each step changes the text, so none tells the start of a kill
 abbrev pub NoneStarts : List Step → Type 0

@@ -1,9 +1,8 @@
 -- What a pair of a ring and a record hears, as each of the two hears it, and the watch beside them.
-use Rattle.rl_session.proofs.Common.{◌≡◌, ℕ, ◌∷◌, [], List, refl, ap, inl, inr, ◌∙◌, Event, ring_step, watch_step, Refusal, Line, Plan, listener_after, listener_after_step, Taken, Done, Halted, or_no_memory, Takes, room_by_step, refusal_of, Record, record_step, pair_step, pair_refused, Pair}
+use Rattle.rl_session.proofs.Common.{◌≡◌, ℕ, ◌∷◌, [], List, refl, ap, inl, inr, ◌∙◌, Event, ring_step, watch_step, Refusal, Line, Plan, listener_after, listener_after_step, Taken, Done, Halted, or_no_memory, Takes, room_by_step, refusal_of, Record, record_step, pair_step, pair_refused, Pair, rules}
 use Rattle.rl_base.specs.declared.listeners.Refusal.TheVariants as why
 use Rattle.rl_line.specs.Plan.{Step}
 use Rattle.rl_line.proofs.Plans.PlanLemmas.{Halted-caused}
-use Rattle.rl_session.proofs.Common.{rules}
 
 pub listener_after-changes : (cursor : ℕ) (steps : List Step) (p : Pair) → (listener_after pair_step cursor steps p).changes ≡ listener_after record_step cursor steps p.changes
 listener_after-changes cursor [] p = refl

@@ -1,13 +1,12 @@
 -- What a command did, by what is replied to the outcome of its call.
 use Rattle.std.specs.Prelude.{IsErrAnd, MatchResult}
-use Rattle.rl_session.proofs.Common.{err_from_is_err_and, refl, Outcome, ToldOutcome, Bool, true, false, ◌≡◌, subst, Result, Ok, Err, ℕ, Option, Start, Refusal, Movement, room_by_step, Told, is_by_characters, kill_plan, Does, lent_plan, pair_step, pair_refused, Pair, replied, State, Kill, Yank, YankPop, Reply, ap}
+use Rattle.rl_session.proofs.Common.{err_from_is_err_and, refl, Outcome, ToldOutcome, Bool, true, false, ◌≡◌, subst, Result, Ok, Err, ℕ, Option, Start, Refusal, Movement, room_by_step, Told, is_by_characters, kill_plan, Does, lent_plan, pair_step, pair_refused, Pair, replied, State, Kill, Yank, YankPop, Reply, ap, arith}
 use Rattle.rl_base.specs.KillRing.{yank, yank_pop, yank_size}
 use Rattle.rl_session.specs.Commands.{StandsYanked, lent, popped, popped_plan}
 use Rattle.rl_session.specs.declared.session.Fault.{Fault}
 use Rattle.rl_session.specs.declared.session.Fault.TheVariants.{NoMemory}
 use Rattle.rl_session.specs.declared.session.Reply.TheVariants as says
 use Rattle.rl_session.proofs.Sessions.PairLemmas.{Halted-pair}
-use Rattle.rl_session.proofs.Common.{arith}
 
 -- the outcome of an edit as its command returns it
 abbrev pub returned : {A : Type 0} → Result A Refusal → Result A Fault

@@ -1,10 +1,9 @@
 -- A text that takes the place of a whole line's.
-use Rattle.rl_session.proofs.Common.{◌≡◌, ◌∙◌, ℕ, ◌+◌, ◌-◌, inl, inr, List, [], ◌∷◌, ◌++◌, length, max, Some, refl, sym, ap, subst, arith, append-nil, length-append, take_all, IsUtf8-nil, slice_range, IsUtf8, Cursors, Replace, apply, Watched, watch_step, Refusal, replace_plan, Line, NeedsRoom, Done, Grows, Halted, Taken, or_no_memory, Record, Walks}
+use Rattle.rl_session.proofs.Common.{◌≡◌, ◌∙◌, ℕ, ◌+◌, ◌-◌, inl, inr, List, [], ◌∷◌, ◌++◌, length, max, Some, refl, sym, ap, subst, arith, append-nil, length-append, take_all, IsUtf8-nil, slice_range, IsUtf8, Cursors, Replace, apply, Watched, watch_step, Refusal, replace_plan, Line, NeedsRoom, Done, Grows, Halted, Taken, or_no_memory, Record, Walks, rules}
 use Rattle.rl_record.specs.Record.{no_changes}
 use Rattle.rl_base.proofs.Texts.SwapLemmas.{apply-Replace-Swaps}
 use Rattle.rl_line.specs.Plan.{Step}
 use Rattle.rl_line.proofs.Plans.PlanLemmas.{first_step}
-use Rattle.rl_session.proofs.Common.{rules}
 
 -- all of a text gives way to another
 pub apply-all : (old new : List ℕ) → IsUtf8 old → IsUtf8 new → apply (Replace 0 old new) old ≡ Some new

@@ -4,16 +4,18 @@
 //! for it, an edit, and what begins or ends a group, then keeps what was undone, and is not begun without memory for
 //! that. Each resets the ring, but those whose commands go on from what the ring did last. One undo takes back all that
 //! an edit of several steps changed. After the command, what is beyond the bounds is forgotten.
-ghost use Rattle.std.specs.Prelude.{◌≡◌, false, true, IfErr, MatchOption, OnOk, Some};
+ghost use Rattle.std.specs.Prelude.{◌≡◌, true, IfErr, OnOk};
 ghost use Rattle.rl_line.specs.Deletions.{CanDeleteBy};
 ghost use Rattle.rl_session.specs.Commands.{deletion_of, with_changes};
-ghost use Rattle.rl_session.specs.Performing.{BarsWith, HasKept, Keeps, Obeyed, Performed, PerformedWith, Unites, carried, leaves_waiting, made_in_group, put_in};
+ghost use Rattle.rl_session.specs.Performing.{BarsWith, HasKept, Keeps, Obeyed, Performed, PerformedWith, Unites, put_in};
 ghost use Rattle.rl_session.specs.State.{Ends};
 ghost use Rattle.rl_record.specs.Record.{freshness_told, parted};
-ghost use Rattle.rl_record.specs.Units.{end_times, still_waiting, unit_start};
+ghost use Rattle.rl_record.specs.Units.{unit_start};
 ghost use Rattle.rl_session.specs.Replies.{replied};
 ghost use Rattle.rl_session.specs.declared.session.Command.{Command};
 ghost use Rattle.rl_session.specs.declared.session.Reply.{Reply};
+
+mod record;
 
 use crate::session::replies::{answered, done, handed_out, inserted, marked};
 use crate::session::{Command, Fault, Reply, Session};
@@ -55,6 +57,10 @@ macro_rules! as_unit {
         done
     }};
 }
+
+pub(crate) use anew;
+pub(crate) use edits;
+pub(crate) use goes_on;
 
 #[tactic(auto, using(crate::proofs::Sessions::PerformLemmas::performing))]
 impl Session {
@@ -194,7 +200,7 @@ impl Session {
     }
 
     /// Deletes by a movement to one side of the cursor, which `can_delete_by` tests. Answers whether there was
-    /// something. `NoMemory` leaves the text as it was. Inlined, so that no reply is copied where the command is
+    /// something. `NoMemory` leaves the text as it was. Inlined, so that no reply is copied when the command is
     /// chosen.
     #[inline(always)]
     pub fn delete_by(&mut self, movement: &Movement) -> Result<bool, Fault>
@@ -298,104 +304,6 @@ impl Session {
         )
     }
 
-    /// Parts the changes that come from those before: the next change joins nothing, so that it is undone alone, and
-    /// the next kill begins a text. Text, cursor, groups and what was undone stay.
-    pub fn part(&mut self) -> Result<(), Fault>
-        ensures { Performed self.old Command.Part (replied (λ _. Reply.Done) result) self.new }
-    {
-        anew!(self, self.do_part())
-    }
-
-    /// Opens a group of changes. Says how many entries the record had. What was undone waits until the group changes
-    /// something. `NoMemory` leaves the record as it was.
-    #[tactic(auto, using(crate::proofs::Sessions::PerformLemmas::performing, crate::proofs::Sessions::WaitingLemmas::leaving))]
-    pub fn begin(&mut self) -> Result<usize, Fault>
-        ensures { Performed self.old Command.Begin (replied Reply.Mark result) self.new }
-    {
-        if !self.options.keeps && self.pair.changes.has_waiting() {
-            let mark = self.open_waiting()?;
-            return anew!(self, Ok(mark));
-        }
-        edits!(self, self.do_begin())
-    }
-
-    /// Closes all open groups. Answers whether one of them holds something; if none does, what was undone stays.
-    /// `NoMemory` leaves the record as it was.
-    #[tactic(auto, using(crate::proofs::Sessions::PerformLemmas::performing, crate::proofs::Sessions::WaitingLemmas::leaving))]
-    pub fn end(&mut self) -> Result<bool, Fault>
-        ensures { Performed self.old Command.End (replied Reply.Answer result) self.new }
-    {
-        let open = self.level();
-        if self.close_empty(open) {
-            return anew!(self, Ok(false));
-        }
-        edits!(self, self.do_end())
-    }
-
-    /// Closes the group that was opened last. Answers whether it holds something; if not, what was undone stays.
-    /// `NoMemory` leaves the record as it was.
-    #[tactic(auto, using(crate::proofs::Sessions::PerformLemmas::performing, crate::proofs::Sessions::WaitingLemmas::leaving))]
-    pub fn end_one(&mut self) -> Result<bool, Fault>
-        ensures { Performed self.old Command.EndOne (replied Reply.Answer result) self.new }
-    {
-        let open = self.level();
-        if self.close_empty(open.min(1)) {
-            return anew!(self, Ok(false));
-        }
-        edits!(self, self.do_end_one())
-    }
-
-    /// Opens the group again whose End is the last entry, also one that `keep_undone` recorded, and drops the undone
-    /// changes. Later changes are a part of it. Returns false, and changes nothing, if the last entry is no End. If the
-    /// options keep undone changes, and some wait to be redone, it returns false and leaves the session as it was.
-    pub fn reopen(&mut self) -> Result<bool, Fault>
-        ensures { Performed self.old Command.Reopen (replied Reply.Answer result) self.new }
-    {
-        if self.options.keeps && self.can_redo() {
-            return Ok(false);
-        }
-        anew!(self, self.do_reopen())
-    }
-
-    /// Takes back the group that was opened last and is open, as if it had never been begun: its changes are undone,
-    /// and it is forgotten with its begin, so that nothing waits to be redone; but what was undone stays if the group is
-    /// empty. The ring keeps what was killed. Answers whether a group is open; else it changes nothing. `NoMemory`
-    /// leaves text and record as they were.
-    #[tactic(auto, using(crate::proofs::Sessions::PerformLemmas::performing, crate::proofs::Sessions::WaitingLemmas::leaving))]
-    pub fn abandon(&mut self) -> Result<bool, Fault>
-        ensures { Performed self.old Command.Abandon (replied Reply.Answer result) self.new }
-    {
-        if !self.pair.changes.abandon_fits(&self.line) {
-            return Err(Fault::TooLong);
-        }
-        if self.abandon_empty() {
-            return anew!(self, Ok(true));
-        }
-        anew!(self, self.do_abandon())
-    }
-
-    /// Keeps what was undone, for an edit that would drop it: what waits to be redone is recorded again, an open group
-    /// in it is closed, and then the inverse of each of its units, the last first. The text stays, and an undo of n
-    /// units leads where n redos led before. The next change joins none of these. Answers whether anything waited; else
-    /// it changes nothing, and so does `NoMemory`. The ring stays, so that it may come between kills.
-    pub fn keep_undone(&mut self) -> Result<bool, Fault>
-        ensures { Performed self.old Command.KeepUndone (replied Reply.Answer result) self.new }
-    {
-        goes_on!(self, self.do_keep_undone())
-    }
-
-    // Closes the group that was opened last, if one is open, as `close_empty` does.
-    fn abandon_empty(&mut self) -> bool
-        ensures answer { result ≡ leaves_waiting self.old Command.Abandon }
-        ensures done { result ≡ true → self.new ≡ with_changes (still_waiting (end_times 1 self.old.pair.changes.recorded) self.old.pair.changes) self.old }
-        ensures none { result ≡ false → self.new ≡ self.old }
-    {
-        if self.level() == 0 {
-            return false;
-        }
-        self.close_empty(1)
-    }
-
     // Whether the limit bars an update, an insertion at a place, a replacement. It bars none whose places are bad.
     fn update_is_too_long(&self, text: &str, pos: usize) -> bool
         ensures { BarsWith text.now (λ t. Command.Update t pos) result self.now }
@@ -459,65 +367,6 @@ impl Session {
         Ok(())
     }
 
-    // How many units an undo of n takes, which stays in the group that was opened last and is open. None if nothing was
-    // made in that.
-    #[tactic(auto, using(crate::proofs::Sessions::PerformLemmas::grouping))]
-    #[inline(always)]
-    fn to_undo(&self, n: RepeatCount) -> Option<RepeatCount>
-        ensures { MatchOption result (made_in_group self.now ≡ Some 0) (λ m. (carried self.now (Command.Undo n) ≡ Command.Undo m) × ¬ (made_in_group self.now ≡ Some 0)) }
-    {
-        let most = n.max(1);
-        let Some(made) = self.pair.changes.units_in_group(most) else {
-            return Some(n);
-        };
-        if made == 0 {
-            return None;
-        }
-        Some(made)
-    }
-
-    /// Undoes n units: one for 0, and all if there are fewer. In a group it takes none from before it, and leaves it
-    /// open. Answers whether there was a change. `NoMemory` leaves text and record as they were. Inlined, as `insert` is.
-    #[tactic(auto, using(crate::proofs::Sessions::PerformLemmas::undoing))]
-    #[inline(always)]
-    pub fn undo(&mut self, n: RepeatCount) -> Result<bool, Fault>
-        ensures { Performed self.old (Command.Undo n) (replied Reply.Answer result) self.new }
-    {
-        let Some(n) = self.to_undo(n) else {
-            return Ok(false);
-        };
-        // The ring is reset after it, since what is barred leaves it.
-        let Some(done) = self.undo_within(n) else {
-            return Err(Fault::TooLong);
-        };
-        self.reset_ring();
-        self.forget();
-        done
-    }
-
-    /// Redoes what was undone last. Answers whether there was a change. `NoMemory` leaves text and record as they were.
-    /// Inlined too.
-    #[tactic(auto, using(crate::proofs::Sessions::PerformLemmas::undoing))]
-    #[inline(always)]
-    pub fn redo(&mut self) -> Result<bool, Fault>
-        ensures { Performed self.old Command.Redo (replied Reply.Answer result) self.new }
-    {
-        let Some(done) = self.redo_within() else {
-            return Err(Fault::TooLong);
-        };
-        self.reset_ring();
-        self.forget();
-        done
-    }
-
-    /// Truncates the record to the given number of entries, and drops what was undone. `NotReplaying` and `NoMemory`
-    /// leave the record as it was.
-    pub fn truncate(&mut self, len: usize) -> Result<(), Fault>
-        ensures { Performed self.old (Command.Truncate len) (replied (λ _. Reply.Done) result) self.new }
-    {
-        anew!(self, self.do_truncate(len))
-    }
-
     // Says where the cursor stands: the number of its line, from 0, and the columns from that line's start.
     fn line_place(&mut self) -> Reply
         ensures { Performed self.old Command.LinePlace result self.new }
@@ -557,12 +406,18 @@ impl Session {
             Command::TransposeWords(n) => answered(self.transpose_words(*n)),
             Command::EditWord(action) => answered(self.edit_word(*action)),
             Command::Kill(movement) => answered(self.kill(movement)),
-            Command::KillRange(from, to, dir) => answered(self.kill_range(*from, *to, *dir)),
+            Command::KillRange {
+                from,
+                to,
+                direction,
+            } => answered(self.kill_range(*from, *to, *direction)),
             Command::Keep(text) => done(self.keep(text.as_str())),
             Command::Copy(movement) => handed_out(self.copy(movement)),
-            Command::Indent(movement, amount, dedent) => {
-                answered(self.indent(movement, *amount, *dedent))
-            }
+            Command::Indent {
+                movement,
+                amount,
+                dedent,
+            } => answered(self.indent(movement, *amount, *dedent)),
             Command::Part => done(self.part()),
             Command::Begin => marked(self.begin()),
             Command::End => answered(self.end()),

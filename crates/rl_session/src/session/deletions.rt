@@ -35,7 +35,7 @@ impl Session {
         Ok(self.line.backspace(n, &mut self.pair)?)
     }
 
-    // Deletes by a movement to one side of the cursor, and tells no kill. Inlined, so that no reply is copied where the
+    // Deletes by a movement to one side of the cursor, and tells no kill. Inlined, so that no reply is copied when the
     // command is chosen.
     #[inline(always)]
     pub(super) fn do_delete_by(&mut self, movement: &Movement) -> Result<bool, Fault>

@@ -31,7 +31,7 @@ impl Session {
 }
 
 /// What a session's record forgets leads from the text with which it began to another, and what is left leads from that
-/// to the present text. Where the record was placed among the texts that were held, that is one of them, and what is
+/// to the present text. If the record was placed among the texts that were held, that is one of them, and what is
 /// left is placed among those from there on. So the laws of its history (`history`) go on from that text, and each undo
 /// still leaves a text that was held. If nothing is forgotten, that is the text with which it began. What tells of
 /// changes has nothing to tell of it.

@@ -197,7 +197,7 @@ impl Session {
         Ok(())
     }
 
-    /// Drops all texts of the ring, and frees them, as where a password was killed. The next kill begins a new text.
+    /// Drops all texts of the ring, and frees them, as after the kill of a password. The next kill begins a new text.
     pub fn clear_ring(&mut self)
         ensures set { self.new ≡ with_ring (cleared self.old.pair.ring) self.old }
         ensures changed { (asked : List ℕ) → ChangedFrom asked self.old → ChangedFrom asked self.new }

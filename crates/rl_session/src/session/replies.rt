@@ -5,7 +5,7 @@ ghost use Rattle.rl_session.specs.declared.session.Reply.{Reply};
 
 use crate::session::{Fault, Reply};
 
-// The reply to a call that answers yes or no. Inlined, as that to an insertion is, where a reply need not be made at all.
+// The reply to a call that answers yes or no. Inlined, as that to an insertion is, since a reply often need not be made at all.
 #[inline(always)]
 pub(super) fn answered(outcome: Result<bool, Fault>) -> Reply
     ensures { result ≡ replied Reply.Answer outcome }

@@ -22,7 +22,7 @@ use rl_line::LineBuffer;
 use rl_record::Changeset;
 use std::alloc::Global;
 
-// The name of the format, and its version.
+// The name of the format, and its version, which `docs/FORMAT.md` says.
 const HEADING: [u8; 8] = [108, 111, 100, 118, 97, 114, 110, 1];
 
 impl Session {
@@ -99,7 +99,7 @@ impl Session {
 
     /// Makes the session of what `save` wrote, without its reports: nothing changed yet, and none are kept. Whoever wrote
     /// the bytes, `save` of the session writes these. `Unknown` comes exactly if they do not begin as this version begins
-    /// them, and any others are `Damaged`: their checksum is wrong, or `save` writes them of no session, as where the record
+    /// them, and any others are `Damaged`: their checksum is wrong, or `save` writes them of no session, as if the record
     /// does not lead to the text and on from it.
     pub fn load(alloc: Global, bytes: &[u8]) -> Result<Session, LoadFault>
         ensures loaded { (s : State) → IsSavedState s → bytes.now ≡ saved_session s → Loads (unwatched s) result }
@@ -276,7 +276,7 @@ fn checksum(bytes: &[u8]) -> [u8; 8]
 }
 
 // What stands before the checksum, if that is right.
-#[tactic(auto, using(crate::proofs::Sessions::SavedLemmas::checking))]
+#[tactic(auto, using(crate::proofs::Sessions::BytesLemmas::checking))]
 fn checked(bytes: &[u8]) -> Option<&[u8]>
     ensures some { IfSome result (λ front. bytes.now ≡ front.now ++ checksum front.now) }
     ensures none { result ≡ None → (front : List ℕ) → bytes.now ≡ front ++ checksum front → ⊥ }

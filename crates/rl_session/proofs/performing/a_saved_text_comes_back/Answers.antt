@@ -1,4 +1,4 @@
-use Rattle.rl_session.proofs.Runs.CallSavedLemmas.{saved-performed}
+use Rattle.rl_session.proofs.Runs.CallSavePointLemmas.{saved-performed}
 use Rattle.rl_session.proofs.performing.a_saved_text_comes_back.Goals as goal
 
 pub returns : goal.returns

@@ -1,4 +1,4 @@
-use Rattle.rl_session.proofs.Runs.KillRunLemmas.{performed-yank}
+use Rattle.rl_session.proofs.Runs.CallKillLemmas.{performed-yank}
 use Rattle.rl_session.proofs.performing.performed_kills_then_yank.Goals as goal
 
 pub returns : goal.returns

@@ -9,4 +9,4 @@ returns-in_err-interpreter g c =
     rw (p.1, p.2, c.in_err-interpreter.ensures.err) (record { ok = tt; err = Stopped-by _ _ _ _ _ (StoppedBy-first _ _); fault = StoppedBy-first _ _ })
 
 pub run_blocks-requires-clause-runs : goal.run_blocks-requires-clause-runs
-run_blocks-requires-clause-runs g c = Runs-nothing _ _ _ _ c.in_ok-interpreter.ensures.ok c.new-part.ensures.items
+run_blocks-requires-clause-runs g c = Runs-nothing _ _ _ _ c.in_ok-interpreter.ensures.ok c.new.ensures.items

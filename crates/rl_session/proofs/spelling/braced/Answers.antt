@@ -1,5 +1,5 @@
 use Rattle.rl_session.proofs.Common.{arith, strip_prefix_char, split_parts}
-use Rattle.rl_session.proofs.Scripts.PartLemmas.{Lacks-by_index}
+use Rattle.rl_session.proofs.Scripts.SplitLemmas.{Lacks-by_index}
 use Rattle.rl_session.proofs.Scripts.EscapeLemmas.{braces, no_brace, not_closed, not_named}
 use Rattle.rl_session.proofs.spelling.braced.Goals as goal
 

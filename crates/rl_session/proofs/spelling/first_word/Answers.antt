@@ -1,5 +1,5 @@
 use Rattle.rl_session.proofs.Common.{arith, rules, sym, ◌∙◌, ap, split_parts, word, rest}
-use Rattle.rl_session.proofs.Scripts.PartLemmas.{Lacks-by_index}
+use Rattle.rl_session.proofs.Scripts.SplitLemmas.{Lacks-by_index}
 use Rattle.rl_session.proofs.Scripts.WordLemmas.{word-before, rest-after, word-whole, rest-none}
 use Rattle.rl_session.proofs.spelling.first_word.Goals as goal
 

@@ -1,5 +1,5 @@
 use Rattle.rl_session.proofs.Common.{arith, [], split_parts}
-use Rattle.rl_session.proofs.Scripts.PartLemmas.{Lacks-by_index}
+use Rattle.rl_session.proofs.Scripts.SplitLemmas.{Lacks-by_index}
 use Rattle.rl_session.proofs.Scripts.SpellingLemmas.{read_all, read_on, read_end, read_none}
 use Rattle.rl_session.proofs.spelling.is_well_formed.Goals as goal
 

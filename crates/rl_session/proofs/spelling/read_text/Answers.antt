@@ -1,5 +1,5 @@
 use Rattle.rl_session.proofs.Common.{arith, ◌<◌, ◌∷◌, length, length-append, string_bytes, err_from_is_err_and, split_parts}
-use Rattle.rl_session.proofs.Scripts.PartLemmas.{Lacks-by_index}
+use Rattle.rl_session.proofs.Scripts.SplitLemmas.{Lacks-by_index}
 use Rattle.rl_session.proofs.Scripts.SpellingLemmas.{read_on, read_end, read_none, read_some}
 use Rattle.rl_session.proofs.spelling.read_text.Goals as goal
 

@@ -1,7 +1,7 @@
 use Rattle.std.proofs.lemmas.Result.{IfOk-weaker}
 use Rattle.rl_session.proofs.Common.{◌∙◌, ap}
 use Rattle.rl_session.specs.SavedSession.{saved_state, sealed}
-use Rattle.rl_session.proofs.Sessions.SavedLemmas.{sealed-begins, sealed-one}
+use Rattle.rl_session.proofs.Sessions.BytesLemmas.{sealed-begins, sealed-one}
 use Rattle.rl_session.proofs.session.Session.load.Goals as goal
 
 pub returns-in_default-clause-loaded : goal.returns-in_default-clause-loaded

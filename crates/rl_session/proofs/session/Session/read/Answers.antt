@@ -1,6 +1,6 @@
 use Rattle.rl_session.proofs.Common.{◌≡◌, ◌∙◌, ◌==◌, [], ap, err_from_is_err_and, false, length, refl, subst, sym, true, Line, State, with_watch}
 use Rattle.rl_record.specs.Undo.{Walks}
-use Rattle.rl_session.proofs.Sessions.SavedLemmas.{parts, parts-saved}
+use Rattle.rl_session.proofs.Sessions.BytesLemmas.{parts, parts-saved}
 use Rattle.rl_session.proofs.session.Session.read.Goals as goal
 
 pub returns-in_err-line-clause-loaded : goal.returns-in_err-line-clause-loaded

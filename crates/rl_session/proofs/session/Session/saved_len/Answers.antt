@@ -1,6 +1,6 @@
 use Rattle.std.specs.Prelude.{◌+◌, min}
 use Rattle.rl_session.proofs.Common.{ap, ◌∙◌}
-use Rattle.rl_session.proofs.Sessions.SavedLemmas.{session-length}
+use Rattle.rl_session.proofs.Sessions.BytesLemmas.{session-length}
 use Rattle.rl_session.proofs.session.Session.saved_len.Goals as goal
 
 pub returns : goal.returns

@@ -1,7 +1,7 @@
 use Rattle.rl_session.proofs.Common.{◌∙◌, ap, sym}
 use Rattle.std.specs.Cmp.Lexicographic.{other_text}
 use Rattle.rl_session.specs.SavedSession.{checksum}
-use Rattle.rl_session.proofs.Sessions.SavedLemmas.{checked-parts}
+use Rattle.rl_session.proofs.Sessions.BytesLemmas.{checked-parts}
 use Rattle.rl_session.proofs.session.saved.checked.Goals as goal
 
 pub returns-clause-none : goal.returns-clause-none

@@ -3,7 +3,7 @@ use Rattle.rl_base.specs.Saving.{Fits, numbers}
 use Rattle.rl_base.specs.declared.saving.Width.TheVariants.{Eight}
 use Rattle.rl_session.specs.SavedSession.{line_numbers, option_numbers, saved_line, state_numbers}
 use Rattle.rl_session.specs.declared.options.Options.{Options}
-use Rattle.rl_session.proofs.Sessions.SavedLemmas.{line-saved, numbers-read}
+use Rattle.rl_session.proofs.Sessions.BytesLemmas.{line-saved, numbers-read}
 use Rattle.rl_session.proofs.session.saved.read_line.Goals as goal
 
 pub returns-in_err-line-clause-err : goal.returns-in_err-line-clause-err

@@ -1,6 +1,6 @@
 use Rattle.rl_session.proofs.Common.{◌++◌}
 use Rattle.rl_session.specs.SavedSession.{heading, sealed}
-use Rattle.rl_session.proofs.Sessions.SavedLemmas.{checked-one}
+use Rattle.rl_session.proofs.Sessions.BytesLemmas.{checked-one}
 use Rattle.rl_session.proofs.session.saved.unsealed.Goals as goal
 
 pub returns-clause-none : goal.returns-clause-none

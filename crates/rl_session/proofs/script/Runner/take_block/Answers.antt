@@ -1,7 +1,7 @@
 use Rattle.rl_session.proofs.Common.{◌<◌, ◌++◌, ◌∷◌, [], arith, length, err_from_is_err_and}
 use Rattle.rl_session.proofs.Scripts.LineLemmas.{longer_front, HasNoNewline-append, Took-trans, Took-part}
 use Rattle.rl_session.proofs.Scripts.FaultLemmas.{Halts-none, Halts-after, Halts-longer}
-use Rattle.rl_session.proofs.script.take_block.Goals as goal
+use Rattle.rl_session.proofs.script.Runner.take_block.Goals as goal
 
 pub loop-end-preserved : goal.loop-end-preserved
 loop-end-preserved g c =
@@ -40,5 +40,5 @@ returns-in-Ok-clause-clean g c =
 pub returns-in-Err-clause-halts : goal.returns-in-Err-clause-halts
 returns-in-Err-clause-halts g c =
     let so_far = c.loop-end.invariant.took in
-    let some : 0 < length c.loop-end.rest.now = omega (arith, c.in-Err.ensures.full, c.loop-end.part.ok.1) in
+    let some : 0 < length c.loop-end.rest.now = omega (arith, c.in-Err.ensures.full, c.loop-end.self.part.ok.1) in
     rw so_far.1 (Halts-after _ _ _ _ _ _ _ _ _ _ so_far.2 (Halts-none _ _ c.loop-end.rest.now _ some))

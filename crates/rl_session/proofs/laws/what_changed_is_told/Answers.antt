@@ -1,5 +1,5 @@
 use Rattle.rl_session.proofs.Sessions.WatchLemmas.{changed_row, changed_run, reported_row, reported_run}
-use Rattle.rl_session.proofs.session.what_changed_is_told.Goals as goal
+use Rattle.rl_session.proofs.laws.what_changed_is_told.Goals as goal
 
 pub returns-clause-changed : goal.returns-clause-changed
 returns-clause-changed c = changed_row

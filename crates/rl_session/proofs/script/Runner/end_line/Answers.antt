@@ -1,7 +1,7 @@
 use Rattle.rl_session.proofs.Common.{arith, refl, ◌∷◌, [], length-append, err_from_is_err_and, on_ok_weaker, Write}
 use Rattle.rl_session.proofs.Scripts.LineLemmas.{LineOut-said, Took-ended}
 use Rattle.rl_session.proofs.Scripts.FaultLemmas.{Halts-none, Halts-ended, IfErr-only}
-use Rattle.rl_session.proofs.script.end_line.Goals as goal
+use Rattle.rl_session.proofs.script.Runner.end_line.Goals as goal
 
 pub returns-in_err-said-clause-halts : goal.returns-in_err-said-clause-halts
 returns-in_err-said-clause-halts g c =

@@ -1,5 +1,5 @@
 use Rattle.rl_session.proofs.Runs.ReportLemmas.{reported-row, reported-run}
-use Rattle.rl_session.proofs.session.reports_are_replayed.Goals as goal
+use Rattle.rl_session.proofs.laws.reports_are_replayed.Goals as goal
 
 pub returns-clause-row : goal.returns-clause-row
 returns-clause-row c = reported-row

@@ -2,18 +2,18 @@ use Rattle.rl_session.proofs.Common.{◌==◌, ap, arith, ◌≤◌, length, tak
 use Rattle.rl_session.proofs.Scripts.LineLemmas.{Runs-more, Ran-end, Ran-last}
 use Rattle.rl_session.proofs.Scripts.NumberLemmas.{is_nil, not_nil}
 use Rattle.rl_session.proofs.Scripts.FaultLemmas.{StoppedBy-halts, StoppedBy-last, StoppedBy-read, Stopped-by, Stopped-at}
-use Rattle.rl_session.proofs.script.run_blocks.Goals as goal
+use Rattle.rl_session.proofs.script.Runner.run_blocks.Goals as goal
 
 pub returns-then-is_empty : goal.returns-then-is_empty
 returns-then-is_empty g c =
     let bytes = rw c.if-count-eq0.true at c.in-Ok.ensures.bytes in
-    let none = is_nil c.loop.part.items (ap (λ n. n == 0) (sym c.loop.part.ok.0) ∙ sym c.is_empty.ensures ∙ c.if-is_empty.true) in
+    let none = is_nil c.loop.self.part.items (ap (λ n. n == 0) (sym c.loop.self.part.ok.0) ∙ sym c.is_empty.ensures ∙ c.if-is_empty.true) in
     record { ok = Ran-end _ _ _ _ _ _ _ c.loop.invariant.runs none bytes.0 (bytes.1 refl (omega arith)); err = tt; fault = tt }
 
 pub returns-then-count-eq0 : goal.returns-then-count-eq0
 returns-then-count-eq0 g c =
     let bytes = rw c.if-count-eq0.true at c.in-Ok.ensures.bytes in
-    let some = not_nil c.loop.part.items (ap (λ n. n == 0) (sym c.loop.part.ok.0) ∙ sym c.is_empty.ensures ∙ c.if-is_empty.false) in
+    let some = not_nil c.loop.self.part.items (ap (λ n. n == 0) (sym c.loop.self.part.ok.0) ∙ sym c.is_empty.ensures ∙ c.if-is_empty.false) in
     let stopped = IfErr-weaker c.end_line.result _ _
     (λ f h. StoppedBy-last f _ _ _ _ _ _ _ _ c.loop.invariant.runs c.loop.invariant.clean some bytes.0 (bytes.1 refl (omega arith)) h) c.end_line.ensures.halts in
     record {
