@@ -15,8 +15,6 @@ mod gathered;
 #[cfg(test)]
 mod halts;
 #[cfg(test)]
-mod indents;
-#[cfg(test)]
 mod joins;
 #[cfg(test)]
 mod kill_ring;
@@ -33,11 +31,11 @@ mod listeners;
 #[cfg(test)]
 mod mirror;
 #[cfg(test)]
-mod motions;
-#[cfg(test)]
 mod places;
 #[cfg(test)]
 mod splice;
+#[cfg(test)]
+mod steps;
 #[cfg(test)]
 mod told;
 #[cfg(test)]

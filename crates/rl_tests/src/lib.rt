@@ -14,6 +14,8 @@ mod grammar;
 #[cfg(test)]
 mod indents;
 #[cfg(test)]
+mod joins;
+#[cfg(test)]
 mod kills;
 #[cfg(test)]
 mod letter_case;
