@@ -54,6 +54,13 @@ fn holds(rt: &impl Abort, gathered: &Gathered, text: &str) {
     assert!(rt; is_so, "{}", gathered.as_str());
 }
 
+// Packs it, after which it is that text.
+fn packs(rt: &impl Abort, gathered: &mut Gathered, text: &str) {
+    gathered.pack();
+    let packed = gathered.as_string().as_str() == text;
+    assert!(rt; packed, "{}", gathered.as_str());
+}
+
 // Adds the parts of a row to its text, on both sides.
 fn grow(rt: &impl Abort, gathered: &mut Gathered, row: &Row) -> Result<(), Fail> {
     let (_, second, first, last, all, more, at_last) = row;
@@ -61,9 +68,7 @@ fn grow(rt: &impl Abort, gathered: &mut Gathered, row: &Row) -> Result<(), Fail>
     gathered.push_front(first)?;
     gathered.push_back(last)?;
     holds(rt, gathered, all);
-    gathered.pack();
-    let packed = gathered.as_string().as_str() == *all;
-    assert!(rt; packed, "{}", gathered.as_str());
+    packs(rt, gathered, all);
     gathered.push_front(more)?;
     holds(rt, gathered, at_last);
     Ok(())

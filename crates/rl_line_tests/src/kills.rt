@@ -69,8 +69,8 @@ type Gone = Option<(usize, &'static str, Direction)>;
 // What a call answers: whether it deleted something, or why it did not.
 type Answer = Result<bool, Refusal>;
 
-// On that text, with so many changes allowed, the call answers that, and its listener hears of that deletion, if any, and of
-// nothing else.
+// On that text, with no other change allowed than that deletion, if any, the call answers that, and its listener hears of no
+// other.
 fn answers(
     rt: &impl Abort,
     alloc: Global,

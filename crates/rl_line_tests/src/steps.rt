@@ -243,6 +243,23 @@ pub(crate) fn is_so(rt: &impl Abort, is_so: bool, what: &str, case: &str, i: usi
     assert!(rt; is_so, "{what}, step {i}: {case}");
 }
 
+// The call answered so, and left that.
+fn leaves(
+    rt: &impl Abort,
+    line: &LineBuffer,
+    record: &Changeset,
+    is_answered: bool,
+    (text, cursor, entries, open): (&str, usize, usize, usize),
+    case: &str,
+    i: usize,
+) {
+    is_so(rt, is_answered, "the answer", case, i);
+    is_so(rt, line.as_str() == text, "the text", case, i);
+    is_so(rt, line.pos() == cursor, "the cursor", case, i);
+    is_so(rt, record.len() == entries, "the entries", case, i);
+    is_so(rt, record.level() == open, "the open groups", case, i);
+}
+
 // Takes the steps.
 fn take(
     rt: &impl Abort,
@@ -252,12 +269,9 @@ fn take(
     steps: &[Step],
 ) -> Result<(), Refusal> {
     for (i, (call, answer, text, cursor, entries, open)) in steps.iter().enumerate() {
-        let answered = make(rt, line, record, *call)?;
-        is_so(rt, answered == *answer, "the answer", case, i);
-        is_so(rt, line.as_str() == *text, "the text", case, i);
-        is_so(rt, line.pos() == *cursor, "the cursor", case, i);
-        is_so(rt, record.len() == *entries, "the entries", case, i);
-        is_so(rt, record.level() == *open, "the open groups", case, i);
+        let is_answered = make(rt, line, record, *call)? == *answer;
+        let left = (*text, *cursor, *entries, *open);
+        leaves(rt, line, record, is_answered, left, case, i);
     }
     Ok(())
 }

@@ -49,6 +49,12 @@ fn neighbouring_changes_join(rt: HostRuntime) -> Result<(), Fail> {
             "true 2 a \ntrue 1 a\ntrue 0 \ntrue 2 a \nmark:1 2 a ",
         ),
         (
+            "Hello",
+            4,
+            "kill bchar 1\nkill bchar 1\nbegin",
+            "true 3 Helo\ntrue 2 Heo\nmark:1 2 Heo",
+        ),
+        (
             "ab",
             1,
             "ins 1 c\nback 1\nundo 1\nbegin",

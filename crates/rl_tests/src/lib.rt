@@ -8,8 +8,6 @@ mod broken;
 #[cfg(test)]
 mod cursors;
 #[cfg(test)]
-mod forgetting;
-#[cfg(test)]
 mod grammar;
 #[cfg(test)]
 mod indents;
@@ -22,10 +20,6 @@ mod letter_case;
 #[cfg(test)]
 mod motions;
 #[cfg(test)]
-mod pair;
-#[cfg(test)]
-mod performing;
-#[cfg(test)]
 mod quotas;
 #[cfg(test)]
 mod saved;
@@ -35,7 +29,5 @@ mod script;
 mod session;
 #[cfg(test)]
 mod transpositions;
-#[cfg(test)]
-mod typing;
 #[cfg(test)]
 mod watch;

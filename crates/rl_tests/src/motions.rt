@@ -98,7 +98,7 @@ fn motions_repeated(rt: HostRuntime) -> Result<(), Fail> {
 }
 
 #[test]
-fn motions_once(rt: HostRuntime) -> Result<(), Fail> {
+fn motions_and_deletions_once(rt: HostRuntime) -> Result<(), Fail> {
     const ROWS: &[Lines] = &[
         ("a/b", 3, "move bword 2 vi", "true 1 a/b"),
         ("a ß  c", 6, "move bword 1 emacs", "true 2 a ß  c"),
@@ -140,13 +140,7 @@ fn motions_once(rt: HostRuntime) -> Result<(), Fail> {
         ("ag\u{308}", 1, "move bchar 1", "true 0 ag\u{308}"),
         ("ag\u{308}", 4, "move bchar 1", "true 1 ag\u{308}"),
         ("ag\u{308}", 1, "move fchar 1", "true 4 ag\u{308}"),
-    ];
-    print_each(&rt, rt.alloc(), ROWS)
-}
-
-#[test]
-fn deletions_answer_their_text(rt: HostRuntime) -> Result<(), Fail> {
-    const ROWS: &[Lines] = &[
+        // deletions answer their text
         ("αß", 2, "del 1", "text:ß 2 α"),
         ("αß", 0, "del 65535", "text:αß 0 "),
         ("ae\u{301}b", 1, "del 1", "text:e\u{301} 1 ab"),
