@@ -44,7 +44,6 @@ fn lines_are_indented(rt: HostRuntime) -> Result<(), Fail> {
         ("a\\n", 0, "indent 1 lines 1", "true 1  a\\n"),
         ("a\\n", 2, "indent 1 lines 1", "true 3 a\\n "),
         ("  a\\n\\tb", 1, "dedent 4 buf", "true 0 a\\nb"),
-        ("\u{3000}x", 0, "dedent 2 line", "true 0 \u{3000}x"),
         ("\u{3000}x", 4, "dedent 3 buf", "true 1 x"),
         (" \u{3000}x", 4, "dedent 2 buf", "true 3 \u{3000}x"),
         ("   a", 2, "dedent 2 buf", "true 0  a"),
@@ -53,7 +52,6 @@ fn lines_are_indented(rt: HostRuntime) -> Result<(), Fail> {
         ("a\\n  b", 2, "dedent 9 buf", "true 2 a\\nb"),
         ("  ", 1, "dedent 9 buf", "true 0 "),
         (" a", 2, "dedent 0 buf", "true 2  a"),
-        ("", 0, "dedent 9 buf", "true 0 "),
     ];
     print_each(&rt, rt.alloc(), ROWS)
 }
