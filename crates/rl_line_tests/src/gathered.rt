@@ -1,6 +1,5 @@
 //! A text that grows at both ends: which text it holds, before it is packed and after.
 use rl_base::Gathered;
-use std::alloc::Global;
 use std::process::Abort;
 use std::test::Fail;
 
@@ -55,26 +54,31 @@ fn holds(rt: &impl Abort, gathered: &Gathered, text: &str) {
     assert!(rt; is_so, "{}", gathered.as_str());
 }
 
+// Packs it, after which it is that text.
+fn packs(rt: &impl Abort, gathered: &mut Gathered, text: &str) {
+    gathered.pack();
+    let packed = gathered.as_string().as_str() == text;
+    assert!(rt; packed, "{}", gathered.as_str());
+}
+
 // Adds the parts of a row to its text, on both sides.
-fn grow(rt: &impl Abort, alloc: Global, row: &Row) -> Result<(), Fail> {
-    let (text, second, first, last, all, more, at_last) = row;
-    let mut gathered = Gathered::of(alloc, text)?;
+fn grow(rt: &impl Abort, gathered: &mut Gathered, row: &Row) -> Result<(), Fail> {
+    let (_, second, first, last, all, more, at_last) = row;
     gathered.push_front(second)?;
     gathered.push_front(first)?;
     gathered.push_back(last)?;
-    holds(rt, &gathered, all);
-    gathered.pack();
-    let packed = gathered.as_string().as_str() == *all;
-    assert!(rt; packed, "{}", gathered.as_str());
+    holds(rt, gathered, all);
+    packs(rt, gathered, all);
     gathered.push_front(more)?;
-    holds(rt, &gathered, at_last);
+    holds(rt, gathered, at_last);
     Ok(())
 }
 
 #[test]
 fn parts_go_round_a_text(rt: HostRuntime) -> Result<(), Fail> {
     for row in ROWS {
-        grow(&rt, rt.alloc(), row)?;
+        let mut gathered = Gathered::of(rt.alloc(), row.0)?;
+        grow(&rt, &mut gathered, row)?;
     }
     Ok(())
 }

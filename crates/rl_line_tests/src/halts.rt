@@ -1,6 +1,6 @@
 //! Edits that their listener refuses, at their first change or halfway, and what they leave. `kills` has the deletions that
 //! answer whether there was one.
-use crate::edits::{replace, update, yank_pop};
+use crate::edits::{insert_str, replace, update, yank_pop};
 use crate::line_buffer::{leaves, line_of};
 use crate::told::{AHEAD, Told, is_told};
 use rl_base::testing::RefuseAt;
@@ -39,17 +39,6 @@ fn delete_range(
     line.delete_range(0..to, heard)
 }
 
-// Puts a text in at the start.
-fn insert_str(
-    rt: &impl Abort,
-    line: &mut LineBuffer,
-    text: &str,
-    heard: &mut RefuseAt,
-) -> Result<bool, Refusal> {
-    assert!(rt; line.can_insert_str(0, text), "{text:?}");
-    line.insert_str(0, text, heard)
-}
-
 // Makes the edit, from the start of the text where it takes a place. Answers why it was refused, if it was.
 fn make(
     rt: &impl Abort,
@@ -59,7 +48,7 @@ fn make(
 ) -> Option<Refusal> {
     match edit {
         Edit::Insert(c, n) => line.insert(*c, *n, heard).err(),
-        Edit::InsertStr(text) => insert_str(rt, line, text, heard).err(),
+        Edit::InsertStr(text) => insert_str(rt, line, 0, text, heard).err(),
         Edit::Yank(text) => line.yank(text, 1, heard).err(),
         Edit::Replace(text) => {
             let at = line.pos();
@@ -139,156 +128,139 @@ fn halts(
 // A text, the cursor, an edit, and its steps.
 type Halting = (&'static str, usize, Edit, &'static [Step]);
 
-// Makes each edit of the table, with more changes allowed each time.
-fn halt_in_turn(rt: &impl Abort, alloc: Global, rows: &[Halting]) -> Result<(), Fail> {
-    for (text, pos, edit, steps) in rows {
-        halts(rt, alloc, text, *pos, edit, steps)?;
+const ALL: Movement = Movement::WholeBuffer;
+
+const ROWS: &[Halting] = &[
+    ("ab", 1, Edit::Insert('é', 1), &[((1, "é", None), "aéb", 3)]),
+    (
+        "ab",
+        2,
+        Edit::Insert('x', 2),
+        &[((2, "xx", None), "abxx", 4)],
+    ),
+    (
+        "ab",
+        1,
+        Edit::InsertStr("xy"),
+        &[((0, "xy", None), "xyab", 1)],
+    ),
+    ("ab", 1, Edit::Yank("xy"), &[((1, "xy", None), "axyb", 3)]),
+    (
+        "abc",
+        1,
+        Edit::Replace("xyz"),
+        &[((0, "xyz", None), "xyzbc", 3)],
+    ),
+    ("abc", 2, Edit::DeleteRange, &[((0, "ab", AHEAD), "c", 0)]),
+    ("abc", 1, Edit::Delete, &[((1, "b", AHEAD), "ac", 1)]),
+    (
+        "abc",
+        2,
+        Edit::YankPop("xyz"),
+        &[((0, "ab", AHEAD), "c", 0), ((0, "xyz", None), "xyzc", 3)],
+    ),
+    (
+        "ab",
+        1,
+        Edit::Update("cde"),
+        &[((0, "ab", AHEAD), "", 0), ((0, "cde", None), "cde", 0)],
+    ),
+    (
+        "abc",
+        1,
+        Edit::TransposeChars,
+        &[((1, "b", AHEAD), "ac", 1), ((0, "b", None), "bac", 2)],
+    ),
+    (
+        "ab",
+        2,
+        Edit::TransposeChars,
+        &[((1, "b", AHEAD), "a", 1), ((0, "b", None), "ba", 2)],
+    ),
+    (
+        ", ab",
+        0,
+        Edit::EditWord(WordAction::Uppercase),
+        &[((2, "ab", AHEAD), ", ", 0), ((2, "AB", None), ", AB", 4)],
+    ),
+    (
+        "a-bC d",
+        1,
+        Edit::EditWord(WordAction::Lowercase),
+        &[
+            ((2, "bC", AHEAD), "a- d", 1),
+            ((2, "bc", None), "a-bc d", 4),
+        ],
+    ),
+    (
+        "ab cd",
+        5,
+        Edit::TransposeWords,
+        &[
+            ((3, "cd", AHEAD), "ab ", 2),
+            ((3, "ab", None), "ab ab", 2),
+            ((0, "ab", AHEAD), " ab", 0),
+            ((0, "cd", None), "cd ab", 5),
+        ],
+    ),
+    (
+        "a\nb",
+        0,
+        Edit::Indent(ALL, 1),
+        &[((0, " ", None), " a\nb", 1), ((3, " ", None), " a\n b", 1)],
+    ),
+    ("a", 0, Edit::Indent(Movement::WholeLine, 0), &[]),
+    (
+        "  a\n\tb",
+        5,
+        Edit::Dedent(ALL, 4),
+        &[
+            ((0, "  ", AHEAD), "a\n\tb", 3),
+            ((2, "\t", AHEAD), "a\nb", 2),
+        ],
+    ),
+    (
+        "  a\n\tb",
+        1,
+        Edit::Dedent(ALL, 4),
+        &[
+            ((0, "  ", AHEAD), "a\n\tb", 0),
+            ((2, "\t", AHEAD), "a\nb", 0),
+        ],
+    ),
+    (
+        "a\nb",
+        3,
+        Edit::Indent(ALL, 40),
+        &[
+            (
+                (0, "                                ", None),
+                "                                a\nb",
+                35,
+            ),
+            (
+                (0, "        ", None),
+                "                                        a\nb",
+                43,
+            ),
+            (
+                (42, "                                ", None),
+                "                                        a\n                                b",
+                75,
+            ),
+            (
+                (42, "        ", None),
+                "                                        a\n                                        b",
+                83,
+            ),
+        ],
+    ),
+];
+
+#[test]
+fn refused_edits_stand_after_their_steps(rt: HostRuntime) -> Result<(), Fail> {
+    for (text, pos, edit, steps) in ROWS {
+        halts(&rt, rt.alloc(), text, *pos, edit, steps)?;
     }
     Ok(())
-}
-
-#[test]
-fn refused_changes_leave_the_line(rt: HostRuntime) -> Result<(), Fail> {
-    const ROWS: &[Halting] = &[
-        ("ab", 1, Edit::Insert('é', 1), &[((1, "é", None), "aéb", 3)]),
-        (
-            "ab",
-            2,
-            Edit::Insert('x', 2),
-            &[((2, "xx", None), "abxx", 4)],
-        ),
-        (
-            "ab",
-            1,
-            Edit::InsertStr("xy"),
-            &[((0, "xy", None), "xyab", 1)],
-        ),
-        ("ab", 1, Edit::Yank("xy"), &[((1, "xy", None), "axyb", 3)]),
-        (
-            "abc",
-            1,
-            Edit::Replace("xyz"),
-            &[((0, "xyz", None), "xyzbc", 3)],
-        ),
-        ("abc", 2, Edit::DeleteRange, &[((0, "ab", AHEAD), "c", 0)]),
-        ("abc", 1, Edit::Delete, &[((1, "b", AHEAD), "ac", 1)]),
-    ];
-    halt_in_turn(&rt, rt.alloc(), ROWS)
-}
-
-#[test]
-fn refused_exchanges_stand_after_their_steps(rt: HostRuntime) -> Result<(), Fail> {
-    const ROWS: &[Halting] = &[
-        (
-            "abc",
-            2,
-            Edit::YankPop("xyz"),
-            &[((0, "ab", AHEAD), "c", 0), ((0, "xyz", None), "xyzc", 3)],
-        ),
-        (
-            "ab",
-            1,
-            Edit::Update("cde"),
-            &[((0, "ab", AHEAD), "", 0), ((0, "cde", None), "cde", 0)],
-        ),
-        (
-            "abc",
-            1,
-            Edit::TransposeChars,
-            &[((1, "b", AHEAD), "ac", 1), ((0, "b", None), "bac", 2)],
-        ),
-        (
-            "ab",
-            2,
-            Edit::TransposeChars,
-            &[((1, "b", AHEAD), "a", 1), ((0, "b", None), "ba", 2)],
-        ),
-        (
-            ", ab",
-            0,
-            Edit::EditWord(WordAction::Uppercase),
-            &[((2, "ab", AHEAD), ", ", 0), ((2, "AB", None), ", AB", 4)],
-        ),
-        (
-            "a-bC d",
-            1,
-            Edit::EditWord(WordAction::Lowercase),
-            &[
-                ((2, "bC", AHEAD), "a- d", 1),
-                ((2, "bc", None), "a-bc d", 4),
-            ],
-        ),
-        (
-            "ab cd",
-            5,
-            Edit::TransposeWords,
-            &[
-                ((3, "cd", AHEAD), "ab ", 2),
-                ((3, "ab", None), "ab ab", 2),
-                ((0, "ab", AHEAD), " ab", 0),
-                ((0, "cd", None), "cd ab", 5),
-            ],
-        ),
-    ];
-    halt_in_turn(&rt, rt.alloc(), ROWS)
-}
-
-#[test]
-fn refused_indents_stand_after_their_steps(rt: HostRuntime) -> Result<(), Fail> {
-    const ALL: Movement = Movement::WholeBuffer;
-    const ROWS: &[Halting] = &[
-        (
-            "a\nb",
-            0,
-            Edit::Indent(ALL, 1),
-            &[((0, " ", None), " a\nb", 1), ((3, " ", None), " a\n b", 1)],
-        ),
-        ("a", 0, Edit::Indent(Movement::WholeLine, 0), &[]),
-        (
-            "  a\n\tb",
-            5,
-            Edit::Dedent(ALL, 4),
-            &[
-                ((0, "  ", AHEAD), "a\n\tb", 3),
-                ((2, "\t", AHEAD), "a\nb", 2),
-            ],
-        ),
-        (
-            "  a\n\tb",
-            1,
-            Edit::Dedent(ALL, 4),
-            &[
-                ((0, "  ", AHEAD), "a\n\tb", 0),
-                ((2, "\t", AHEAD), "a\nb", 0),
-            ],
-        ),
-        (
-            "a\nb",
-            3,
-            Edit::Indent(ALL, 40),
-            &[
-                (
-                    (0, "                                ", None),
-                    "                                a\nb",
-                    35,
-                ),
-                (
-                    (0, "        ", None),
-                    "                                        a\nb",
-                    43,
-                ),
-                (
-                    (42, "                                ", None),
-                    "                                        a\n                                b",
-                    75,
-                ),
-                (
-                    (42, "        ", None),
-                    "                                        a\n                                        b",
-                    83,
-                ),
-            ],
-        ),
-    ];
-    halt_in_turn(&rt, rt.alloc(), ROWS)
 }

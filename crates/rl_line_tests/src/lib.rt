@@ -1,7 +1,7 @@
-//! What places, widths, the ring, lines and records do, as any caller sees it. Each file is named for the module that it is
-//! of; `cursors` is of the cursors that undo and redo give back, `halts` of edits that are refused, `told` reads what
-//! their listener heard, `mirror` is a listener that holds the text, and `joins` is of changes that join in the record. Tests
-//! stand alone, so that no other crate is proved again for them.
+//! What places, the ring, lines and records do, as any caller sees it. Each file is named for the module that it is of;
+//! `cursors` is of the cursors that undo and redo give back, `halts` of edits that are refused, `told` reads what their
+//! listener heard, `steps` makes calls of a line and its record, `mirror` is a listener that holds the text, and `joins` is of
+//! changes that join in the record. Tests stand alone, so that no other crate is proved again for them.
 #![tactic(auto)]
 
 #[cfg(test)]
@@ -14,8 +14,6 @@ mod forgetting;
 mod gathered;
 #[cfg(test)]
 mod halts;
-#[cfg(test)]
-mod indents;
 #[cfg(test)]
 mod joins;
 #[cfg(test)]
@@ -33,11 +31,11 @@ mod listeners;
 #[cfg(test)]
 mod mirror;
 #[cfg(test)]
-mod motions;
-#[cfg(test)]
 mod places;
 #[cfg(test)]
 mod splice;
+#[cfg(test)]
+mod steps;
 #[cfg(test)]
 mod told;
 #[cfg(test)]

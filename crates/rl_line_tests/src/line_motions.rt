@@ -63,147 +63,122 @@ fn goes(
 // A text, the cursor, the width of the prompt, and the steps.
 type Row = (&'static str, usize, Unit, &'static [Taken]);
 
-// Takes the steps of each row of the table.
-fn go_all(rt: &impl Abort, alloc: Global, rows: &[Row]) -> Result<(), Fail> {
-    for (text, pos, prompt, steps) in rows {
-        goes(rt, alloc, text, *pos, *prompt, steps)?;
+// A step by a movement also says before where it goes.
+const ROWS: &[Row] = &[
+    (
+        "αa\nsdf ßc\nasdf",
+        7,
+        0,
+        &[
+            (Step::Home, true, 4),
+            (Step::Home, false, 4),
+            (Step::End, true, 11),
+            (Step::End, false, 11),
+            (Step::BufferStart, true, 0),
+            (Step::BufferEnd, true, 16),
+        ],
+    ),
+    (
+        "",
+        0,
+        7,
+        &[
+            (Step::Home, false, 0),
+            (Step::End, false, 0),
+            (Step::Up(1), false, 0),
+            (Step::Down(1), false, 0),
+        ],
+    ),
+    ("a\n\nbcd\nefgh", 11, 0, &[(Step::Up(2), true, 2)]),
+    (
+        "aa123\nsdf bc\nasdf",
+        14,
+        0,
+        &[
+            (Step::Up(1), true, 7),
+            (Step::Up(1), true, 1),
+            (Step::Up(1), false, 1),
+        ],
+    ),
+    (
+        "aa123\nsdf bc\nasdf",
+        14,
+        2,
+        &[
+            (Step::Up(1), true, 7),
+            (Step::Up(1), true, 0),
+            (Step::Down(1), true, 8),
+        ],
+    ),
+    (
+        "aa123\nsdf bc\nasdf",
+        1,
+        0,
+        &[(Step::Down(2), true, 14), (Step::Up(2), true, 1)],
+    ),
+    ("a\nb", 2, 0, &[(Step::Up(0), true, 0)]),
+    ("a\nb", 3, 0, &[(Step::Down(1), false, 3)]),
+    (
+        "a\nb\nc\nd",
+        3,
+        0,
+        &[(Step::Down(65535), true, 7), (Step::Up(65535), true, 1)],
+    ),
+    (
+        "a\n",
+        1,
+        0,
+        &[(Step::Down(0), true, 2), (Step::Up(9), true, 0)],
+    ),
+    (
+        "  ab\n cd",
+        3,
+        0,
+        &[
+            (Step::By(Movement::FirstNonBlank), true, 2),
+            (Step::By(Movement::FirstNonBlank), false, 2),
+            (Step::By(Movement::BeginningOfLine), true, 0),
+            (Step::By(Movement::FirstNonBlank), true, 2),
+            (Step::By(Movement::LineDown(1)), true, 7),
+            (Step::By(Movement::FirstNonBlank), true, 6),
+            (Step::By(Movement::WholeLine), false, 6),
+            (Step::By(Movement::BackwardChar(2)), true, 4),
+            (Step::By(Movement::EndOfLine), false, 4),
+            (Step::By(Movement::EndOfBuffer), true, 8),
+        ],
+    ),
+    (
+        "ab\ncd",
+        1,
+        7,
+        &[(Step::By(Movement::LineDown(1)), true, 5)],
+    ),
+    (
+        "ab\ncd",
+        1,
+        65535,
+        &[(Step::Down(1), true, 5), (Step::Up(1), true, 0)],
+    ),
+    (
+        "\u{6f22}a\nbcd",
+        3,
+        0,
+        &[(Step::Down(1), true, 7), (Step::Up(1), true, 4)],
+    ),
+    (
+        "e\u{301}b\nxy\u{301}z",
+        3,
+        0,
+        &[(Step::Down(1), true, 6), (Step::Up(1), true, 3)],
+    ),
+];
+
+#[test]
+fn lines_are_gone_over(rt: HostRuntime) -> Result<(), Fail> {
+    for (text, pos, prompt, steps) in ROWS {
+        goes(&rt, rt.alloc(), text, *pos, *prompt, steps)?;
     }
     Ok(())
-}
-
-#[test]
-fn ends_of_lines_and_texts(rt: HostRuntime) -> Result<(), Fail> {
-    const ROWS: &[Row] = &[
-        (
-            "αa\nsdf ßc\nasdf",
-            7,
-            0,
-            &[
-                (Step::Home, true, 4),
-                (Step::Home, false, 4),
-                (Step::End, true, 11),
-                (Step::End, false, 11),
-                (Step::BufferStart, true, 0),
-                (Step::BufferEnd, true, 16),
-            ],
-        ),
-        (
-            "",
-            0,
-            7,
-            &[
-                (Step::Home, false, 0),
-                (Step::End, false, 0),
-                (Step::Up(1), false, 0),
-                (Step::Down(1), false, 0),
-            ],
-        ),
-    ];
-    go_all(&rt, rt.alloc(), ROWS)
-}
-
-#[test]
-fn lines_above_and_below(rt: HostRuntime) -> Result<(), Fail> {
-    const ROWS: &[Row] = &[
-        ("a\n\nbcd\nefgh", 11, 0, &[(Step::Up(2), true, 2)]),
-        (
-            "aa123\nsdf bc\nasdf",
-            14,
-            0,
-            &[
-                (Step::Up(1), true, 7),
-                (Step::Up(1), true, 1),
-                (Step::Up(1), false, 1),
-            ],
-        ),
-        (
-            "aa123\nsdf bc\nasdf",
-            14,
-            2,
-            &[
-                (Step::Up(1), true, 7),
-                (Step::Up(1), true, 0),
-                (Step::Down(1), true, 8),
-            ],
-        ),
-        (
-            "aa123\nsdf bc\nasdf",
-            1,
-            0,
-            &[(Step::Down(2), true, 14), (Step::Up(2), true, 1)],
-        ),
-        ("a\nb", 2, 0, &[(Step::Up(0), true, 0)]),
-        ("a\nb", 3, 0, &[(Step::Down(1), false, 3)]),
-        (
-            "a\nb\nc\nd",
-            3,
-            0,
-            &[(Step::Down(65535), true, 7), (Step::Up(65535), true, 1)],
-        ),
-        (
-            "a\n",
-            1,
-            0,
-            &[(Step::Down(0), true, 2), (Step::Up(9), true, 0)],
-        ),
-    ];
-    go_all(&rt, rt.alloc(), ROWS)
-}
-
-// A step by a movement also says before where it goes.
-#[test]
-fn movements_lead_to_places(rt: HostRuntime) -> Result<(), Fail> {
-    const ROWS: &[Row] = &[
-        (
-            "  ab\n cd",
-            3,
-            0,
-            &[
-                (Step::By(Movement::FirstNonBlank), true, 2),
-                (Step::By(Movement::FirstNonBlank), false, 2),
-                (Step::By(Movement::BeginningOfLine), true, 0),
-                (Step::By(Movement::FirstNonBlank), true, 2),
-                (Step::By(Movement::LineDown(1)), true, 7),
-                (Step::By(Movement::FirstNonBlank), true, 6),
-                (Step::By(Movement::WholeLine), false, 6),
-                (Step::By(Movement::BackwardChar(2)), true, 4),
-                (Step::By(Movement::EndOfLine), false, 4),
-                (Step::By(Movement::EndOfBuffer), true, 8),
-            ],
-        ),
-        (
-            "ab\ncd",
-            1,
-            7,
-            &[(Step::By(Movement::LineDown(1)), true, 5)],
-        ),
-    ];
-    go_all(&rt, rt.alloc(), ROWS)
-}
-
-#[test]
-fn columns_are_widths(rt: HostRuntime) -> Result<(), Fail> {
-    const ROWS: &[Row] = &[
-        (
-            "ab\ncd",
-            1,
-            65535,
-            &[(Step::Down(1), true, 5), (Step::Up(1), true, 0)],
-        ),
-        (
-            "\u{6f22}a\nbcd",
-            3,
-            0,
-            &[(Step::Down(1), true, 7), (Step::Up(1), true, 4)],
-        ),
-        (
-            "e\u{301}b\nxy\u{301}z",
-            3,
-            0,
-            &[(Step::Down(1), true, 6), (Step::Up(1), true, 3)],
-        ),
-    ];
-    go_all(&rt, rt.alloc(), ROWS)
 }
 
 // The cursor's line has that number, the lines stand there, and there are no more.

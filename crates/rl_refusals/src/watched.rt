@@ -46,6 +46,24 @@ pub(crate) fn stands(
     expect_yes(rt, tally, replays, "replays_to")
 }
 
+// The yes or no that a command answered.
+fn answer_of(reply: &Reply) -> Option<bool> {
+    match reply {
+        Reply::Answer(answer) => Some(*answer),
+        _ => None,
+    }
+}
+
+// Whether there is memory for a line that says that it is asked for again, which is printed then.
+fn asks_again(rt: &impl Print, alloc: Global) -> bool {
+    let Ok(again) = String::from_str(alloc, "there is memory: asked again") else {
+        let _ = println!(rt; "there is no memory to undo with");
+        return false;
+    };
+    let _ = println!(rt; "{again}");
+    true
+}
+
 /// A session, with the text that it began with.
 #[derive(Drop)]
 pub(crate) struct Watched {
@@ -72,10 +90,10 @@ impl Watched {
                 tally: Tally::default(),
             })),
             Err(fault) => {
-                all.holds(fault == Fault::NoMemory, "why there is no session")?;
                 all.refuse();
                 let _ = println!(rt; "no session");
-                Ok(None)
+                let why = fault == Fault::NoMemory;
+                all.holds(why, "why there is no session").and(Ok(None))
             }
         }
     }
@@ -118,28 +136,28 @@ impl Watched {
         self.tally.holds(is_so, what)
     }
 
-    fn count_refused_command(&mut self) {
+    /// Counts a command that was refused, or that there was no memory to make.
+    pub(crate) fn count_refused_command(&mut self) {
         self.commands_refused = self.commands_refused.saturating_add(1);
         self.tally.refuse();
     }
 
     // A command is refused since memory is out, or after such a refusal for a place that is no longer valid.
     fn hear(&mut self, reply: &Reply) -> Result<(), Failed> {
-        match reply {
-            Reply::Refused(Fault::NoMemory) => {}
-            Reply::Refused(Fault::BadPlace) | Reply::Refused(Fault::BadYankSize) => {
-                self.tally.holds(
-                    self.commands_refused > 0,
-                    "a place, where no command was refused",
-                )?;
-            }
-            Reply::Refused(Fault::NotReplaying) => {
-                self.tally.holds(false, "a record that does not replay")?;
-            }
-            _ => return Ok(()),
-        }
+        let Reply::Refused(fault) = reply else {
+            return Ok(());
+        };
+        let after = self.commands_refused > 0;
         self.count_refused_command();
-        Ok(())
+        match fault {
+            Fault::BadPlace | Fault::BadYankSize => self
+                .tally
+                .holds(after, "a place, where no command was refused"),
+            Fault::NotReplaying | Fault::TooLong => {
+                self.tally.holds(false, "a fault that no refusal explains")
+            }
+            Fault::NoMemory => Ok(()),
+        }
     }
 
     // Asks what holds after every command.
@@ -156,62 +174,64 @@ impl Watched {
         let _ = println!(rt; "{recorded} recorded, {text:?} at {cursor}");
     }
 
-    /// Does the command.
-    pub(crate) fn apply(&mut self, rt: &impl Print, command: &Command) -> Result<Reply, Failed> {
+    /// Does the command. Answers what it answered, if that was a yes or a no.
+    pub(crate) fn apply(
+        &mut self,
+        rt: &impl Print,
+        command: &Command,
+    ) -> Result<Option<bool>, Failed> {
         let reply = self.session.apply(command);
         let _ = print!(rt; "{command:?}: {reply:?}, ");
         self.print_left(rt);
-        self.hear(&reply)?;
-        self.check(rt)?;
-        Ok(reply)
+        let heard = self.hear(&reply);
+        heard.and(self.check(rt)).and(Ok(answer_of(&reply)))
     }
 
-    /// Does the commands in one run. Answers whether it was done, and not refused before the first.
-    pub(crate) fn run(&mut self, rt: &impl Print, commands: &[Command]) -> Result<bool, Failed> {
-        let replies = match self.session.run(commands) {
-            Ok(replies) => replies,
-            Err(fault) => {
-                let _ = println!(rt; "the run was refused: {fault}");
-                self.tally
-                    .holds(fault == Fault::NoMemory, "why the run was refused")?;
-                self.count_refused_command();
-                self.check(rt)?;
-                return Ok(false);
-            }
-        };
-        self.tally.holds(
-            replies.len() == commands.len(),
-            "one reply for each command",
-        )?;
-        for (command, reply) in commands.iter().zip(&replies) {
+    // The run was refused.
+    fn hear_fault(&mut self, rt: &impl Print, fault: Fault) -> Result<bool, Failed> {
+        let _ = println!(rt; "the run was refused: {fault}");
+        self.count_refused_command();
+        let why = fault == Fault::NoMemory;
+        self.tally.holds(why, "why the run was refused")?;
+        self.check(rt).and(Ok(false))
+    }
+
+    // Each command has a reply.
+    fn hear_all(
+        &mut self,
+        rt: &impl Print,
+        commands: &[Command],
+        replies: &[Reply],
+    ) -> Result<bool, Failed> {
+        let all = replies.len() == commands.len();
+        self.tally.holds(all, "one reply for each command")?;
+        for (command, reply) in commands.iter().zip(replies) {
             let _ = println!(rt; "{command:?}: {reply:?}");
             self.hear(reply)?;
         }
         self.print_left(rt);
-        self.check(rt)?;
-        Ok(true)
+        self.check(rt).and(Ok(true))
+    }
+
+    /// Does the commands in one run. Answers whether it was done, and not refused before the first.
+    pub(crate) fn run(&mut self, rt: &impl Print, commands: &[Command]) -> Result<bool, Failed> {
+        match self.session.run(commands) {
+            Ok(replies) => self.hear_all(rt, commands, replies.as_slice()),
+            Err(fault) => self.hear_fault(rt, fault),
+        }
     }
 
     /// Undoes everything, which gives the text at the start. A refused undo is asked for again where there is memory
     /// for the line that says so.
     pub(crate) fn undo_all(&mut self, rt: &impl Print, alloc: Global) -> Result<(), Failed> {
         for _ in 0..TRIES {
-            match self.apply(rt, &Command::Undo(65535))? {
-                Reply::Answer(true) => {}
-                Reply::Answer(false) => {
-                    let text = self.session.line().as_str();
-                    let is_first = text == self.start;
-                    return self.tally.holds(is_first, "the text when all is undone");
-                }
-                _ => match String::from_str(alloc, "there is memory: asked again") {
-                    Ok(again) => {
-                        let _ = println!(rt; "{again}");
-                    }
-                    Err(_) => {
-                        let _ = println!(rt; "there is no memory to undo with");
-                        return Ok(());
-                    }
-                },
+            let undone = self.apply(rt, &Command::Undo(65535))?;
+            if undone == Some(false) {
+                let is_first = self.session.line().as_str() == self.start;
+                return self.tally.holds(is_first, "the text when all is undone");
+            }
+            if undone.is_none() && !asks_again(rt, alloc) {
+                return Ok(());
             }
         }
         self.tally.holds(false, "an undo that ends")

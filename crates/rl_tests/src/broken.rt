@@ -150,7 +150,8 @@ fn a_read_fails_at_each_place(rt: HostRuntime) {
     }
 }
 
-// A writer that is full after the wanted bytes stops the script, if there is more, and holds these bytes.
+// A writer that is full after the wanted bytes stops the script, if there is more, and holds these bytes. It is read and
+// answered in blocks, and then a byte at a time.
 fn stops_writing(
     rt: &impl Abort,
     alloc: Global,
@@ -160,7 +161,11 @@ fn stops_writing(
     more: bool,
 ) {
     for singly in [false, true] {
-        let mut reader = script;
+        let mut reader = FailRead {
+            rest: script,
+            left: usize::MAX,
+            singly,
+        };
         let mut writer = FailWrite {
             held: Vec::new(alloc),
             left: wanted.len(),
@@ -194,35 +199,5 @@ fn a_write_fails_at_each_place(rt: HostRuntime) {
             stops_writing(&rt, rt.alloc(), script, Full::Fails, wanted, more);
             stops_writing(&rt, rt.alloc(), script, Full::TakesNothing, wanted, more);
         }
-    }
-}
-
-#[test]
-fn a_script_breaks_in_its_second_line(rt: HostRuntime) {
-    const SCRIPT: &[u8] = b"text a\nins 1 b\n";
-    let alloc = rt.alloc();
-    stops_reading(&rt, alloc, SCRIPT, 9, b"ok 1 a\n");
-    stops_reading(&rt, alloc, SCRIPT, 14, b"ok 1 a\n");
-    stops_writing(&rt, alloc, SCRIPT, Full::Fails, b"ok 1 a\ntr", true);
-}
-
-#[test]
-fn a_script_is_read_and_answered_a_byte_at_a_time(rt: HostRuntime) {
-    for (script, output) in ROWS {
-        let mut reader = FailRead {
-            rest: script,
-            left: usize::MAX,
-            singly: true,
-        };
-        let mut writer = FailWrite {
-            held: Vec::new(rt.alloc()),
-            left: usize::MAX,
-            singly: true,
-            full: Full::Fails,
-        };
-        let ran = run_script(rt.alloc(), &mut reader, &mut writer);
-        is_so(&rt, ran.is_ok(), "no end breaks", script.len());
-        let held = writer.held.as_slice() == *output;
-        is_so(&rt, held, "all is answered", script.len());
     }
 }

@@ -43,6 +43,15 @@ fn lines_are_indented(rt: HostRuntime) -> Result<(), Fail> {
         // the line after the last newline is none of them, but if the cursor stands there
         ("a\\n", 0, "indent 1 lines 1", "true 1  a\\n"),
         ("a\\n", 2, "indent 1 lines 1", "true 3 a\\n "),
+        ("  a\\n\\tb", 1, "dedent 4 buf", "true 0 a\\nb"),
+        ("\u{3000}x", 4, "dedent 3 buf", "true 1 x"),
+        (" \u{3000}x", 4, "dedent 2 buf", "true 3 \u{3000}x"),
+        ("   a", 2, "dedent 2 buf", "true 0  a"),
+        ("   a", 3, "dedent 2 buf", "true 1  a"),
+        ("a\\n  b", 1, "dedent 1 buf", "true 1 a\\n b"),
+        ("a\\n  b", 2, "dedent 9 buf", "true 2 a\\nb"),
+        ("  ", 1, "dedent 9 buf", "true 0 "),
+        (" a", 2, "dedent 0 buf", "true 2  a"),
     ];
     print_each(&rt, rt.alloc(), ROWS)
 }

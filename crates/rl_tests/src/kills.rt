@@ -5,6 +5,7 @@ use std::test::Fail;
 #[test]
 fn copies(rt: HostRuntime) -> Result<(), Fail> {
     const THREE: &str = "ab\\ncd ef\\ngh";
+    const COVERED: &str = "  ab\\ncd";
     const ROWS: &[Lines] = &[
         (THREE, 5, "copy line", "text:cd\\sef 5 ab\\ncd ef\\ngh"),
         (THREE, 5, "copy home", "text:cd 5 ab\\ncd ef\\ngh"),
@@ -85,6 +86,21 @@ fn copies(rt: HostRuntime) -> Result<(), Fail> {
         ("text", 4, "copy eol", "none 4 text"),
         ("text", 4, "copy up 1", "none 4 text"),
         ("text", 4, "copy line", "text:text 4 text"),
+        (COVERED, 1, "copy eol", "text:\\sab 1   ab\\ncd"),
+        (COVERED, 1, "copy line", "text:\\s\\sab 1   ab\\ncd"),
+        (COVERED, 1, "copy home", "text:\\s 1   ab\\ncd"),
+        (COVERED, 1, "copy down 1", "text:\\s\\sab\\ncd 1   ab\\ncd"),
+        (COVERED, 1, "copy lines 1", "text:\\s\\sab\\n 1   ab\\ncd"),
+        (COVERED, 6, "copy lines 1", "text:cd 6   ab\\ncd"),
+        (
+            COVERED,
+            6,
+            "copy linesup 2",
+            "text:\\s\\sab\\ncd 6   ab\\ncd",
+        ),
+        (COVERED, 1, "copy bchar 0", "none 1   ab\\ncd"),
+        // a kill would take the newline
+        ("ab\\n", 2, "copy eol", "none 2 ab\\n"),
     ];
     print_each(&rt, rt.alloc(), ROWS)
 }

@@ -8,21 +8,17 @@ mod broken;
 #[cfg(test)]
 mod cursors;
 #[cfg(test)]
-mod forgetting;
-#[cfg(test)]
 mod grammar;
 #[cfg(test)]
 mod indents;
+#[cfg(test)]
+mod joins;
 #[cfg(test)]
 mod kills;
 #[cfg(test)]
 mod letter_case;
 #[cfg(test)]
 mod motions;
-#[cfg(test)]
-mod pair;
-#[cfg(test)]
-mod performing;
 #[cfg(test)]
 mod quotas;
 #[cfg(test)]
@@ -33,7 +29,5 @@ mod script;
 mod session;
 #[cfg(test)]
 mod transpositions;
-#[cfg(test)]
-mod typing;
 #[cfg(test)]
 mod watch;

@@ -38,6 +38,7 @@ fn goes_on(
 #[test]
 fn motions_repeated(rt: HostRuntime) -> Result<(), Fail> {
     const BETA: &str = "alpha ,beta/rho; mu";
+    const AWKWARD: &str = "e\u{301}\\r\\n\u{1f468}\u{200d}\u{1f469} a\\n";
     const ROWS: &[(&str, usize, &str, &[usize])] = &[
         ("ö\u{332}g\u{308}", 0, "move fchar 1", &[4, 7]),
         ("ö\u{332}g\u{308}", 7, "move bchar 1", &[4, 0]),
@@ -66,6 +67,25 @@ fn motions_repeated(rt: HostRuntime) -> Result<(), Fail> {
             &[4, 6, 10, 11, 14, 15, 18],
         ),
         (BETA, 0, "move fword 1 before big", &[4, 15, 18]),
+        (BETA, 19, "move bword 1 emacs", &[17, 12, 7, 0]),
+        (BETA, 0, "move fword 1 start emacs", &[7, 12, 17, 19]),
+        (BETA, 0, "move fword 1 before emacs", &[5, 11, 15, 19]),
+        (BETA, 0, "move fword 1 after emacs", &[5, 11, 15, 19]),
+        (
+            BETA,
+            0,
+            "move fword 1 after vi",
+            &[5, 7, 11, 12, 15, 16, 19],
+        ),
+        (BETA, 0, "move fword 1 after big", &[5, 16, 19]),
+        (AWKWARD, 0, "move fchar 1", &[3, 5, 16, 17, 18, 19]),
+        (AWKWARD, 19, "move bchar 1", &[18, 17, 16, 5, 3, 0]),
+        (AWKWARD, 0, "move fword 1 start big", &[5, 17, 18]),
+        (AWKWARD, 0, "move fword 1 start vi", &[5, 17, 18]),
+        (AWKWARD, 0, "move fword 1 start emacs", &[17, 19]),
+        (AWKWARD, 0, "move fword 1 after emacs", &[18, 19]),
+        (AWKWARD, 19, "move bword 1 big", &[17, 5, 0]),
+        (AWKWARD, 19, "move bword 1 emacs", &[17, 0]),
         ("ae\u{301}b", 0, "move fword 1 start vi", &[1, 4]),
         ("a/b", 0, "move fword 0 start vi", &[]),
         ("abb", 0, "move find 0 t b", &[]),
@@ -78,7 +98,7 @@ fn motions_repeated(rt: HostRuntime) -> Result<(), Fail> {
 }
 
 #[test]
-fn motions_once(rt: HostRuntime) -> Result<(), Fail> {
+fn motions_and_deletions_once(rt: HostRuntime) -> Result<(), Fail> {
     const ROWS: &[Lines] = &[
         ("a/b", 3, "move bword 2 vi", "true 1 a/b"),
         ("a ß  c", 6, "move bword 1 emacs", "true 2 a ß  c"),
@@ -100,15 +120,27 @@ fn motions_once(rt: HostRuntime) -> Result<(), Fail> {
         ("αßγδε", 2, "move find 1 t ε", "true 6 αßγδε"),
         ("αßγδε", 8, "move find 1 T ß", "true 4 αßγδε"),
         ("αßγδε", 8, "move find 1 F ß", "true 2 αßγδε"),
+        (
+            "ö\u{332}g\u{308}",
+            7,
+            "move bchar 2",
+            "true 0 ö\u{332}g\u{308}",
+        ),
+        ("a\\r\\nb", 3, "move fchar 1", "true 4 a\\r\\nb"),
+        ("a\\r\\nb", 3, "move bchar 1", "true 1 a\\r\\nb"),
+        ("a ß  c", 1, "move fword 1 after emacs", "true 4 a ß  c"),
+        ("a_b c", 0, "move fword 1 after vi", "true 3 a_b c"),
+        ("a/b", 3, "move bword 0 vi", "true 0 a/b"),
+        ("a ß  c", 6, "move bword 1 big", "true 2 a ß  c"),
+        ("αßγδε", 8, "move find 1 T α", "true 2 αßγδε"),
+        ("αßγδε", 8, "move find 1 F x", "false 8 αßγδε"),
+        ("text", 4, "move find 2 F t", "true 0 text"),
+        ("text", 0, "move find 1 f t", "true 3 text"),
+        ("text", 4, "move find 1 f t", "false 4 text"),
+        ("ag\u{308}", 1, "move bchar 1", "true 0 ag\u{308}"),
         ("ag\u{308}", 4, "move bchar 1", "true 1 ag\u{308}"),
         ("ag\u{308}", 1, "move fchar 1", "true 4 ag\u{308}"),
-    ];
-    print_each(&rt, rt.alloc(), ROWS)
-}
-
-#[test]
-fn deletions_answer_their_text(rt: HostRuntime) -> Result<(), Fail> {
-    const ROWS: &[Lines] = &[
+        // deletions answer their text
         ("αß", 2, "del 1", "text:ß 2 α"),
         ("αß", 0, "del 65535", "text:αß 0 "),
         ("ae\u{301}b", 1, "del 1", "text:e\u{301} 1 ab"),

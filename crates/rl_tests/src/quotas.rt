@@ -4,7 +4,7 @@ use crate::script::{is_so, printed_by};
 use crate::session::{replies, session_of};
 use rl_base::testing::RefuseAt;
 use rl_base::{DeleteListener, Direction, Refusal, RepeatCount};
-use rl_session::{Command, Reply, Session};
+use rl_session::{Command, Fault, Reply, Session};
 use std::alloc::Global;
 use std::process::Abort;
 use std::test::Fail;
@@ -261,6 +261,36 @@ fn great_and_rare_input_is_met(rt: HostRuntime) -> Result<(), Fail> {
             ],
         ),
         (
+            "fourteen blocks of 4,096 bytes and a part of one, a line of more than three, and no last newline",
+            &[
+                ("ins 1 a\nback 1\n", 1500),
+                ("text ", 1),
+                ("b", 13_000),
+                ("\ndiscbuf\n", 1),
+                ("ins 1 a\nback 1\n", 1500),
+                ("ins 2 x", 1),
+            ],
+            &[
+                ("true 1 a\ntrue 0 \n", 1500),
+                ("ok 13000 ", 1),
+                ("b", 13_000),
+                ("\ntrue 0 \n", 1),
+                ("true 1 a\ntrue 0 \n", 1500),
+                ("true 2 xx\n", 1),
+            ],
+        ),
+        (
+            "a width is cut at 65,535",
+            &[("text ", 1), ("a", 70_000), ("\nwhere\n", 1)],
+            &[
+                ("ok 70000 ", 1),
+                ("a", 70_000),
+                ("\nat:0:65535 70000 ", 1),
+                ("a", 70_000),
+                ("\n", 1),
+            ],
+        ),
+        (
             "kills to the left, which join in front",
             &[
                 ("text a b c d e f\n", 1),
@@ -355,31 +385,59 @@ fn keeps_undone(
     Ok(())
 }
 
+// Puts a text of 2,000 bytes in, puts it in its own place, and deletes it.
+fn change_much(session: &mut Session, long: &str) -> Result<(), Fault> {
+    session.insert_str(0, long)?;
+    session.replace(0, long.len(), long)?;
+    session.delete_range(0, long.len())
+}
+
+// The session keeps 100 undone entries, and then three of that text.
+fn keeps_much(
+    rt: &impl Abort,
+    alloc: Global,
+    session: &mut Session,
+    commands: &[Command],
+    long: &str,
+) -> Result<(), Fail> {
+    replies_to_each(rt, session, commands)?;
+    keeps_undone(rt, alloc, session, 100)?;
+    change_much(session, long)?;
+    keeps_undone(rt, alloc, session, 3)
+}
+
 #[test]
 fn much_that_was_undone_is_kept(rt: HostRuntime) -> Result<(), Fail> {
     let commands = insertions(rt.alloc(), 100)?;
-    let mut session = session_of(rt.alloc(), "", 0, 10_000)?;
-    replies_to_each(&rt, &mut session, commands.as_slice())?;
-    keeps_undone(&rt, rt.alloc(), &mut session, 100)?;
     let long = "ab".repeat(rt.alloc(), 1000)?;
-    session.insert_str(0, long.as_str())?;
-    session.replace(0, 2000, long.as_str())?;
-    session.delete_range(0, 2000)?;
-    keeps_undone(&rt, rt.alloc(), &mut session, 3)
+    let mut session = session_of(rt.alloc(), "", 0, 10_000)?;
+    keeps_much(
+        &rt,
+        rt.alloc(),
+        &mut session,
+        commands.as_slice(),
+        long.as_str(),
+    )
+}
+
+// Types a letter 70 times, and pastes words of each length.
+fn type_and_paste(rt: &impl Abort, session: &mut Session, letters: &str) {
+    let typed = Ok(Some(true));
+    for _ in 0..70 {
+        is_so(rt, session.insert('a', 1) == typed, "a letter");
+    }
+    is_so(rt, session.record().len() == 1, "one entry");
+    for len in 1..70 {
+        let word = letters.get(..len).unwrap_or(letters);
+        is_so(rt, session.paste(word, 1) == typed, "a word");
+    }
 }
 
 #[test]
 fn words_of_each_length_are_typed_and_pasted(rt: HostRuntime) -> Result<(), Fail> {
+    let letters = "a".repeat(rt.alloc(), 70)?;
     let mut session = session_of(rt.alloc(), "", 0, 10_000)?;
-    let typed = Reply::Inserted(Some(true));
-    for _ in 0..70 {
-        replies(&rt, &mut session, &Command::Insert('a', 1), &typed);
-    }
-    is_so(&rt, session.record().len() == 1, "one entry");
-    for len in 1..70 {
-        let word = "a".repeat(rt.alloc(), len)?;
-        replies(&rt, &mut session, &Command::Paste(word, 1), &typed);
-    }
+    type_and_paste(&rt, &mut session, letters.as_str());
     Ok(())
 }
 

@@ -2,7 +2,7 @@
 use crate::script::is_so;
 use rl_base::saving::put_numbers;
 use rl_base::{GraphemeClusterMode, LoadFault, Movement, SaveFault, Width};
-use rl_session::{Command, Fault, Session, Settings};
+use rl_session::{Fault, Session, Settings};
 use std::alloc::Global;
 use std::process::Abort;
 use std::test::Fail;
@@ -21,27 +21,6 @@ fn edits(session: &mut Session) -> Result<(), Fault> {
     session.insert('z', 3)?;
     session.undo(1)?;
     Ok(())
-}
-
-// Both sessions do a command, with the same reply, and come to the same text and cursor.
-fn do_alike(rt: &impl Abort, one: &mut Session, other: &mut Session, command: &Command) {
-    let (reply, again) = (one.perform(command), other.perform(command));
-    is_so(rt, reply == again, "the replies");
-    let (line, same) = (one.line(), other.line());
-    is_so(rt, line.as_str() == same.as_str(), "the texts");
-    is_so(rt, line.pos() == same.pos(), "the cursors");
-}
-
-// So they go on through record and ring.
-fn go_on_alike(rt: &impl Abort, one: &mut Session, other: &mut Session) {
-    do_alike(rt, one, other, &Command::Redo);
-    do_alike(rt, one, other, &Command::Yank(1));
-    do_alike(rt, one, other, &Command::Abandon);
-    do_alike(rt, one, other, &Command::Undo(2));
-    // what was undone is kept
-    do_alike(rt, one, other, &Command::Begin);
-    do_alike(rt, one, other, &Command::Undo(2));
-    do_alike(rt, one, other, &Command::Undo(9));
 }
 
 // These bytes are refused, for that reason.
@@ -67,20 +46,19 @@ fn refuses_others(rt: &impl Abort, alloc: Global, bytes: &mut Vec<u8>) {
     }
 }
 
-// It is loaded as what it was.
-fn loaded(rt: &impl Abort, alloc: Global, session: &Session) -> Result<(Session, Vec<u8>), Fail> {
+// It is loaded as what it was, of these bytes.
+fn loaded(rt: &impl Abort, alloc: Global, session: &Session) -> Result<Vec<u8>, Fail> {
     let bytes = session.save()?;
     let loaded = Session::load(alloc, bytes.as_slice())?;
     is_so(rt, loaded.settings() == session.settings(), "the settings");
     let again = loaded.save()?;
     is_so(rt, again.as_slice() == bytes.as_slice(), "the same bytes");
-    Ok((loaded, bytes))
+    Ok(bytes)
 }
 
 fn comes_back(rt: &impl Abort, alloc: Global, session: &mut Session) -> Result<(), Fail> {
     edits(session)?;
-    let (mut loaded, mut bytes) = loaded(rt, alloc, session)?;
-    go_on_alike(rt, session, &mut loaded);
+    let mut bytes = loaded(rt, alloc, session)?;
     refuses_others(rt, alloc, &mut bytes);
     Ok(())
 }
@@ -106,17 +84,23 @@ fn edits_much(session: &mut Session) -> Result<(), Fault> {
     Ok(())
 }
 
+// It is loaded before and after these.
+fn comes_back_great(rt: &impl Abort, alloc: Global, session: &mut Session) -> Result<(), Fail> {
+    loaded(rt, alloc, session)?;
+    edits_much(session)?;
+    is_so(rt, session.record().len() == 1500, "the entries");
+    loaded(rt, alloc, session)?;
+    Ok(())
+}
+
 #[test]
 fn great_sessions_come_back(rt: HostRuntime) -> Result<(), Fail> {
     let mut settings = Settings::new(1 << 40, 100, GraphemeClusterMode::Unicode);
     settings.options.bound.ring_bytes = 1 << 40;
-    for size in [0, 20_000] {
-        let text = "a".repeat(rt.alloc(), size)?;
-        let mut session = Session::open(rt.alloc(), text.as_str(), size, &settings)?;
-        loaded(&rt, rt.alloc(), &session)?;
-        edits_much(&mut session)?;
-        is_so(&rt, session.record().len() == 1500, "the entries");
-        loaded(&rt, rt.alloc(), &session)?;
+    let text = "a".repeat(rt.alloc(), 20_000)?;
+    for text in ["", text.as_str()] {
+        let mut session = Session::open(rt.alloc(), text, text.len(), &settings)?;
+        comes_back_great(&rt, rt.alloc(), &mut session)?;
     }
     Ok(())
 }

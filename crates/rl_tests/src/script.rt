@@ -153,13 +153,6 @@ fn scripts_print(rt: HostRuntime) -> Result<(), Fail> {
             b"text a b\npos 0\ndel 2\ndel 0\nmove fchar 1\nmove bchar 1\nmove bchar 1\nundo 1\n",
             b"ok 3 a b\nok 0 a b\ntext:a\\s 0 b\nnone 0 b\ntrue 1 b\ntrue 0 b\nfalse 0 b\ntrue 0 a b\n",
         ),
-    ];
-    print_all(&rt, rt.alloc(), ROWS)
-}
-
-#[test]
-fn kills_come_back(rt: HostRuntime) -> Result<(), Fail> {
-    const ROWS: &[Row] = &[
         (
             "kills to both sides are one text, and one yank gives it back",
             b"text one two three\npos 4\nkill fword 1 after emacs\nkill home\nkill eol\nyank 1\n",
@@ -255,13 +248,6 @@ fn kills_come_back(rt: HostRuntime) -> Result<(), Fail> {
             b"text ab\nkill bob\ntext cd\nyank 1\npos 0\nkill eob\nyank 1\n",
             b"ok 2 ab\ntrue 0 \nok 2 cd\nnone 2 cd\nok 0 cd\ntrue 0 \ntrue 2 cd\n",
         ),
-    ];
-    print_all(&rt, rt.alloc(), ROWS)
-}
-
-#[test]
-fn settings_are_for_the_next_text(rt: HostRuntime) -> Result<(), Fail> {
-    const ROWS: &[Row] = &[
         (
             "a setting prints the present text",
             b"limit 5\n",
@@ -307,13 +293,6 @@ fn settings_are_for_the_next_text(rt: HostRuntime) -> Result<(), Fail> {
             b"mode wcwidth\ntext \\u{1f44b}\\u{1f3ff}\\nabcdef\npos 8\nmode nozwj\nmove down 1\n",
             b"ok 0 \nok 15 \xf0\x9f\x91\x8b\xf0\x9f\x8f\xbf\\nabcdef\nok 8 \xf0\x9f\x91\x8b\xf0\x9f\x8f\xbf\\nabcdef\nok 8 \xf0\x9f\x91\x8b\xf0\x9f\x8f\xbf\\nabcdef\ntrue 13 \xf0\x9f\x91\x8b\xf0\x9f\x8f\xbf\\nabcdef\n",
         ),
-    ];
-    print_all(&rt, rt.alloc(), ROWS)
-}
-
-#[test]
-fn movements_move(rt: HostRuntime) -> Result<(), Fail> {
-    const ROWS: &[Row] = &[
         (
             "to the start and the end of the line, and of the text",
             b"text ba\\nsdf bc\\nasdf\npos 6\nmove home\nmove home\nmove eol\nmove eol\nmove bob\nmove bob\nmove eob\nmove eob\n",
@@ -344,13 +323,6 @@ fn movements_move(rt: HostRuntime) -> Result<(), Fail> {
             b"text a\\tb\nmove line\nmove buf\nmove first\n",
             b"ok 3 a\\tb\nfalse 3 a\\tb\nfalse 3 a\\tb\nfalse 3 a\\tb\n",
         ),
-    ];
-    print_all(&rt, rt.alloc(), ROWS)
-}
-
-#[test]
-fn groups_are_undone_and_done_again(rt: HostRuntime) -> Result<(), Fail> {
-    const ROWS: &[Row] = &[
         (
             "a group is undone whole, and done again",
             b"text\nins 1 a\nbegin\nins 1 b\nins 1 c\nend\nundo 1\nredo\n",
@@ -391,13 +363,6 @@ fn groups_are_undone_and_done_again(rt: HostRuntime) -> Result<(), Fail> {
             b"text\nins 1 a\nundo 1\npaste 1\nback 0\nmove bob\ncopy buf\nkill first\nredo\n",
             b"ok 0 \ntrue 1 a\ntrue 0 \nnone 0 \nfalse 0 \nfalse 0 \nnone 0 \nfalse 0 \ntrue 1 a\n",
         ),
-    ];
-    print_all(&rt, rt.alloc(), ROWS)
-}
-
-#[test]
-fn texts_and_places_are_commanded(rt: HostRuntime) -> Result<(), Fail> {
-    const ROWS: &[Row] = &[
         (
             "what is copied is handed out as one word, and a range has its ends in order within the text",
             b"text a\\tb\ncopy line\nrange 2 1\nrange 0 4\nmove line\nrep 0 1\ncopy eob\ncase UP\n\ntext a b\ncopy buf\n",
@@ -438,6 +403,11 @@ fn texts_and_places_are_commanded(rt: HostRuntime) -> Result<(), Fail> {
             b"limit 2\ntext abc\nback 2\nins 2 d\nstr 0 zz\nundo 65535\nins 1 e\n",
             b"ok 0 \nok 3 abc\ntrue 1 a\ntrue 3 add\nfalse 3 zzadd\ntrue 3 abc\ntrue 4 abce\n",
         ),
+        (
+            "what is applied may go past the limit, but for what inserts at the cursor",
+            b"limit 4\ntext \xc5\x89 b\nkeep w\npos 0\nins 1 x\npaste 1 x\nyank 1\nupdate 0 vwxyz\ntext \xc5\x89 b\nstr 4 x\ntext \xc5\x89 b\nrep 0 2 xyz\ntext \xc5\x89 b\npos 0\ncase up\ntext \xc5\x89 b\nindent 1 buf\n",
+            b"ok 0 \nok 4 \xc5\x89 b\nok 4 \xc5\x89 b\nok 0 \xc5\x89 b\nnone 0 \xc5\x89 b\nnone 0 \xc5\x89 b\nnone 0 \xc5\x89 b\nok 0 vwxy\nok 4 \xc5\x89 b\ntrue 4 \xc5\x89 bx\nok 4 \xc5\x89 b\nok 3 xyz b\nok 4 \xc5\x89 b\nok 0 \xc5\x89 b\ntrue 3 \xca\xbcN b\nok 4 \xc5\x89 b\ntrue 5  \xc5\x89 b\n",
+        ),
     ];
     print_all(&rt, rt.alloc(), ROWS)
 }
@@ -450,41 +420,6 @@ fn every_word_does_something(rt: HostRuntime) -> Result<(), Fail> {
         b"ok 5 ab cd\ntrue 6 ab cde\ntrue 5 ab cd\nok 5 ab cd\nok 5 ab cd\nmark:0 5 ab cd\nmark:1 5 ab cd\nok 0 ab cd\nfalse 3 x yab cd\ntrue 3 x yab cd\ntrue 3 x yab cd\ntrue 0 ab cd\ntrue 3 x yab cd\ntrue 3 x yab cd\ntrue 2 x ab cd\ntrue 2 x  cd\ntrue 5 x  CD\ntrue 3 x  \ntrue 0 x  \ntrue 0 \nok 7 one two\ntrue 7 two one\ntrue 7 two oen\ntrue 4 two \ntrue 7 two oen\ntrue 7 two x  \ntext:x\\s\\s 7 two x  \nfalse 7 ab\\ntwo x  \ntrue 11   ab\\n  two x  \ntrue 10   ab\\n two x  \nok 4 cd\\ne\\n two x  \nat:1:1 4 cd\\ne\\n two x  \ntrue 3 cd\\ne\\n two x  \nok 5 cd\\ne\\ntwo x  \ntext:t 5 cd\\ne\\nwo x  \nok 3 cd\\ne\\nwo x  \ntrue 3 cd\\n\\nwo x  \ntrue 3 cd\\n\ntrue 2 cd\ntrue 0 \nok 0 \ntrue 3 x y\ntrue 0 \ntrue 3 x y\ntrue 3 x y\ntrue 0 ab cd\n",
     )];
     print_all(&rt, rt.alloc(), ROWS)
-}
-
-// The driver reads blocks of 4096 bytes: here are fourteen of them and a part of one. Their borders lie inside lines,
-// except one between two lines. One line is longer than three blocks, and the last has no newline.
-#[test]
-fn a_script_is_longer_than_a_block(rt: HostRuntime) -> Result<(), Fail> {
-    let alloc = rt.alloc();
-    let pairs = "ins 1 a\nback 1\n".repeat(alloc, 1500)?;
-    let letters = "b".repeat(alloc, 13_000)?;
-    let script = format!(in alloc; "{pairs}text {letters}\ndiscbuf\n{pairs}ins 2 x")?;
-    let printed = printed_by(alloc, script.as_bytes())?;
-    let answers = "true 1 a\ntrue 0 \n".repeat(alloc, 1500)?;
-    let wanted = format!(in alloc; "{answers}ok 13000 {letters}\ntrue 0 \n{answers}true 2 xx\n")?;
-    is_so(
-        &rt,
-        printed.as_slice() == wanted.as_bytes(),
-        "a long script prints all that it should",
-    );
-    Ok(())
-}
-
-// A width is cut at 65535.
-#[test]
-fn a_column_is_cut(rt: HostRuntime) -> Result<(), Fail> {
-    let alloc = rt.alloc();
-    let letters = "a".repeat(alloc, 70_000)?;
-    let script = format!(in alloc; "text {letters}\nwhere\n")?;
-    let wanted = format!(in alloc; "ok 70000 {letters}\nat:0:65535 70000 {letters}\n")?;
-    let printed = printed_by(alloc, script.as_bytes())?;
-    is_so(
-        &rt,
-        printed.as_slice() == wanted.as_bytes(),
-        "the column of a long line",
-    );
-    Ok(())
 }
 
 // A comparison of texts proves faster as an argument than within an assert.
