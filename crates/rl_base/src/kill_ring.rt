@@ -49,7 +49,7 @@ enum Action {
 /// Killed texts, at most as many as its size (GNU readline: kill ring). Consecutive kills make one text.
 /// One of the texts is the current one, which `yank` lends.
 ///
-/// As a listener it keeps what is deleted while a kill is on. It can refuse only such a deletion, and only where the
+/// As a listener it keeps what is deleted while a kill is on. It can refuse only such a deletion, and only if the
 /// ring would grow: never at size 0, and never an empty text that needs no new slot.
 #[derive(Drop)]
 pub struct KillRing {

@@ -16,7 +16,7 @@ pub use crate::testing::{RefuseAt, TextEvent};
 use crate::watch::WatchFault;
 
 /// `==` compares all that a value holds: two are equal exactly if they are the same variant with the same fields, and two
-/// positions if they have the same column and row. Two texts in a `TextEvent` are the same where their bytes are.
+/// positions if they have the same column and row. Two texts in a `TextEvent` are the same if their bytes are.
 pub fn equal_values_are_the_same()
     ensures words { IsSameness ⟦<Word as PartialEq>⟧.eq }
     ensures stops { IsSameness ⟦<At as PartialEq>⟧.eq }

@@ -142,7 +142,7 @@ impl Notes {
         self.taken_at = 0;
     }
 
-    /// Puts a report at the end: at a place what went gave way to what came. There is memory for one more. Refused only where memory
+    /// Puts a report at the end: at a place what went gave way to what came. There is memory for one more. Refused only if memory
     /// is out for its texts, and all that wait do so then too.
     #[tactic(auto, using(crate::proofs::Queue::QueueLemmas::counted))]
     pub(crate) fn push(

@@ -273,7 +273,7 @@ impl Reports {
         }
     }
 
-    // Notes a report where no texts are kept. Inlined, so that a letter that is reported costs no call.
+    // Notes a report if no texts are kept. Inlined, so that a letter that is reported costs no call.
     #[inline(always)]
     fn note_numbers(&mut self, report: Report)
         requires { self.old.text_room ≡ 0 }

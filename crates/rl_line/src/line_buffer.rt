@@ -51,7 +51,7 @@ const _: () = prove!(MAX_LINE == 4096);
 /// A text, a cursor in it, and a limit on the text's length, all in bytes.
 ///
 /// The cursor always stands between two characters, at most at the end, and the text is never longer than
-/// the limit. Only `insert`, `yank`, `yank_pop` and `update` ask whether a text gets too long: where the line
+/// the limit. Only `insert`, `yank`, `yank_pop` and `update` ask whether a text gets too long: if the line
 /// may not grow, they do not make it longer than the limit. Whatever else makes it longer raises the limit.
 #[derive(Drop)]
 pub struct LineBuffer {

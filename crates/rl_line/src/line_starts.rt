@@ -114,7 +114,7 @@ impl LineStarts {
         self.places[..border].partition_point(|start| *start <= pos)
     }
 
-    /// Whether the table stays as it is where a range is replaced by a part with `come` newlines: none comes, none
+    /// Whether the table stays as it is if a range is replaced by a part with `come` newlines: none comes, none
     /// goes, and the border is there.
     #[inline(always)]
     pub(crate) fn stays(&self, text: &str, from: usize, to: usize, come: usize) -> bool
@@ -233,7 +233,7 @@ fn exchange_encoded(starts: &mut LineStarts, text: &str, at: usize, c: char) -> 
     exchange_starts(starts, text, at, at, part, newlines_of(c))
 }
 
-/// The same where the border is elsewhere, or newlines come or go. The starts after the range keep their distances from the end.
+/// The same if the border is elsewhere, or newlines come or go. The starts after the range keep their distances from the end.
 #[inline(never)]
 #[tactic(auto, using(crate::proofs::Lines::LineStartLemmas::tables))]
 pub(crate) fn exchange_starts(

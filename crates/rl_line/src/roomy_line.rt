@@ -183,7 +183,7 @@ impl RoomyLine {
     }
 
     /// Replaces a range by a part, and puts the cursor at a place: an insertion if the range is empty, a deletion if the
-    /// part is. The limit rises where it has to. Inlined, since an undo and a redo go by it.
+    /// part is. The limit rises if it has to. Inlined, since an undo and a redo go by it.
     #[inline(always)]
     #[tactic(auto, using(crate::proofs::Lines::RoomyLemmas::rooms))]
     pub(crate) fn swap_in(&mut self, from: usize, to: usize, part: &str, cursor: usize)

@@ -74,7 +74,7 @@ fn swap_within(text: &mut String, from: usize, to: usize, part: &str)
     *text = unsafe { String::from_utf8_unchecked(bytes) };
 }
 
-/// Puts a character in at a place, with no call where that is the end and it is ASCII.
+/// Puts a character in at a place, with no call if that is the end and it is ASCII.
 #[inline(always)]
 pub(crate) fn put_char_in(text: &mut String, at: usize, c: char)
     requires place { IsCharBoundary (string_bytes text.old) at }

@@ -1,4 +1,4 @@
-//! The record of the changes of a line, which undoes them, in groups where they were made in groups, and redoes them.
+//! The record of the changes of a line, which undoes them, in groups if they were made in groups, and redoes them.
 ghost use Rattle.std.specs.Prelude.{◌≡◌, ◌<◌, ◌&&◌, map, length, All, IfErr, OnOk};
 ghost use Rattle.rl_base.specs.Event.{InsertChar, InsertStr, Delete, Replace};
 ghost use Rattle.rl_base.specs.declared.listeners.Direction.TheVariants.{Forward};
@@ -29,7 +29,7 @@ use std::marker::Model;
 /// Every call that records a change, also an empty one, and every `begin`, `end`, `reopen` and `truncate` drops what was
 /// undone; the start and the stop of a kill and the telling of cursors do not.
 ///
-/// With a change it keeps the cursor before it and after it, if it is told them right after the change. Where changes
+/// With a change it keeps the cursor before it and after it, if it is told them right after the change. If changes
 /// join, it keeps the first cursor before and the last one after.
 #[derive(Drop)]
 pub struct Changeset {
@@ -121,7 +121,7 @@ impl Changeset {
         self.entries.is_saved()
     }
 
-    /// Records that `c` was inserted at the byte place `idx`: an alphanumeric character joins the last entry, where
+    /// Records that `c` was inserted at the byte place `idx`: an alphanumeric character joins the last entry, if
     /// that is an insertion that ends there. Refused, it changes nothing, like every call that records.
     #[inline(always)]
     pub fn insert(&mut self, idx: usize, c: char) -> Result<(), Refusal>
@@ -152,7 +152,7 @@ impl Changeset {
         Ok(())
     }
 
-    /// Records that `old`, which stood at the byte place `idx`, was replaced by `new`: it joins the last entry, where
+    /// Records that `old`, which stood at the byte place `idx`, was replaced by `new`: it joins the last entry, if
     /// that is a replacement that ends there.
     pub fn replace(&mut self, idx: usize, old: &str, new: &str) -> Result<(), Refusal>
         ensures done { OnOk result (self.new ≡ record_step self.old (Replace idx old.now new.now)) }

@@ -1,5 +1,5 @@
-//! Changes that join: each call takes an event in where it joins the change, and answers what may be told of it then, or None
-//! where it does not. What was joined has no cursors yet.
+//! Changes that join: each call takes an event in if it joins the change, and answers what may be told of it then, or None
+//! if it does not. What was joined has no cursors yet.
 ghost use Rattle.std.specs.Prelude.{◌≡◌, IfOk, IfErr, true, ◌↔◌, None};
 ghost use Rattle.rl_base.specs.Event.{InsertChar, Delete, Replace};
 ghost use Rattle.rl_base.specs.declared.listeners.Direction.TheVariants.{Forward};

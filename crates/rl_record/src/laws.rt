@@ -14,7 +14,7 @@ ghost use Rattle.rl_record.specs.Undo.{Redone, Redos, Undone};
 ghost use Rattle.rl_line.specs.Going.{StandAfter, StandBefore, line_ahead, line_back, steps_ahead, steps_back};
 ghost use Rattle.rl_record.specs.Units.{BothMatched, GroupAt, InGroup, IsMatched, abandoned, adds_end, after_in_group, begun, ended, ended_one, group_of, in_group, kept_of, last_of, last_units, level, open_group, opens, redo_of, redone, reopened, truncated, undone, unit_start, united, with_closed, closed_all, kept_undone, next_of, there_and_back, units, waits};
 
-/// Where entries lead from one text to another, unwinding them leads back from that to the first, and conversely.
+/// If entries lead from one text to another, unwinding them leads back from that to the first, and conversely.
 pub fn unwinding_is_replaying()
     ensures unwound { (es : List Entry) (before after : List ℕ) → IsUtf8 before
         → replay_entries es before ≡ Some after → unwind es after ≡ Some before }
@@ -52,7 +52,7 @@ pub fn undo_and_redo_are_steps()
         → line_ahead es line ≡ Some now → after (steps_ahead line.cursor es) line ≡ Some now }
 {}
 
-/// Where an End stands in matched entries, its group stands before it, and holds a change.
+/// If an End stands in matched entries, its group stands before it, and holds a change.
 pub fn ends_close_groups()
     ensures { (xs ys : List Entry) → IsMatched (xs ++ End ∷ ys) → GroupAt xs }
 {}
@@ -69,7 +69,7 @@ pub fn empty_group_leaves_the_record()
 {}
 
 /// Whatever groups are open, if a group is begun in them, and these events are recorded, `end_one` closes that group
-/// alone. It answers whether a change was recorded in it. Where one was, all from its begin on is one unit, so that an
+/// alone. It answers whether a change was recorded in it. If one was, all from its begin on is one unit, so that an
 /// undo of one keeps what was recorded before; otherwise the group leaves no trace.
 pub fn group_is_closed_alone()
     ensures answer { (r : Record) (events : List Event) → IsMatched r.recorded
@@ -85,7 +85,7 @@ pub fn group_is_closed_alone()
         → level (ended_one (in_group events r)).recorded ≡ level r.recorded }
 {}
 
-/// Where the end of a group added an End, `reopen` right after it gives back what was recorded before that end.
+/// If the end of a group added an End, `reopen` right after it gives back what was recorded before that end.
 pub fn reopen_takes_back_an_end()
     ensures { (r : Record) → adds_end (min 1 (level r.recorded)) r.recorded ≡ true
         → reopened (ended_one r) ≡ arrived r.recorded [] (point_kept r) }

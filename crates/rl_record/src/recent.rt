@@ -292,7 +292,7 @@ impl Recent {
         self.all.truncate(len);
     }
 
-    /// Forgets the oldest units that are beyond the bounds, up to the begin of an open group, where so many groups are open.
+    /// Forgets the oldest units that are beyond the bounds, up to the begin of an open group, if so many groups are open.
     /// Mostly nothing is, and then it is short.
     #[inline(always)]
     pub(crate) fn forget(&mut self, groups: usize, most: usize, bytes: usize)

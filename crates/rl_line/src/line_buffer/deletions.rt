@@ -172,7 +172,7 @@ impl LineBuffer {
     }
 
     /// Kills a range of byte places as a kill by a movement does: the listener hears the start of a kill, the deletion
-    /// with the given direction, and the end. Moves the cursor to the range's start, and answers true; where the range
+    /// with the given direction, and the end. Moves the cursor to the range's start, and answers true; if the range
     /// is empty it stays, and the answer is false. It needs no memory; if its listener refuses, the line stays as it
     /// was.
     pub fn kill_range<L: DeleteListener>(
@@ -218,7 +218,7 @@ impl LineBuffer {
         self.delete_by(&Movement::EndOfBuffer, listener)
     }
 
-    /// Deletes from the start of the cursor's line to the cursor, or the cluster before it where the cursor
+    /// Deletes from the start of the cursor's line to the cursor, or the cluster before it if the cursor
     /// is there (GNU readline: unix-line-discard). Answers whether the cursor was past the start of the
     /// text. It needs no memory; if its listener refuses, the line stays as it was.
     pub fn discard_line<L: DeleteListener>(&mut self, listener: &mut L) -> Result<bool, Refusal>

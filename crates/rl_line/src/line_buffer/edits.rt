@@ -170,7 +170,7 @@ impl LineBuffer {
     }
 
     /// Takes out the `yank_size` bytes before the cursor, which were yanked last, and inserts another text
-    /// there (GNU readline: yank-pop). Answers whether the cursor was at the end then, or None where there is
+    /// there (GNU readline: yank-pop). Answers whether the cursor was at the end then, or None if there is
     /// nothing to insert or the text would get too long. Refused, it leaves the line as it was, or with the
     /// bytes taken out.
     pub fn yank_pop<L: ChangeListener>(

@@ -132,7 +132,7 @@ fn shift_lines<L: ChangeListener>(
     shifted
 }
 
-// Finds room for all that goes in where so many lines are shifted, and answers how much that is: nothing for a dedent.
+// Finds room for all that goes in when so many lines are shifted, and answers how much that is: nothing for a dedent.
 fn find_room_to_shift(
     line: &mut RoomyLine,
     count: usize,

@@ -18,7 +18,7 @@ impl LineBuffer {
         self.pos() >= self.as_str().trim_end().len()
     }
 
-    /// The byte place past the next `n` grapheme clusters (UAX #29), or past all of them where there are
+    /// The byte place past the next `n` grapheme clusters (UAX #29), or past all of them if there are
     /// fewer. None at the end and for `n` = 0.
     pub fn next_pos(&self, n: RepeatCount) -> Option<usize>
         ensures place { result ≡ next_pos self.now.text self.now.cursor n }

@@ -12,7 +12,7 @@ use unicode_segmentation::UnicodeSegmentation;
 
 impl LineBuffer {
     /// Exchanges the grapheme clusters before and after the cursor, or the last two at the end of the text
-    /// (GNU readline: transpose-chars), and moves the cursor past both. Answers whether there are two. Where
+    /// (GNU readline: transpose-chars), and moves the cursor past both. Answers whether there are two. If
     /// it finds no memory, it leaves the line as it was. If its listener refuses, it leaves the line as it
     /// was or without the second cluster.
     #[tactic(auto, using(crate::proofs::Plans::TranspositionLemmas::no_transposition))]
@@ -83,7 +83,7 @@ impl LineBuffer {
     }
 
     /// Exchanges the Emacs word before the `n`-th word's end ahead with the word `n` words before it (GNU
-    /// readline: transpose-words), and moves the cursor past both. Answers false where these are not two
+    /// readline: transpose-words), and moves the cursor past both. Answers false if these are not two
     /// words, and then leaves the cursor at the first word's end. If it finds no memory, it leaves the line
     /// as it was; if its listener refuses, after the steps that it took.
     pub fn transpose_words<L: ChangeListener>(

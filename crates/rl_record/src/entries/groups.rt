@@ -14,7 +14,7 @@ use rl_line::change::Change;
 use std::alloc::Global;
 
 impl Entries {
-    /// Makes a group of the recorded entries from `from` on, where nothing waits to be redone.
+    /// Makes a group of the recorded entries from `from` on, if nothing waits to be redone.
     pub(crate) fn group_from(&mut self, from: usize) -> Result<(), Refusal>
         requires within { from ≤ length self.old.recorded }
         requires all { self.old.pending ≡ [] }
@@ -39,7 +39,7 @@ impl Entries {
         Ok(())
     }
 
-    /// Takes the last `count` recorded entries off, where these are Begins. What waits to be redone stays.
+    /// Takes the last `count` recorded entries off, if these are Begins. What waits to be redone stays.
     pub(crate) fn drop_begins(&mut self, count: usize)
         requires { adds_end count self.old.recorded ≡ false }
         ensures { self.new ≡ still_waiting (end_times count self.old.recorded) self.old }
