@@ -210,6 +210,14 @@ const ROWS: &[Halting] = &[
         &[((0, " ", None), " a\nb", 1), ((3, " ", None), " a\n b", 1)],
     ),
     ("a", 0, Edit::Indent(Movement::WholeLine, 0), &[]),
+    // dedents that take out nothing
+    (
+        "\u{3000}x",
+        0,
+        Edit::Dedent(Movement::WholeLine, 2),
+        &[((0, "", AHEAD), "\u{3000}x", 0)],
+    ),
+    ("", 0, Edit::Dedent(ALL, 9), &[((0, "", AHEAD), "", 0)]),
     (
         "  a\n\tb",
         5,

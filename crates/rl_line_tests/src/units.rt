@@ -3,7 +3,7 @@ use crate::steps::Event::{Replacement, Text};
 use crate::steps::{Call, Case, go_all};
 use std::test::Fail;
 
-const CASES: &[Case] = &[
+const GROUPS: &[Case] = &[
     (
         "a group comes and goes as one",
         &[
@@ -106,6 +106,103 @@ const CASES: &[Case] = &[
             (Call::Undo(1), 1, "", 0, 0, 0),
         ],
     ),
+    (
+        "a record tells whether an undo finds a change",
+        &[
+            (Call::HasUndo, 0, "", 0, 0, 0),
+            (Call::HasRedo, 0, "", 0, 0, 0),
+            (Call::Yank("a"), 1, "a", 1, 1, 0),
+            (Call::HasUndo, 1, "a", 1, 1, 0),
+            (Call::HasRedo, 0, "a", 1, 1, 0),
+            // an undo would take the open begin alone
+            (Call::Begin, 1, "a", 1, 2, 1),
+            (Call::HasUndo, 0, "a", 1, 2, 1),
+            (Call::Yank("b"), 1, "ab", 2, 3, 1),
+            (Call::HasUndo, 1, "ab", 2, 3, 1),
+            (Call::End, 1, "ab", 2, 4, 0),
+            (Call::HasUndo, 1, "ab", 2, 4, 0),
+            (Call::Undo(2), 1, "", 0, 0, 0),
+            (Call::HasUndo, 0, "", 0, 0, 0),
+            (Call::HasRedo, 1, "", 0, 0, 0),
+            // a closed group waits, and then a begin alone
+            (Call::Redo, 1, "a", 1, 1, 0),
+            (Call::HasRedo, 1, "a", 1, 1, 0),
+            (Call::Begin, 1, "a", 1, 2, 1),
+            (Call::Undo(1), 0, "a", 1, 1, 0),
+            (Call::HasRedo, 0, "a", 1, 1, 0),
+            // a begin waits, and a change after it
+            (Call::Redo, 0, "a", 1, 2, 1),
+            (Call::Yank("b"), 1, "ab", 2, 3, 1),
+            (Call::Undo(2), 1, "a", 1, 1, 0),
+            (Call::HasRedo, 1, "a", 1, 1, 0),
+        ],
+    ),
+    (
+        "two nested groups are open again if their ends are cut off, and are cut off themselves then",
+        &[
+            (Call::Begin, 0, "", 0, 1, 1),
+            (Call::Yank("a"), 1, "a", 1, 2, 1),
+            (Call::Begin, 2, "a", 1, 3, 2),
+            (Call::Yank("b"), 1, "ab", 2, 4, 2),
+            (Call::End, 1, "ab", 2, 6, 0),
+            (Call::Truncate(4), 1, "ab", 2, 4, 2),
+            (Call::End, 1, "ab", 2, 6, 0),
+            (Call::Begin, 6, "ab", 2, 7, 1),
+            (Call::Truncate(9), 1, "ab", 2, 7, 1),
+            (Call::Truncate(5), 1, "ab", 2, 5, 1),
+            (Call::Truncate(3), 1, "ab", 2, 3, 2),
+            (Call::Truncate(1), 1, "ab", 2, 1, 1),
+            (Call::End, 0, "ab", 2, 0, 0),
+        ],
+    ),
+    (
+        "begins that are undone after an open one, and redone",
+        &[
+            (Call::Begin, 0, "", 0, 1, 1),
+            (Call::Yank("a"), 1, "a", 1, 2, 1),
+            (Call::Begin, 2, "a", 1, 3, 2),
+            (Call::Begin, 3, "a", 1, 4, 3),
+            (Call::Yank("b"), 1, "ab", 2, 5, 3),
+            (Call::Undo(2), 1, "a", 1, 3, 2),
+            (Call::Undo(1), 0, "a", 1, 2, 1),
+            (Call::Redo, 1, "ab", 2, 5, 3),
+            (Call::End, 1, "ab", 2, 8, 0),
+            (Call::Undo(1), 1, "", 0, 0, 0),
+            (Call::Redo, 1, "ab", 2, 8, 0),
+        ],
+    ),
+    (
+        "a truncated record forgets the open group",
+        &[
+            (Call::Unheard("a"), 1, "a", 1, 0, 0),
+            (Call::Begin, 0, "a", 1, 1, 1),
+            (Call::Insert('b', 1), 1, "ab", 2, 2, 1),
+            (Call::Replays(0), 0, "ab", 2, 2, 1),
+            (Call::Back(1), 1, "a", 1, 3, 1),
+            (Call::Replays(0), 1, "a", 1, 3, 1),
+            (Call::Truncate(0), 1, "a", 1, 0, 0),
+            (Call::End, 0, "a", 1, 0, 0),
+            (Call::Undo(1), 0, "a", 1, 0, 0),
+        ],
+    ),
+    (
+        "a group without a change has no end",
+        &[
+            (Call::Begin, 0, "", 0, 1, 1),
+            (Call::End, 0, "", 0, 0, 0),
+            (Call::Begin, 0, "", 0, 1, 1),
+            (Call::Told(Text(0, "Hi")), 1, "", 0, 2, 1),
+            (Call::End, 1, "", 0, 3, 0),
+        ],
+    ),
+];
+
+#[test]
+fn groups_come_and_go(rt: HostRuntime) -> Result<(), Fail> {
+    go_all(&rt, rt.alloc(), GROUPS)
+}
+
+const UNITS: &[Case] = &[
     (
         "several changes become one unit",
         &[
@@ -260,98 +357,9 @@ const CASES: &[Case] = &[
             (Call::KeepUndone, 0, "a", 1, 1, 0),
         ],
     ),
-    (
-        "a record tells whether an undo finds a change",
-        &[
-            (Call::HasUndo, 0, "", 0, 0, 0),
-            (Call::HasRedo, 0, "", 0, 0, 0),
-            (Call::Yank("a"), 1, "a", 1, 1, 0),
-            (Call::HasUndo, 1, "a", 1, 1, 0),
-            (Call::HasRedo, 0, "a", 1, 1, 0),
-            // an undo would take the open begin alone
-            (Call::Begin, 1, "a", 1, 2, 1),
-            (Call::HasUndo, 0, "a", 1, 2, 1),
-            (Call::Yank("b"), 1, "ab", 2, 3, 1),
-            (Call::HasUndo, 1, "ab", 2, 3, 1),
-            (Call::End, 1, "ab", 2, 4, 0),
-            (Call::HasUndo, 1, "ab", 2, 4, 0),
-            (Call::Undo(2), 1, "", 0, 0, 0),
-            (Call::HasUndo, 0, "", 0, 0, 0),
-            (Call::HasRedo, 1, "", 0, 0, 0),
-            // a closed group waits, and then a begin alone
-            (Call::Redo, 1, "a", 1, 1, 0),
-            (Call::HasRedo, 1, "a", 1, 1, 0),
-            (Call::Begin, 1, "a", 1, 2, 1),
-            (Call::Undo(1), 0, "a", 1, 1, 0),
-            (Call::HasRedo, 0, "a", 1, 1, 0),
-            // a begin waits, and a change after it
-            (Call::Redo, 0, "a", 1, 2, 1),
-            (Call::Yank("b"), 1, "ab", 2, 3, 1),
-            (Call::Undo(2), 1, "a", 1, 1, 0),
-            (Call::HasRedo, 1, "a", 1, 1, 0),
-        ],
-    ),
-    (
-        "two nested groups are open again if their ends are cut off, and are cut off themselves then",
-        &[
-            (Call::Begin, 0, "", 0, 1, 1),
-            (Call::Yank("a"), 1, "a", 1, 2, 1),
-            (Call::Begin, 2, "a", 1, 3, 2),
-            (Call::Yank("b"), 1, "ab", 2, 4, 2),
-            (Call::End, 1, "ab", 2, 6, 0),
-            (Call::Truncate(4), 1, "ab", 2, 4, 2),
-            (Call::End, 1, "ab", 2, 6, 0),
-            (Call::Begin, 6, "ab", 2, 7, 1),
-            (Call::Truncate(9), 1, "ab", 2, 7, 1),
-            (Call::Truncate(5), 1, "ab", 2, 5, 1),
-            (Call::Truncate(3), 1, "ab", 2, 3, 2),
-            (Call::Truncate(1), 1, "ab", 2, 1, 1),
-            (Call::End, 0, "ab", 2, 0, 0),
-        ],
-    ),
-    (
-        "begins that are undone after an open one, and redone",
-        &[
-            (Call::Begin, 0, "", 0, 1, 1),
-            (Call::Yank("a"), 1, "a", 1, 2, 1),
-            (Call::Begin, 2, "a", 1, 3, 2),
-            (Call::Begin, 3, "a", 1, 4, 3),
-            (Call::Yank("b"), 1, "ab", 2, 5, 3),
-            (Call::Undo(2), 1, "a", 1, 3, 2),
-            (Call::Undo(1), 0, "a", 1, 2, 1),
-            (Call::Redo, 1, "ab", 2, 5, 3),
-            (Call::End, 1, "ab", 2, 8, 0),
-            (Call::Undo(1), 1, "", 0, 0, 0),
-            (Call::Redo, 1, "ab", 2, 8, 0),
-        ],
-    ),
-    (
-        "a truncated record forgets the open group",
-        &[
-            (Call::Unheard("a"), 1, "a", 1, 0, 0),
-            (Call::Begin, 0, "a", 1, 1, 1),
-            (Call::Insert('b', 1), 1, "ab", 2, 2, 1),
-            (Call::Replays(0), 0, "ab", 2, 2, 1),
-            (Call::Back(1), 1, "a", 1, 3, 1),
-            (Call::Replays(0), 1, "a", 1, 3, 1),
-            (Call::Truncate(0), 1, "a", 1, 0, 0),
-            (Call::End, 0, "a", 1, 0, 0),
-            (Call::Undo(1), 0, "a", 1, 0, 0),
-        ],
-    ),
-    (
-        "a group without a change has no end",
-        &[
-            (Call::Begin, 0, "", 0, 1, 1),
-            (Call::End, 0, "", 0, 0, 0),
-            (Call::Begin, 0, "", 0, 1, 1),
-            (Call::Told(Text(0, "Hi")), 1, "", 0, 2, 1),
-            (Call::End, 1, "", 0, 3, 0),
-        ],
-    ),
 ];
 
 #[test]
-fn groups_and_units_come_and_go(rt: HostRuntime) -> Result<(), Fail> {
-    go_all(&rt, rt.alloc(), CASES)
+fn units_come_and_go(rt: HostRuntime) -> Result<(), Fail> {
+    go_all(&rt, rt.alloc(), UNITS)
 }

@@ -153,6 +153,13 @@ fn scripts_print(rt: HostRuntime) -> Result<(), Fail> {
             b"text a b\npos 0\ndel 2\ndel 0\nmove fchar 1\nmove bchar 1\nmove bchar 1\nundo 1\n",
             b"ok 3 a b\nok 0 a b\ntext:a\\s 0 b\nnone 0 b\ntrue 1 b\ntrue 0 b\nfalse 0 b\ntrue 0 a b\n",
         ),
+    ];
+    print_all(&rt, rt.alloc(), ROWS)
+}
+
+#[test]
+fn kills_come_back(rt: HostRuntime) -> Result<(), Fail> {
+    const ROWS: &[Row] = &[
         (
             "kills to both sides are one text, and one yank gives it back",
             b"text one two three\npos 4\nkill fword 1 after emacs\nkill home\nkill eol\nyank 1\n",
@@ -248,6 +255,13 @@ fn scripts_print(rt: HostRuntime) -> Result<(), Fail> {
             b"text ab\nkill bob\ntext cd\nyank 1\npos 0\nkill eob\nyank 1\n",
             b"ok 2 ab\ntrue 0 \nok 2 cd\nnone 2 cd\nok 0 cd\ntrue 0 \ntrue 2 cd\n",
         ),
+    ];
+    print_all(&rt, rt.alloc(), ROWS)
+}
+
+#[test]
+fn settings_and_movements_print(rt: HostRuntime) -> Result<(), Fail> {
+    const ROWS: &[Row] = &[
         (
             "a setting prints the present text",
             b"limit 5\n",
@@ -294,6 +308,11 @@ fn scripts_print(rt: HostRuntime) -> Result<(), Fail> {
             b"ok 0 \nok 15 \xf0\x9f\x91\x8b\xf0\x9f\x8f\xbf\\nabcdef\nok 8 \xf0\x9f\x91\x8b\xf0\x9f\x8f\xbf\\nabcdef\nok 8 \xf0\x9f\x91\x8b\xf0\x9f\x8f\xbf\\nabcdef\ntrue 13 \xf0\x9f\x91\x8b\xf0\x9f\x8f\xbf\\nabcdef\n",
         ),
         (
+            "what is applied may go past the limit, but for what inserts at the cursor",
+            b"limit 4\ntext \xc5\x89 b\nkeep w\npos 0\nins 1 x\npaste 1 x\nyank 1\nupdate 0 vwxyz\ntext \xc5\x89 b\nstr 4 x\ntext \xc5\x89 b\nrep 0 2 xyz\ntext \xc5\x89 b\npos 0\ncase up\ntext \xc5\x89 b\nindent 1 buf\n",
+            b"ok 0 \nok 4 \xc5\x89 b\nok 4 \xc5\x89 b\nok 0 \xc5\x89 b\nnone 0 \xc5\x89 b\nnone 0 \xc5\x89 b\nnone 0 \xc5\x89 b\nok 0 vwxy\nok 4 \xc5\x89 b\ntrue 4 \xc5\x89 bx\nok 4 \xc5\x89 b\nok 3 xyz b\nok 4 \xc5\x89 b\nok 0 \xc5\x89 b\ntrue 3 \xca\xbcN b\nok 4 \xc5\x89 b\ntrue 5  \xc5\x89 b\n",
+        ),
+        (
             "to the start and the end of the line, and of the text",
             b"text ba\\nsdf bc\\nasdf\npos 6\nmove home\nmove home\nmove eol\nmove eol\nmove bob\nmove bob\nmove eob\nmove eob\n",
             b"ok 14 ba\\nsdf bc\\nasdf\nok 6 ba\\nsdf bc\\nasdf\ntrue 3 ba\\nsdf bc\\nasdf\nfalse 3 ba\\nsdf bc\\nasdf\ntrue 9 ba\\nsdf bc\\nasdf\nfalse 9 ba\\nsdf bc\\nasdf\ntrue 0 ba\\nsdf bc\\nasdf\nfalse 0 ba\\nsdf bc\\nasdf\ntrue 14 ba\\nsdf bc\\nasdf\nfalse 14 ba\\nsdf bc\\nasdf\n",
@@ -323,6 +342,13 @@ fn scripts_print(rt: HostRuntime) -> Result<(), Fail> {
             b"text a\\tb\nmove line\nmove buf\nmove first\n",
             b"ok 3 a\\tb\nfalse 3 a\\tb\nfalse 3 a\\tb\nfalse 3 a\\tb\n",
         ),
+    ];
+    print_all(&rt, rt.alloc(), ROWS)
+}
+
+#[test]
+fn groups_and_texts_are_commanded(rt: HostRuntime) -> Result<(), Fail> {
+    const ROWS: &[Row] = &[
         (
             "a group is undone whole, and done again",
             b"text\nins 1 a\nbegin\nins 1 b\nins 1 c\nend\nundo 1\nredo\n",
@@ -402,11 +428,6 @@ fn scripts_print(rt: HostRuntime) -> Result<(), Fail> {
             "the limit stays raised",
             b"limit 2\ntext abc\nback 2\nins 2 d\nstr 0 zz\nundo 65535\nins 1 e\n",
             b"ok 0 \nok 3 abc\ntrue 1 a\ntrue 3 add\nfalse 3 zzadd\ntrue 3 abc\ntrue 4 abce\n",
-        ),
-        (
-            "what is applied may go past the limit, but for what inserts at the cursor",
-            b"limit 4\ntext \xc5\x89 b\nkeep w\npos 0\nins 1 x\npaste 1 x\nyank 1\nupdate 0 vwxyz\ntext \xc5\x89 b\nstr 4 x\ntext \xc5\x89 b\nrep 0 2 xyz\ntext \xc5\x89 b\npos 0\ncase up\ntext \xc5\x89 b\nindent 1 buf\n",
-            b"ok 0 \nok 4 \xc5\x89 b\nok 4 \xc5\x89 b\nok 0 \xc5\x89 b\nnone 0 \xc5\x89 b\nnone 0 \xc5\x89 b\nnone 0 \xc5\x89 b\nok 0 vwxy\nok 4 \xc5\x89 b\ntrue 4 \xc5\x89 bx\nok 4 \xc5\x89 b\nok 3 xyz b\nok 4 \xc5\x89 b\nok 0 \xc5\x89 b\ntrue 3 \xca\xbcN b\nok 4 \xc5\x89 b\ntrue 5  \xc5\x89 b\n",
         ),
     ];
     print_all(&rt, rt.alloc(), ROWS)
