@@ -2,19 +2,19 @@
 //! history (`Holds`): the texts that were held by then, among which the record is placed. A new session and one that was
 //! restarted begin one (`record_is_placed`), any other has one (`a_session_has_a_history`), and each run goes on with it.
 //! After `forget` it is that of the texts from the one on with which the record then begins (`what_is_left_replays`).
-ghost use Rattle.std.specs.Prelude.{◌≡◌, ◌≤◌, ◌<◌, ◌+◌, ◌++◌, ◌∷◌, [], ℕ, All, List, IsSome, Some, drop, length, suc, true};
+ghost use Rattle.std.specs.Prelude.{◌≡◌, ◌≤◌, ◌<◌, ◌+◌, ◌++◌, ◌∷◌, [], ℕ, All, Bool, List, IsSome, Some, drop, length, suc, true};
 ghost use Rattle.rl_line.specs.Entry.{Entry, replay_entries, has_change};
-ghost use Rattle.rl_record.specs.Calls.{keeps_undone};
 ghost use Rattle.rl_record.specs.Record.{StaysSaved, is_saved};
 ghost use Rattle.rl_line.specs.Going.{texts_ahead};
 ghost use Rattle.rl_record.specs.Units.{BothMatched, IsMatched, closed_all, last_of, last_units, level, next_of, opens, undone, units, waits};
-ghost use Rattle.rl_session.specs.Commands.{Became, on_record};
+ghost use Rattle.rl_session.specs.Commands.{Does};
 ghost use Rattle.rl_session.specs.History.{AllRedone, AllStandInGroup, ClosesGroup, Holds, IsEdit, WasHeld, WasRefused};
-ghost use Rattle.rl_session.specs.Run.{Row, Run, held_by, held_of};
+ghost use Rattle.rl_session.specs.Run.{Row, Run, held_in, held_of};
 ghost use Rattle.rl_session.specs.State.{Begins, Ends, Stands, State, origin, saved_now};
 ghost use Rattle.rl_session.specs.declared.session.Command.{Command};
 ghost use Rattle.rl_session.specs.declared.session.Command.TheVariants.{Abandon, Begin, KeepUndone, Redo, Undo};
 ghost use Rattle.rl_session.specs.declared.session.Reply.{Reply};
+ghost use Rattle.rl_session.specs.declared.session.Reply.TheVariants.{Answer};
 
 /// A history (`Holds`): the recorded entries, followed by the undone ones, are placed among the texts that were held,
 /// each prefix of them leads to a held text, and no place goes back. The recorded entries alone lead to the present text,
@@ -36,15 +36,15 @@ pub fn a_session_has_a_history()
         × Holds start (start ∷ texts_ahead (s.pair.changes.recorded ++ s.pair.changes.pending) start) s }
 {}
 
-/// If undone changes are kept, the texts there and back, which count as held (`held_by`), were held before. An undo that
+/// If undone changes are kept, the texts there and back, which count as held (`held_in`), were held before. An undo that
 /// takes all units that were recorded since, and n more, leaves the text to which the first n units led that waited then, with
 /// their groups closed: that to which n redos would have led instead of the keeping, if no group was open there. Conditions:
 /// neither the keeping nor the undo was refused, something waited, and what was recorded since stands above what was kept, each
 /// End with its Begin.
 pub fn what_is_kept_was_held()
-    ensures held { (start : List ℕ) (held : List (List ℕ)) (answer : Type 0) (old new : State) → Holds start held old
-        → (kept : Became (on_record answer keeps_undone) old new)
-        → All (λ (text : List ℕ). WasHeld text held) (held_by (on_record answer keeps_undone) old new kept) }
+    ensures held { (start : List ℕ) (held : List (List ℕ)) (old new : State) (answer : Bool) → Holds start held old
+        → (kept : Does old KeepUndone (Answer answer) new)
+        → All (λ (text : List ℕ). WasHeld text held) (held_in old KeepUndone (Answer answer) new kept) }
     ensures undone { (start : List ℕ) (held : List (List ℕ)) (old new : State) (commands : List Command) (replies : List Reply)
         (earlier since later : List Row) (k u : Row) (n : ℕ) (es : List Entry)
         → Holds start held old → (run : Run old commands replies new)
