@@ -1,6 +1,7 @@
 //! Undos and redos of a session, timed.
-use crate::sessions::{applies_often, session_of, state_of};
+use crate::sessions::{applies_often, session_of};
 use crate::stop::Stop;
+use crate::texts::number_of;
 use crate::workloads::Edits;
 use rl_base::{Movement, Word};
 use rl_session::{Command, Session};
@@ -38,39 +39,6 @@ fn redoes_often(session: &mut Session, count: usize) {
     }
 }
 
-// Makes the changes that are gone over.
-fn change(session: &mut Session, edits: Edits, count: usize, size: usize) {
-    match edits {
-        Edits::AtEnd => applies_often(session, &Command::Insert('.', 1), count),
-        Edits::InMiddle => {
-            let _ = session.apply(&Command::SetPos(size / 2));
-            for _ in 0..count {
-                let _ = session.apply(&Command::Insert(' ', 1));
-                let _ = session.apply(&Command::Insert('a', 1));
-            }
-        }
-        Edits::Mixed => changes_here_and_there(session, count),
-    }
-}
-
-// Times undos of the changes, or redos of them.
-fn time_way(
-    rt: &HostRuntime,
-    session: &mut Session,
-    is_redo: bool,
-    count: usize,
-) -> Result<Duration, Stop> {
-    if is_redo {
-        undoes_often(session, count);
-        let start = Instant::now(rt)?;
-        redoes_often(session, count);
-        return Ok(start.elapsed(rt)?);
-    }
-    let start = Instant::now(rt)?;
-    undoes_often(session, count);
-    Ok(start.elapsed(rt)?)
-}
-
 /// Times undos of `count` changes, or redos of them, in a text of `size` bytes, and tells the state at the end.
 pub fn time_history(
     rt: &HostRuntime,
@@ -80,7 +48,27 @@ pub fn time_history(
     size: usize,
 ) -> Result<(Duration, u64), Stop> {
     let mut session = session_of(rt, size, count.saturating_mul(2))?;
-    change(&mut session, edits, count, size);
-    let time = time_way(rt, &mut session, is_redo, count);
-    Ok((time?, state_of(&session)))
+    match edits {
+        Edits::AtEnd => applies_often(&mut session, &Command::Insert('.', 1), count),
+        Edits::InMiddle => {
+            let _ = session.apply(&Command::SetPos(size / 2));
+            for _ in 0..count {
+                let _ = session.apply(&Command::Insert(' ', 1));
+                let _ = session.apply(&Command::Insert('a', 1));
+            }
+        }
+        Edits::Mixed => changes_here_and_there(&mut session, count),
+    }
+    if is_redo {
+        undoes_often(&mut session, count);
+    }
+    let start = Instant::now(rt)?;
+    if is_redo {
+        redoes_often(&mut session, count);
+    } else {
+        undoes_often(&mut session, count);
+    }
+    let time = start.elapsed(rt)?;
+    let line = session.line();
+    Ok((time, number_of(line.as_str(), line.pos())))
 }

@@ -25,20 +25,7 @@ use std::time::Duration;
 use stop::Stop;
 use texts::{LINE, SHORT_LINE, text_of};
 use widths::time_width;
-use workloads::{Edit, WORKLOADS, Workload, workload_of};
-
-// Times an edit in a text of these lines.
-fn time_in(
-    rt: &HostRuntime,
-    edit: Edit,
-    lines: &str,
-    in_middle: bool,
-    count: usize,
-    size: usize,
-) -> Result<(Duration, u64), Stop> {
-    let text = text_of(rt.alloc(), lines, size)?;
-    time_edit(rt, edit, text.as_str(), in_middle, count)
-}
+use workloads::{WORKLOADS, Workload, workload_of};
 
 fn time(
     rt: &HostRuntime,
@@ -48,9 +35,18 @@ fn time(
 ) -> Result<(Duration, u64), Stop> {
     match workload {
         Workload::Motion(motion) => time_motion(rt, motion, count, size),
-        Workload::AtEnd(edit) => time_in(rt, edit, LINE, false, count, size),
-        Workload::InMiddle(edit) => time_in(rt, edit, LINE, true, count, size),
-        Workload::InShortLines(edit) => time_in(rt, edit, SHORT_LINE, true, count, size),
+        Workload::AtEnd(edit) => {
+            let text = text_of(rt.alloc(), LINE, size)?;
+            time_edit(rt, edit, text.as_str(), false, count)
+        }
+        Workload::InMiddle(edit) => {
+            let text = text_of(rt.alloc(), LINE, size)?;
+            time_edit(rt, edit, text.as_str(), true, count)
+        }
+        Workload::InShortLines(edit) => {
+            let text = text_of(rt.alloc(), SHORT_LINE, size)?;
+            time_edit(rt, edit, text.as_str(), true, count)
+        }
         Workload::LettersBySession => time_typed(rt, false, count, size),
         Workload::ProseBySession => time_typed(rt, true, count, size),
         Workload::Watched => time_watched(rt, count, size),

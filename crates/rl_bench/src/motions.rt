@@ -46,20 +46,6 @@ fn moves_often(line: &mut LineBuffer, layout: &Layout, motion: Motion, count: us
     }
 }
 
-// Times the motion.
-fn time_moves(
-    rt: &HostRuntime,
-    line: &mut LineBuffer,
-    motion: Motion,
-    count: usize,
-) -> Result<Duration, Stop> {
-    let layout = Layout::new(GraphemeClusterMode::Unicode);
-    begins(line, motion);
-    let start = Instant::now(rt)?;
-    moves_often(line, &layout, motion, count);
-    Ok(start.elapsed(rt)?)
-}
-
 /// Times the motion in a text of `size` bytes, and tells the state at the end.
 pub fn time_motion(
     rt: &HostRuntime,
@@ -70,6 +56,10 @@ pub fn time_motion(
     let text = text_of(rt.alloc(), LINE, size)?;
     let mut line = LineBuffer::with_capacity(rt.alloc(), size)?;
     let _ = line.yank(text.as_str(), 1, &mut NoListener)?;
-    let time = time_moves(rt, &mut line, motion, count);
-    Ok((time?, number_of(line.as_str(), line.pos())))
+    let layout = Layout::new(GraphemeClusterMode::Unicode);
+    begins(&mut line, motion);
+    let start = Instant::now(rt)?;
+    moves_often(&mut line, &layout, motion, count);
+    let time = start.elapsed(rt)?;
+    Ok((time, number_of(line.as_str(), line.pos())))
 }

@@ -11,22 +11,15 @@ const RING_SIZE: usize = 60;
 /// A session on a text of `size` bytes, with the cursor at its end, and room for `more` bytes.
 pub fn session_of(rt: &HostRuntime, size: usize, more: usize) -> Result<Session, Stop> {
     let text = text_of(rt.alloc(), LINE, size)?;
-    let limit = size.saturating_add(more);
-    let mode = GraphemeClusterMode::Unicode;
+    let text = text.as_str();
     Ok(Session::new(
         rt.alloc(),
-        text.as_str(),
+        text,
         text.len(),
-        limit,
+        size.saturating_add(more),
         RING_SIZE,
-        mode,
+        GraphemeClusterMode::Unicode,
     )?)
-}
-
-/// A number of a session's text and cursor.
-pub fn state_of(session: &Session) -> u64 {
-    let line = session.line();
-    number_of(line.as_str(), line.pos())
 }
 
 /// Applies the command `count` times.
@@ -43,22 +36,6 @@ fn types_prose(session: &mut Session, count: usize) {
     }
 }
 
-// Times what is typed.
-fn time_letters(
-    rt: &HostRuntime,
-    session: &mut Session,
-    is_prose: bool,
-    count: usize,
-) -> Result<Duration, Stop> {
-    let start = Instant::now(rt)?;
-    if is_prose {
-        types_prose(session, count);
-    } else {
-        applies_often(session, &Command::Insert('a', 1), count);
-    }
-    Ok(start.elapsed(rt)?)
-}
-
 /// Times letters, or words, blanks and signs, typed at the end of a text of `size` bytes, and tells the state at the end.
 pub fn time_typed(
     rt: &HostRuntime,
@@ -67,8 +44,15 @@ pub fn time_typed(
     size: usize,
 ) -> Result<(Duration, u64), Stop> {
     let mut session = session_of(rt, size, count)?;
-    let time = time_letters(rt, &mut session, is_prose, count);
-    Ok((time?, state_of(&session)))
+    let start = Instant::now(rt)?;
+    if is_prose {
+        types_prose(&mut session, count);
+    } else {
+        applies_often(&mut session, &Command::Insert('a', 1), count);
+    }
+    let time = start.elapsed(rt)?;
+    let line = session.line();
+    Ok((time, number_of(line.as_str(), line.pos())))
 }
 
 // Applies the command `count` times, and reads the reports after each. Tells how many bytes they say came.
@@ -83,35 +67,16 @@ fn reads_often(session: &mut Session, command: &Command, count: usize) -> usize 
     came
 }
 
-// Times the letters and their reports, and tells how many bytes these say came.
-fn time_reports(
-    rt: &HostRuntime,
-    session: &mut Session,
-    count: usize,
-) -> Result<(Duration, usize), Stop> {
-    let _ = session.keep_reports(1, 0);
-    let start = Instant::now(rt)?;
-    let came = reads_often(session, &Command::Insert('a', 1), count);
-    Ok((start.elapsed(rt)?, came))
-}
-
 /// Times the same letters in a session that keeps reports without texts, each read after its letter.
 pub fn time_watched(rt: &HostRuntime, count: usize, size: usize) -> Result<(Duration, u64), Stop> {
     let mut session = session_of(rt, size, count)?;
-    let (time, came) = time_reports(rt, &mut session, count)?;
-    Ok((time, state_of(&session).wrapping_add(came as u64)))
-}
-
-// Times yanks, each undone before.
-fn time_each_yank(rt: &HostRuntime, session: &mut Session, count: usize) -> Result<Duration, Stop> {
-    let mut time = Duration::ZERO;
-    for _ in 0..count {
-        let _ = session.undo(1);
-        let start = Instant::now(rt)?;
-        let _ = session.yank(1);
-        time = time.saturating_add(start.elapsed(rt)?);
-    }
-    Ok(time)
+    let _ = session.keep_reports(1, 0);
+    let start = Instant::now(rt)?;
+    let came = reads_often(&mut session, &Command::Insert('a', 1), count);
+    let time = start.elapsed(rt)?;
+    let line = session.line();
+    let state = number_of(line.as_str(), line.pos());
+    Ok((time, state.wrapping_add(came as u64)))
 }
 
 /// Times yanks of a text of `size` bytes after that text itself, each undone, and tells the state at the end.
@@ -119,6 +84,13 @@ pub fn time_yanks(rt: &HostRuntime, count: usize, size: usize) -> Result<(Durati
     let mut session = session_of(rt, size, size)?;
     let _ = session.apply(&Command::Kill(Movement::WholeBuffer));
     applies_often(&mut session, &Command::Yank(1), 2);
-    let time = time_each_yank(rt, &mut session, count);
-    Ok((time?, state_of(&session)))
+    let mut time = Duration::ZERO;
+    for _ in 0..count {
+        let _ = session.undo(1);
+        let start = Instant::now(rt)?;
+        let _ = session.yank(1);
+        time = time.saturating_add(start.elapsed(rt)?);
+    }
+    let line = session.line();
+    Ok((time, number_of(line.as_str(), line.pos())))
 }
