@@ -14,9 +14,10 @@ from email import message_from_string
 from pathlib import Path
 from zipfile import ZipFile
 
+# This first, so that it is the one on the path, not that of the sources.
+import lodvarn
 from shared import PACKAGE, TOP, main
 
-import lodvarn
 import setup
 
 NAME, MACHINE = f"lodvarn-{lodvarn.__version__}", platform.machine()
