@@ -6,7 +6,7 @@ ghost use Rattle.std.specs.Prelude.{◌≡◌, ◌≤◌, ◌<◌, ◌+◌, ◌+
 ghost use Rattle.rl_line.specs.Entry.{Entry, replay_entries, has_change};
 ghost use Rattle.rl_record.specs.Record.{StaysSaved, is_saved};
 ghost use Rattle.rl_line.specs.Going.{texts_ahead};
-ghost use Rattle.rl_record.specs.Units.{BothMatched, IsMatched, closed_all, last_of, last_units, level, next_of, opens, undone, units, waits};
+ghost use Rattle.rl_record.specs.Units.{BothMatched, IsMatched, closed_all, last_of, last_units, level, next_of, opens, there_and_back, undone, units, waits};
 ghost use Rattle.rl_session.specs.Commands.{Does};
 ghost use Rattle.rl_session.specs.History.{AllRedone, AllStandInGroup, ClosesGroup, Holds, IsEdit, WasHeld, WasRefused};
 ghost use Rattle.rl_session.specs.Run.{Row, Run, held_in, held_of};
@@ -42,7 +42,9 @@ pub fn a_session_has_a_history()
 /// neither the keeping nor the undo was refused, something waited, and what was recorded since stands above what was kept, each
 /// End with its Begin.
 pub fn what_is_kept_was_held()
-    ensures held { (start : List ℕ) (held : List (List ℕ)) (old new : State) (answer : Bool) → Holds start held old
+    ensures held { (start : List ℕ) (held : List (List ℕ)) (s : State) → Holds start held s
+        → All (λ (text : List ℕ). WasHeld text held) (texts_ahead (there_and_back s.pair.changes.pending) s.line.text) }
+    ensures counted { (start : List ℕ) (held : List (List ℕ)) (old new : State) (answer : Bool) → Holds start held old
         → (kept : Does old KeepUndone (Answer answer) new)
         → All (λ (text : List ℕ). WasHeld text held) (held_in old KeepUndone (Answer answer) new kept) }
     ensures undone { (start : List ℕ) (held : List (List ℕ)) (old new : State) (commands : List Command) (replies : List Reply)
